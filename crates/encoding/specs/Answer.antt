@@ -1,0 +1,46 @@
+-- The answers of the calls on encoded types, and the bytes that `encode` leaves. Assumes nothing: these are definitions.
+use mathlib.Core.Path.{_≡_}
+use mathlib.Core.Bool.{cond}
+use mathlib.Core.List.{List}
+use Prim.Native.Nat.{ℕ}
+use lib.Dec.{leb}
+use Rattle.flat.specs.Tree.{size, kindsOf, argsOf}
+use Rattle.flat.specs.Reading.{Reading, refused, type, unless}
+use Rattle.flat.specs.Output.{over, kindsOver, argsOver}
+use Rattle.flat.specs.declared.error.Error.the-variants.{OutputTooShort}
+use Rattle.encoding.specs.Encoding.{encoding, encodedSize, countIn, sizeFits}
+use Rattle.encoding.specs.declared.Decoded.{Decoded}
+use Rattle.encoding.specs.declared.Encoded.{Encoded}
+
+-- the number of nodes that bytes of the right length hold, 0 of any others
+unfoldable pub nodesIn : ℕ → ℕ → List ℕ → ℕ
+nodesIn w nodes s = cond (sizeFits w nodes s) (countIn s) 0
+
+abbrev pub decodedOf : Reading → Decoded
+decodedOf (refused e) = Decoded.Refused e
+decodedOf (type t) = Decoded.Nodes (size t)
+
+-- What `decode` comes to: its answer, and the two lent arrays, ks and xs before the call and ks′ and xs′ after it.
+pub record Decodes (r : Reading) (ks xs ks′ xs′ : List ℕ) (answer : Decoded) : Type 0 where
+  pub answers : answer ≡ decodedOf r
+  pub kinds : ks′ ≡ kindsOver r ks
+  pub args : xs′ ≡ argsOver r xs
+
+-- 8: the output, of m bytes, is shorter than the result, where there is one
+unfoldable pub fittingBytes : ℕ → ℕ → Reading → Reading
+fittingBytes w m (refused e) = refused e
+fittingBytes w m (type t) = unless (leb (encodedSize w (size t)) m) OutputTooShort (type t)
+
+abbrev pub encodedOf : ℕ → Reading → Encoded
+encodedOf w (refused e) = Encoded.Refused e
+encodedOf w (type t) = Encoded.Bytes (encodedSize w (size t))
+
+-- the lent bytes after the call: the type's bytes over what they held, or all as they were where the call was refused
+unfoldable pub bytesOver : ℕ → Reading → List ℕ → List ℕ
+bytesOver w (refused e) out = out
+bytesOver w (type t) out = over (encoding w (kindsOf t) (argsOf t)) out
+
+-- What `encode` comes to: its answer, and the lent bytes, out before the call and out′ after it.
+pub record Encodes (w : ℕ) (r : Reading) (out out′ : List ℕ) (answer : Encoded) : Type 0 where
+  pub answers : answer ≡ encodedOf w r
+  pub bytes : out′ ≡ bytesOver w r out

@@ -1,0 +1,3 @@
+-- What an encoded type is, and what the contracts of `encoding` cite.
+pub mod Encoding
+pub mod Answer

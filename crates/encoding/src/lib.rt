@@ -1,0 +1,126 @@
+// Encoded types (document 01's stored sheets): checked, decoded to the two arrays of a flat type, and encoded from them.
+pub mod bytes;
+ghost use mathlib.Core.Path.{_≡_};
+ghost use lib.ListN.{length};
+ghost use Rattle.flat.specs.Reading.{reading, checkedOf};
+ghost use Rattle.flat.specs.Output.{fitting};
+ghost use Rattle.encoding.specs.Encoding.{decoding};
+ghost use Rattle.encoding.specs.Answer.{nodesIn, Decodes, fittingBytes, Encodes};
+use flat::error::Error;
+use flat::Checked;
+use flat::Flat;
+
+// The layout of an encoded type.
+pub struct Encoding {}
+
+impl Encoding {
+    pub const ARGUMENT_BYTES: usize = 8;
+}
+
+// What decoding answers: the number of nodes written.
+pub enum Decoded {
+    Nodes(usize),
+    Refused(Error),
+}
+
+// What encoding answers: the number of bytes written.
+pub enum Encoded {
+    Bytes(usize),
+    Refused(Error),
+}
+
+// How many nodes an encoded type has; 0 where its length is not that of any.
+pub fn node_count(encoded: &[u8]) -> usize
+    ensures { λ r. do
+      nodes ← ⟦Flat::MAX_NODES⟧ .entry
+      w ← ⟦Encoding::ARGUMENT_BYTES⟧ .entry
+      ⌜ r ≡ nodesIn w nodes (now (encoded .entry)) ⌝ }
+{
+    if encoded.len() < 2 {
+        return 0;
+    }
+    let n = bytes::count(encoded);
+    if n == 0 {
+        return 0;
+    }
+    if n > Flat::MAX_NODES {
+        return 0;
+    }
+    if encoded.len() != 2 + (Encoding::ARGUMENT_BYTES + 1) * n {
+        return 0;
+    }
+    n
+}
+
+// Whether bytes are an encoded type. One node needs no room for its argument.
+pub fn check(encoded: &[u8]) -> Checked
+    ensures { λ r. do
+      nodes ← ⟦Flat::MAX_NODES⟧ .entry
+      deep ← ⟦Flat::MAX_DEPTH⟧ .entry
+      w ← ⟦Encoding::ARGUMENT_BYTES⟧ .entry
+      ⌜ r ≡ checkedOf (decoding w nodes deep (now (encoded .entry))) ⌝ }
+{
+    let n = node_count(encoded);
+    if n == 0 {
+        return Checked::Refused(Error::Length);
+    }
+    if n == 1 {
+        let one = [bytes::word(encoded, 3)];
+        return flat::check(&encoded[2..3], &one);
+    }
+    let m = 2 + n;
+    let mut args = [0u64; Flat::MAX_NODES];
+    bytes::read_args(&encoded[m..], n, &mut args);
+    flat::check(&encoded[2..m], &args[..n])
+}
+
+// Decodes a type to the front of kinds and args: refusals 1 to 5, then 8.
+pub fn decode(encoded: &[u8], kinds: &mut [u8], args: &mut [u64]) -> Decoded
+    ensures { λ r. do
+      nodes ← ⟦Flat::MAX_NODES⟧ .entry
+      deep ← ⟦Flat::MAX_DEPTH⟧ .entry
+      w ← ⟦Encoding::ARGUMENT_BYTES⟧ .entry
+      ⌜ Decodes (fitting (length (now (kinds .entry))) (length (now (args .entry))) (decoding w nodes deep (now (encoded .entry)))) (now (kinds .entry)) (now (args .entry)) (now (kinds .exit)) (now (args .exit)) r ⌝ }
+{
+    match check(encoded) {
+        Checked::Refused(e) => Decoded::Refused(e),
+        Checked::Valid => {
+            let n = node_count(encoded);
+            if kinds.len() < n {
+                return Decoded::Refused(Error::OutputTooShort);
+            }
+            if args.len() < n {
+                return Decoded::Refused(Error::OutputTooShort);
+            }
+            let m = 2 + n;
+            bytes::copy(&encoded[2..m], kinds);
+            bytes::read_args(&encoded[m..], n, args);
+            Decoded::Nodes(n)
+        }
+    }
+}
+
+// Encodes a flat type to the front of out: refusals 1 to 5, then 8.
+pub fn encode(kinds: &[u8], args: &[u64], out: &mut [u8]) -> Encoded
+    ensures { λ r. do
+      nodes ← ⟦Flat::MAX_NODES⟧ .entry
+      deep ← ⟦Flat::MAX_DEPTH⟧ .entry
+      w ← ⟦Encoding::ARGUMENT_BYTES⟧ .entry
+      ⌜ Encodes w (fittingBytes w (length (now (out .entry))) (reading nodes deep (now (kinds .entry)) (now (args .entry)))) (now (out .entry)) (now (out .exit)) r ⌝ }
+{
+    match flat::check(kinds, args) {
+        Checked::Refused(e) => Encoded::Refused(e),
+        Checked::Valid => {
+            let n = kinds.len();
+            let size = 2 + (Encoding::ARGUMENT_BYTES + 1) * n;
+            if out.len() < size {
+                return Encoded::Refused(Error::OutputTooShort);
+            }
+            let m = 2 + n;
+            bytes::put_count(out, n);
+            bytes::copy(kinds, &mut out[2..]);
+            bytes::write_args(args, &mut out[m..]);
+            Encoded::Bytes(size)
+        }
+    }
+}

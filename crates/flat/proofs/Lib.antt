@@ -1,0 +1,10 @@
+-- The laws of flat types. Those that other crates' proofs cite are `pub`.
+pub mod Sizes
+pub mod ReadBack
+pub mod Positions
+pub mod Walks
+pub mod Meaning
+mod Rules
+mod Scans
+mod Spans
+mod Checks

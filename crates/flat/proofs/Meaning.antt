@@ -1,0 +1,152 @@
+-- What `reading` means: it gives exactly the valid types, each from its own flat form and from nothing else. Assumes nothing.
+use mathlib.Core.Path.{_≡_, refl, sym, ap, ap₂, subst, _∙_}
+use mathlib.Core.Bool.{Bool, true, false, _&&_}
+use mathlib.Core.List.{List, [], _∷_, _++_, append-assoc, append-nil}
+use mathlib.Core.Option.{Option, none, some}
+use Prim.Native.Nat.{ℕ, _≤_, _<_}
+use native.Mathlib.Omega.{arith}
+use borrow.Author.Tests.{le-leb, lt-ltb, eq-eqb, leb-true, eqb-true}
+use lib.Dec.{leb, ltb, eqb}
+use lib.ListN.{length, drop, drop-of-length-le}
+use Rattle.flat.specs.Kind
+use Rattle.flat.specs.Argument.{argumentFits, ruleOf}
+use Rattle.flat.specs.Tree.{DataType, leaf, list, array, struct, Fields, empty, field, size, depth, kindsOf, kindsOfs, argsOf, argsOfs, count}
+use Rattle.flat.specs.Reader.{nodeAt}
+use Rattle.flat.specs.Reading.{Reading, refused, type, unless, lengthFits, kindsFit, argumentsFit, shaped, reading, checkedOf, Ruled, RuledFields, IsType}
+use Rattle.flat.specs.declared.error.Error.{Error}
+use Rattle.flat.specs.declared.error.Error.the-variants.{Length, Kind, Argument, Shape, Depth}
+use Rattle.flat.specs.declared.Checked.the-variants.{Valid, Refused}
+use Rattle.flat.proofs.Sizes.{length-kinds, length-args, size-pos}
+use Rattle.flat.proofs.ReadBack.{Good, Goods, read-back, Sound, sound}
+
+-- ---- a valid type passes
+mutual
+  unfolding Ruled Good
+
+  good : (t : DataType) → Ruled t → Good t
+  good (leaf k a) r = r .0
+  good (list t) r = good t r
+  good (array w t) r = good t r
+  good (struct fs) r = goods fs (r .1)
+
+  goods : (fs : Fields) → RuledFields fs → Goods fs
+  goods empty r = tt
+  goods (field name t fs) r = (good t (r .1), goods fs (r .2))
+
+mutual
+  unfolding Ruled kindsOf kindsFit
+
+  kinds-fit : (t : DataType) → Ruled t → (ks : List ℕ) → kindsFit (kindsOf t ++ ks) ≡ kindsFit ks
+  kinds-fit (leaf k a) r ks = rw (le-leb k Kind.Field (omega arith))
+  kinds-fit (list t) r ks = kinds-fit t r ks
+  kinds-fit (array w t) r ks = kinds-fit t r ks
+  kinds-fit (struct fs) r ks = kinds-fits fs (r .1) ks
+
+  kinds-fits : (fs : Fields) → RuledFields fs → (ks : List ℕ) → kindsFit (kindsOfs fs ++ ks) ≡ kindsFit ks
+  kinds-fits empty r ks = refl
+  kinds-fits (field name t fs) r ks = ap kindsFit (append-assoc (kindsOf t) (kindsOfs fs) ks) ∙ kinds-fit t (r .1) (kindsOfs fs ++ ks) ∙ kinds-fits fs (r .2) ks
+
+mutual
+  unfolding Ruled kindsOf argsOf argumentsFit argumentFits ruleOf
+
+  arguments-fit : (t : DataType) → Ruled t → (ks xs : List ℕ) → argumentsFit (kindsOf t ++ ks) (argsOf t ++ xs) ≡ argumentsFit ks xs
+  arguments-fit (leaf k a) r ks xs = rw (r .1)
+  arguments-fit (list t) r ks xs = arguments-fit t r ks xs
+  arguments-fit (array w t) r ks xs = arguments-fit t r ks xs
+  arguments-fit (struct fs) r ks xs = rw (r .0) (arguments-fits fs (r .1) ks xs)
+
+  arguments-fits : (fs : Fields) → RuledFields fs → (ks xs : List ℕ) → argumentsFit (kindsOfs fs ++ ks) (argsOfs fs ++ xs) ≡ argumentsFit ks xs
+  arguments-fits empty r ks xs = refl
+  arguments-fits (field name t fs) r ks xs =
+      rw (r .0)
+      (ap₂ argumentsFit (append-assoc (kindsOf t) (kindsOfs fs) ks) (append-assoc (argsOf t) (argsOfs fs) xs)
+      ∙ arguments-fit t (r .1) (kindsOfs fs ++ ks) (argsOfs fs ++ xs) ∙ arguments-fits fs (r .2) ks xs)
+
+-- Everything that document 01 calls valid passes.
+pub passes : (nodes deep : ℕ) (t : DataType) → IsType nodes deep t → reading nodes deep (kindsOf t) (argsOf t) ≡ type t
+unfolding reading lengthFits kindsFit argumentsFit
+passes nodes deep t v =
+    let k = length-kinds t in
+    let a = length-args t in
+    let p = size-pos t in
+    rw (
+      eq-eqb (length (kindsOf t)) (length (argsOf t)) (omega arith),
+      lt-ltb 0 (length (kindsOf t)) (omega arith),
+      le-leb (length (kindsOf t)) nodes (omega (arith, v .within)),
+      ap kindsFit (sym (append-nil (kindsOf t))) ∙ kinds-fit t (v .ruled) [],
+      ap₂ argumentsFit (sym (append-nil (kindsOf t))) (sym (append-nil (argsOf t))) ∙ arguments-fit t (v .ruled) [] [],
+      ap₂ nodeAt (sym (append-nil (kindsOf t))) (sym (append-nil (argsOf t))) ∙ read-back t (good t (v .ruled)) [] [],
+      eq-eqb (size t) (length (kindsOf t)) (sym k),
+      le-leb (depth t) deep (v .shallow),
+    )
+
+-- ---- whatever passes is a valid type
+both : (a b : Bool) → (a && b) ≡ true → (a ≡ true) × (b ≡ true)
+both true b e = (refl, e)
+both false b e = absurd (let z : _≡_ {A = ℕ} 0 1 = cc in omega arith)
+
+mutual
+  unfolding Ruled Good kindsOf argsOf argumentsFit argumentFits ruleOf
+
+  -- fitting arguments of a tree, and of what follows it
+  ruled : (t : DataType) → Good t → (ks xs : List ℕ) → argumentsFit (kindsOf t ++ ks) (argsOf t ++ xs) ≡ true → Ruled t × (argumentsFit ks xs ≡ true)
+  ruled (leaf k a) g ks xs e = let s = both (argumentFits k a) (argumentsFit ks xs) e in ((g, s .0), s .1)
+  ruled (list t) g ks xs e = ruled t g ks xs e
+  ruled (array w t) g ks xs e = ruled t g ks xs e
+  ruled (struct fs) g ks xs e =
+      let s = both (argumentFits Kind.Struct (count fs)) (argumentsFit (kindsOfs fs ++ ks) (argsOfs fs ++ xs)) e in
+      let r = ruled-fields fs g ks xs (s .1) in ((s .0, r .0), r .1)
+
+  ruled-fields : (fs : Fields) → Goods fs → (ks xs : List ℕ) → argumentsFit (kindsOfs fs ++ ks) (argsOfs fs ++ xs) ≡ true → RuledFields fs × (argumentsFit ks xs ≡ true)
+  ruled-fields empty g ks xs e = (tt, e)
+  ruled-fields (field name t fs) g ks xs e =
+      let s = both (argumentFits Kind.Field name) (argumentsFit ((kindsOf t ++ kindsOfs fs) ++ ks) ((argsOf t ++ argsOfs fs) ++ xs)) e in
+      let q = sym (ap₂ argumentsFit (append-assoc (kindsOf t) (kindsOfs fs) ks) (append-assoc (argsOf t) (argsOfs fs) xs)) ∙ s .1 in
+      let r = ruled t (g .0) (kindsOfs fs ++ ks) (argsOfs fs ++ xs) q in
+      let u = ruled-fields fs (g .1) ks xs (r .1) in ((s .0, r .0, u .0), u .1)
+
+-- a test that was passed
+passed : (b : Bool) (e : Error) (r : Reading) (t : DataType) → unless b e r ≡ type t → (b ≡ true) × (r ≡ type t)
+passed true e r t q = (refl, q)
+passed false e r t q = absurd (let z : _≡_ {A = ℕ} 0 1 = cc in omega arith)
+
+-- What two arrays hold that pass: the flat form of the type, and nothing more.
+pub record Holds (nodes deep : ℕ) (ks xs : List ℕ) (t : DataType) : Type 0 where
+  pub kinds : ks ≡ kindsOf t
+  pub args : xs ≡ argsOf t
+  pub is-type : IsType nodes deep t
+
+module _ (nodes deep : ℕ) (ks xs : List ℕ) (t : DataType) where
+  one-type : length ks ≤ nodes → length ks ≡ length xs → argumentsFit ks xs ≡ true → (p : Option DataType) → nodeAt ks xs ≡ p → shaped deep (length ks) p ≡ type t → Holds nodes deep ks xs t
+  one-type h e f none q r = absurd (let z : _≡_ {A = ℕ} 0 1 = cc in omega arith)
+  one-type h e f (some u) q r =
+      let s = passed (eqb (size u) (length ks)) Shape (unless (leb (depth u) deep) Depth (type u)) t r in
+      let w = passed (leb (depth u) deep) Depth (type u) t (s .1) in
+      let n : size u ≡ length ks = eqb-true (size u) (length ks) (s .0) in
+      let same : u ≡ t = let y = w .1 in cc in
+      let o : Sound ks xs (some u) = subst (λ (v : Option DataType). Sound ks xs v) q (sound ks xs) in
+      let k : ks ≡ kindsOf u = o .0 ∙ ap (λ (l : List ℕ). kindsOf u ++ l) (drop-of-length-le ks {i = size u} (omega arith)) ∙ append-nil (kindsOf u) in
+      let a : xs ≡ argsOf u = o .1 ∙ ap (λ (l : List ℕ). argsOf u ++ l) (drop-of-length-le xs {i = size u} (omega arith)) ∙ append-nil (argsOf u) in
+      let v = ruled u (o .2) [] [] (sym (ap₂ argumentsFit (k ∙ sym (append-nil (kindsOf u))) (a ∙ sym (append-nil (argsOf u)))) ∙ f) in
+      subst (Holds nodes deep ks xs) same
+      (record { kinds = k; args = a; is-type = record { ruled = v .0; within = omega arith; shallow = leb-true (depth u) deep (w .0) } })
+
+  -- Everything that passes is valid, and stands there whole; so the tree is unique.
+  pub holds : reading nodes deep ks xs ≡ type t → Holds nodes deep ks xs t
+  unfolding reading lengthFits
+  holds q =
+      let one = passed (lengthFits nodes ks xs) Length (unless (kindsFit ks) Kind (unless (argumentsFit ks xs) Argument (shaped deep (length ks) (nodeAt ks xs)))) t q in
+      let two = passed (kindsFit ks) Kind (unless (argumentsFit ks xs) Argument (shaped deep (length ks) (nodeAt ks xs))) t (one .1) in
+      let three = passed (argumentsFit ks xs) Argument (shaped deep (length ks) (nodeAt ks xs)) t (two .1) in
+      let l = both (eqb (length ks) (length xs) && ltb 0 (length ks)) (leb (length ks) nodes) (one .0) in
+      let m = both (eqb (length ks) (length xs)) (ltb 0 (length ks)) (l .0) in
+      one-type (leb-true (length ks) nodes (l .1)) (eqb-true (length ks) (length xs) (m .0)) (three .0) (nodeAt ks xs) refl (three .1)
+
+-- What the check's answer tells of the reading.
+pub checked-type : (r : Reading) → Valid ≡ checkedOf r → (t : DataType) × (r ≡ type t)
+checked-type (refused e) q = absurd (let z : _≡_ {A = ℕ} 0 1 = cc in omega arith)
+checked-type (type t) q = (t, refl)
+
+pub checked-refused : (r : Reading) (e : Error) → Refused e ≡ checkedOf r → r ≡ refused e
+checked-refused (refused d) e q = let y : d ≡ e = cc in ap refused y
+checked-refused (type t) e q = absurd (let z : _≡_ {A = ℕ} 0 1 = cc in omega arith)

@@ -1,0 +1,77 @@
+-- A rule that a run of kinds has: one test that antt computes over the run. Assumes nothing.
+use mathlib.Core.Path.{_≡_, refl, sym, subst}
+use mathlib.Core.Bool.{Bool, true, false, _&&_}
+use Prim.Native.Nat.{ℕ, zero, suc, _+_, _≤_, _<_}
+use native.Mathlib.Omega.{arith}
+use borrow.Author.Tests.{eqb-true, eqb-false, lt-leb}
+use lib.Dec.{T, leb, eqb}
+use Rattle.flat.specs.Kind
+use Rattle.flat.specs.Argument.{Rule, decimal, datetime, below, free, ruleOf, follows, argumentFits}
+
+-- f holds of the n numbers from lo on
+abbrev pub run : (ℕ → Bool) → ℕ → ℕ → Bool
+run f lo zero = true
+run f lo (suc n) = f lo && run f (suc lo) n
+
+first : (a b : Bool) → T (a && b) → T a
+first true b t = tt
+first false b t = t
+
+later : (a b : Bool) → T (a && b) → T b
+later true b t = t
+later false b t = absurd t
+
+-- so of each of them
+pub in-run : (f : ℕ → Bool) (lo n : ℕ) → T (run f lo n) → (k : ℕ) → lo ≤ k → k < lo + n → T (f k)
+in-run f lo zero t k h l = absurd (omega arith)
+in-run f lo (suc n) t k h l = go (eqb k lo) refl (λ m. in-run f (suc lo) n (later (f lo) (run f (suc lo) n) t) k m (omega arith))
+  where
+    go : (b : Bool) → eqb k lo ≡ b → (suc lo ≤ k → T (f k)) → T (f k)
+    go true e rest = subst (λ (j : ℕ). T (f j)) (sym (eqb-true k lo e)) (first (f lo) (run f (suc lo) n) t)
+    go false e rest = rest (omega (arith, eqb-false k lo e))
+
+-- the rules that several kinds share: the argument is 0, or any
+abbrev pub isZero : Rule → Bool
+isZero Rule.zero = true
+isZero decimal = false
+isZero datetime = false
+isZero (below n) = false
+isZero free = false
+
+abbrev pub isFree : Rule → Bool
+isFree Rule.zero = false
+isFree decimal = false
+isFree datetime = false
+isFree (below n) = false
+isFree free = true
+
+pub zero-follows : (r : Rule) (a : ℕ) → T (isZero r) → eqb a 0 ≡ follows r a
+zero-follows Rule.zero a t = refl
+zero-follows decimal a t = absurd t
+zero-follows datetime a t = absurd t
+zero-follows (below n) a t = absurd t
+zero-follows free a t = absurd t
+
+pub free-follows : (r : Rule) (a : ℕ) → T (isFree r) → true ≡ follows r a
+free-follows Rule.zero a t = absurd t
+free-follows decimal a t = absurd t
+free-follows datetime a t = absurd t
+free-follows (below n) a t = absurd t
+free-follows free a t = refl
+
+-- a run of kinds whose rules all say v of an argument, by the test p
+pub ruled : (p : Rule → Bool) {v : ℕ → Bool} → ((r : Rule) (a : ℕ) → T (p r) → v a ≡ follows r a) → (lo n : ℕ) → T (run (λ k. leb k Kind.Field && p (ruleOf k)) lo n) → (k a : ℕ) → lo ≤ k → k < lo + n → v a ≡ argumentFits k a
+unfolding argumentFits
+ruled p {v} says lo n t k a h l = go (leb k Kind.Field) (in-run (λ k. leb k Kind.Field && p (ruleOf k)) lo n t k h l)
+  where
+    go : (b : Bool) → T (b && p (ruleOf k)) → v a ≡ (b && follows (ruleOf k) a)
+    go true u = says (ruleOf k) a u
+    go false u = absurd u
+
+pub no-kind : (k a : ℕ) → Kind.Field < k → false ≡ argumentFits k a
+unfolding argumentFits
+no-kind k a h = rw (lt-leb k Kind.Field h)
+
+-- a kind from n on that is not n is past it
+pub next : (n : ℕ) {k : ℕ} → n ≤ k → (k ≡ n → ⊥) → suc n ≤ k
+next n {k} h o = omega arith

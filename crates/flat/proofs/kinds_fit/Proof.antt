@@ -1,0 +1,50 @@
+use Prim.Native.Nat.{_≤_, _-_}
+use mathlib.Core.Path.{_≡_, refl}
+use native.Mathlib.Omega.{arith}
+use lib.ListN.{length, drop}
+use Rattle.flat.specs.Reading.{kindsFit}
+use Rattle.flat.proofs.Scans.{kinds-on, kinds-stop, kinds-end}
+use borrow.Author.Needs.{needs}
+use Rattle.flat.proofs.kinds_fit.Statement.{statement}
+use Rattle.flat.proofs.kinds_fit.Tie as tie
+
+abbrev Inv-loop : tie.InvT-loop
+Inv-loop kinds i₀ i = (i ≤ length kinds) × (kindsFit kinds ≡ kindsFit (drop i kinds))
+
+abbrev μ-loop : tie.MeasureT-loop
+μ-loop kinds i₀ i = length kinds - i
+
+loop-holds : tie.Need-loop-holds Inv-loop μ-loop
+loop-holds c = (omega arith, refl)
+
+shared-slice-read-if1 : tie.Need-shared-slice-read-if1 Inv-loop μ-loop
+shared-slice-read-if1 c = search needs
+
+returns : tie.Need-returns Inv-loop μ-loop
+returns c = kinds-stop (c .before .before .before .before .args .kinds .now) (c .before .before .before .loop .i) (c .before .before .before .loop .inv .1) (omega arith) (c .if1 .taken)
+
+add-i : tie.Need-add-i Inv-loop μ-loop
+add-i c = search needs
+
+loop-less : tie.Need-loop-less Inv-loop μ-loop
+loop-less c = search needs
+
+loop-again : tie.Need-loop-again Inv-loop μ-loop
+loop-again c = (omega arith, kinds-on (c .before .before .before .before .args .kinds .now) (c .before .before .before .loop .i) (c .before .before .before .loop .inv .1) (omega arith) (c .if1 .left))
+
+returns-2 : tie.Need-returns-2 Inv-loop μ-loop
+returns-2 c = kinds-end (c .before .before .args .kinds .now) (c .before .loop .i) (c .before .loop .inv .1) (c .loop-test .left)
+
+pub kinds-fit-spec : {M : Type 1} → statement M
+kinds-fit-spec =
+    tie.close
+    (tie.spec
+    Inv-loop
+    μ-loop
+    loop-holds
+    shared-slice-read-if1
+    returns
+    add-i
+    loop-less
+    loop-again
+    returns-2)

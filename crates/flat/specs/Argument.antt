@@ -1,0 +1,46 @@
+-- The rule of each kind's argument, in the words of document 01. Assumes nothing: these are definitions.
+use mathlib.Core.Bool.{Bool, true, false, cond, _&&_}
+use Prim.Native.Nat.{ℕ, _/_, _%_, _^_}
+use lib.Dec.{leb, ltb, eqb}
+use Rattle.flat.specs.Kind
+
+-- 0 ns, 1 µs, 2 ms
+abbrev pub timeUnits : ℕ
+timeUnits = 3
+
+pub data Rule : Type 0 where
+  zero decimal datetime : Rule
+  below : ℕ → Rule
+  free : Rule
+
+-- the rule of a kind
+unfoldable pub ruleOf : ℕ → Rule
+ruleOf k =
+    cond (eqb k Kind.Decimal) decimal
+    (cond (eqb k Kind.Datetime) datetime
+    (cond (eqb k Kind.Duration) (below timeUnits)
+    (cond (eqb k Kind.UnknownIntPos) free
+    (cond (eqb k Kind.UnknownIntNeg) free
+    (cond (eqb k Kind.Array) free
+    (cond (eqb k Kind.Struct) (below 256)
+    (cond (eqb k Kind.Field) (below (2 ^ 32))
+    zero)))))))
+
+-- 256 × scale + precision: precision 1 to 38, scale 0 to precision
+abbrev pub decimalFits : ℕ → Bool
+decimalFits a = leb 1 (a % 256) && leb (a % 256) 38 && leb (a / 256) (a % 256)
+
+-- 4 × zone + unit: zone below 2^32
+abbrev pub datetimeFits : ℕ → Bool
+datetimeFits a = ltb (a % 4) timeUnits && ltb (a / 4) (2 ^ 32)
+
+abbrev pub follows : Rule → ℕ → Bool
+follows zero a = eqb a 0
+follows decimal a = decimalFits a
+follows datetime a = datetimeFits a
+follows (below n) a = ltb a n
+follows free a = true
+
+-- a is an argument of the kind k; a code above 31 is no kind, and has none
+unfoldable pub argumentFits : ℕ → ℕ → Bool
+argumentFits k a = leb k Kind.Field && follows (ruleOf k) a

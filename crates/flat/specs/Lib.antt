@@ -1,0 +1,9 @@
+-- What a flat type means, and what the contracts of `flat` cite.
+pub mod Kind
+pub mod Refusal
+pub mod Argument
+pub mod Tree
+pub mod Reader
+pub mod Reading
+pub mod Output
+pub mod Span

@@ -1,0 +1,28 @@
+-- What a call that writes a type leaves in the two lent arrays. Assumes nothing: these are definitions.
+use mathlib.Core.Bool.{_&&_}
+use mathlib.Core.List.{List, _++_}
+use Prim.Native.Nat.{ℕ}
+use lib.Dec.{leb}
+use lib.ListN.{length, drop}
+use Rattle.flat.specs.Tree.{DataType, size, kindsOf, argsOf}
+use Rattle.flat.specs.Reading.{Reading, refused, type, unless}
+use Rattle.flat.specs.declared.error.Error.the-variants.{OutputTooShort}
+
+-- 8: the output arrays, of k kinds and a arguments, are shorter than the result, where there is one
+unfoldable pub fitting : ℕ → ℕ → Reading → Reading
+fitting k a (refused e) = refused e
+fitting k a (type t) = unless (leb (size t) k && leb (size t) a) OutputTooShort (type t)
+
+-- ys over the front of xs; what stands past them is untouched
+abbrev pub over : List ℕ → List ℕ → List ℕ
+over ys xs = ys ++ drop (length ys) xs
+
+-- a lent array of kinds after the call: the type's kinds over what it held, or all as it was where the call was refused
+unfoldable pub kindsOver : Reading → List ℕ → List ℕ
+kindsOver (refused e) out = out
+kindsOver (type t) out = over (kindsOf t) out
+
+-- so too for the arguments
+unfoldable pub argsOver : Reading → List ℕ → List ℕ
+argsOver (refused e) out = out
+argsOver (type t) out = over (argsOf t) out

@@ -1,0 +1,27 @@
+// Why a call is refused: document 01's numbered causes.
+ghost use mathlib.Core.Path.{_≡_};
+ghost use Rattle.flat.specs.Refusal.{numberOf};
+
+pub enum Error {
+    Length,
+    Kind,
+    Argument,
+    Shape,
+    Depth,
+    OutputTooShort,
+}
+
+impl Error {
+    pub fn number(self) -> u64
+        ensures { λ r. ⌜ r ≡ numberOf self ⌝ }
+    {
+        match self {
+            Error::Length => 1,
+            Error::Kind => 2,
+            Error::Argument => 3,
+            Error::Shape => 4,
+            Error::Depth => 5,
+            Error::OutputTooShort => 8,
+        }
+    }
+}

@@ -1,0 +1,107 @@
+// Flat types: a type is a tree in preorder in two parallel arrays, kinds and arguments.
+pub mod argument;
+pub mod error;
+pub mod kind;
+pub mod span;
+ghost use mathlib.Core.Path.{_≡_};
+ghost use Prim.Native.Nat.{_<_};
+ghost use lib.ListN.{length};
+ghost use Rattle.flat.specs.Reader.{nodeAt};
+ghost use Rattle.flat.specs.Reading.{kindsFit, argumentsFit, shaped, reading, checkedOf};
+use argument::argument_fits;
+use error::Error;
+use kind::Kind;
+use span::Span;
+
+// A flat type, and its limits.
+pub struct Flat {}
+
+impl Flat {
+    pub const MAX_NODES: usize = 512;
+    pub const MAX_DEPTH: usize = 32;
+}
+
+// What a check says of a flat type.
+pub enum Checked {
+    Valid,
+    Refused(Error),
+}
+
+fn kinds_fit(kinds: &[u8]) -> bool
+    ensures { λ r. ⌜ r ≡ kindsFit (now (kinds .entry)) ⌝ }
+{
+    let mut i = 0;
+    while i < kinds.len() {
+        if kinds[i] > Kind::FIELD {
+            return false;
+        }
+        i += 1;
+    }
+    true
+}
+
+fn arguments_fit(kinds: &[u8], args: &[u64]) -> bool
+    requires { ⌜ length (now kinds) ≡ length (now args) ⌝ }
+    ensures { λ r. ⌜ r ≡ argumentsFit (now (kinds .entry)) (now (args .entry)) ⌝ }
+{
+    let mut i = 0;
+    while i < kinds.len() {
+        if !argument_fits(kinds[i], args[i]) {
+            return false;
+        }
+        i += 1;
+    }
+    true
+}
+
+// Refusals 4 and 5. A leaf alone needs no walk.
+fn check_shape(kinds: &[u8], args: &[u64]) -> Checked
+    requires { ⌜ (length (now kinds) ≡ length (now args)) × (0 < length (now kinds)) ⌝ }
+    ensures { λ r. do
+      deep ← ⟦Flat::MAX_DEPTH⟧ .entry
+      ⌜ r ≡ checkedOf (shaped deep (length (now (kinds .entry))) (nodeAt (now (kinds .entry)) (now (args .entry)))) ⌝ }
+{
+    if kinds.len() == 1 {
+        if kinds[0] < Kind::LIST {
+            return Checked::Valid;
+        }
+    }
+    match span::node_span(kinds, args) {
+        Span::Ends(n, depth) => {
+            if n != kinds.len() {
+                return Checked::Refused(Error::Shape);
+            }
+            if depth > Flat::MAX_DEPTH {
+                return Checked::Refused(Error::Depth);
+            }
+            Checked::Valid
+        }
+        Span::Broken => Checked::Refused(Error::Shape),
+    }
+}
+
+// Whether two arrays are a type: refusals 1 to 5, each looking at the whole type before the next.
+pub fn check(kinds: &[u8], args: &[u64]) -> Checked
+    ensures { λ r. do
+      nodes ← ⟦Flat::MAX_NODES⟧ .entry
+      deep ← ⟦Flat::MAX_DEPTH⟧ .entry
+      ⌜ r ≡ checkedOf (reading nodes deep (now (kinds .entry)) (now (args .entry))) ⌝ }
+{
+    if kinds.len() != args.len() {
+        return Checked::Refused(Error::Length);
+    }
+    if kinds.len() == 0 {
+        return Checked::Refused(Error::Length);
+    }
+    if kinds.len() > Flat::MAX_NODES {
+        return Checked::Refused(Error::Length);
+    }
+    // an argument fits no code above 31, so one scan serves both where all is well
+    if !arguments_fit(kinds, args) {
+        if !kinds_fit(kinds) {
+            return Checked::Refused(Error::Kind);
+        }
+        return Checked::Refused(Error::Argument);
+    }
+    check_shape(kinds, args)
+}
