@@ -1,14 +1,15 @@
 // Encoded types (document 01's stored sheets): checked, decoded to the two arrays of a flat type, and encoded from them.
 pub mod bytes;
+
 ghost use mathlib.Core.Path.{_≡_};
 ghost use lib.ListN.{length};
 ghost use Rattle.flat.specs.Reading.{reading, checkedOf};
 ghost use Rattle.flat.specs.Output.{fitting};
 ghost use Rattle.encoding.specs.Encoding.{decoding};
 ghost use Rattle.encoding.specs.Answer.{nodesIn, Decodes, fittingBytes, Encodes};
-use flat::error::Error;
 use flat::Checked;
 use flat::Flat;
+use flat::error::Error;
 
 // The layout of an encoded type.
 pub struct Encoding {}

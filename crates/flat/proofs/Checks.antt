@@ -1,21 +1,19 @@
 -- Which answer each way out of the check gives. Assumes nothing.
-use mathlib.Core.Path.{_≡_, refl, sym, ap, _∙_}
-use mathlib.Core.Bool.{Bool, true, false, _&&_}
+use mathlib.Core.Path.{_≡_, sym}
+use mathlib.Core.Bool.{true, false}
 use mathlib.Core.List.{List}
-use mathlib.Core.Option.{Option, none, some}
+use mathlib.Core.Option.{Option}
 use Prim.Native.Nat.{ℕ, _≤_, _<_}
 use native.Mathlib.Omega.{arith}
 use borrow.Author.Tests.{le-leb, lt-leb, lt-ltb, le-ltb, eq-eqb, ne-eqb}
-use lib.Dec.{leb, ltb, eqb}
 use lib.ListN.{length, getD}
 use Rattle.flat.specs.Kind
-use Rattle.flat.specs.Tree.{DataType, size, depth}
+use Rattle.flat.specs.Tree.{DataType}
 use Rattle.flat.specs.Reader.{nodeAt}
-use Rattle.flat.specs.Reading.{Reading, lengthFits, kindsFit, argumentsFit, shaped, reading, checkedOf}
+use Rattle.flat.specs.Reading.{lengthFits, kindsFit, argumentsFit, shaped, reading, checkedOf}
 use Rattle.flat.specs.Span.{spanOf}
 use Rattle.flat.specs.declared.span.Span.the-variants.{Ends, Broken}
 use Rattle.flat.specs.declared.error.Error.the-variants.{Length, Kind, Argument, Shape, Depth}
-use Rattle.flat.specs.declared.Checked.{Checked}
 use Rattle.flat.specs.declared.Checked.the-variants.{Valid, Refused}
 use Rattle.flat.proofs.Scans.{arguments-kinds}
 use Rattle.flat.proofs.Spans.{ended, broken, leaf-span}

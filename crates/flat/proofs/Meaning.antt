@@ -1,13 +1,13 @@
 -- What `reading` means: it gives exactly the valid types, each from its own flat form and from nothing else. Assumes nothing.
 use mathlib.Core.Path.{_≡_, refl, sym, ap, ap₂, subst, _∙_}
 use mathlib.Core.Bool.{Bool, true, false, _&&_}
-use mathlib.Core.List.{List, [], _∷_, _++_, append-assoc, append-nil}
+use mathlib.Core.List.{List, [], _++_, append-assoc, append-nil}
 use mathlib.Core.Option.{Option, none, some}
-use Prim.Native.Nat.{ℕ, _≤_, _<_}
+use Prim.Native.Nat.{ℕ, _≤_}
 use native.Mathlib.Omega.{arith}
 use borrow.Author.Tests.{le-leb, lt-ltb, eq-eqb, leb-true, eqb-true}
 use lib.Dec.{leb, ltb, eqb}
-use lib.ListN.{length, drop, drop-of-length-le}
+use lib.ListN.{length, drop-of-length-le}
 use Rattle.flat.specs.Kind
 use Rattle.flat.specs.Argument.{argumentFits, ruleOf}
 use Rattle.flat.specs.Tree.{DataType, leaf, list, array, struct, Fields, empty, field, size, depth, kindsOf, kindsOfs, argsOf, argsOfs, count}
@@ -15,8 +15,10 @@ use Rattle.flat.specs.Reader.{nodeAt}
 use Rattle.flat.specs.Reading.{Reading, refused, type, unless, lengthFits, kindsFit, argumentsFit, shaped, reading, checkedOf, Ruled, RuledFields, IsType}
 use Rattle.flat.specs.declared.error.Error.{Error}
 use Rattle.flat.specs.declared.error.Error.the-variants.{Length, Kind, Argument, Shape, Depth}
-use Rattle.flat.specs.declared.Checked.the-variants.{Valid, Refused}
+use Rattle.flat.specs.declared.Checked.the-variants as answer
+use Rattle.flat.specs.Walk.{Valid, typeAt}
 use Rattle.flat.proofs.Sizes.{length-kinds, length-args, size-pos}
+use Rattle.flat.proofs.Walks.{node-of, valid-of, type-is}
 use Rattle.flat.proofs.ReadBack.{Good, Goods, read-back, Sound, sound}
 
 -- ---- a valid type passes
@@ -142,11 +144,19 @@ module _ (nodes deep : ℕ) (ks xs : List ℕ) (t : DataType) where
       let m = both (eqb (length ks) (length xs)) (ltb 0 (length ks)) (l .0) in
       one-type (leb-true (length ks) nodes (l .1)) (eqb-true (length ks) (length xs) (m .0)) (three .0) (nodeAt ks xs) refl (three .1)
 
+  -- So a walk may start: the type stands at the front.
+  pub stands : reading nodes deep ks xs ≡ type t → Valid ks xs × (typeAt ks xs ≡ t)
+  stands q =
+      let h = holds q in
+      let r : nodeAt ks xs ≡ some t = ap₂ nodeAt (h .kinds ∙ sym (append-nil (kindsOf t))) (h .args ∙ sym (append-nil (argsOf t))) ∙ read-back t (good t (h .is-type .ruled)) [] [] in
+      let l : length ks ≡ length xs = ap length (h .kinds) ∙ length-kinds t ∙ sym (ap length (h .args) ∙ length-args t) in
+      (valid-of (node-of ks xs t l r), type-is ks xs t r)
+
 -- What the check's answer tells of the reading.
-pub checked-type : (r : Reading) → Valid ≡ checkedOf r → (t : DataType) × (r ≡ type t)
+pub checked-type : (r : Reading) → answer.Valid ≡ checkedOf r → (t : DataType) × (r ≡ type t)
 checked-type (refused e) q = absurd (let z : _≡_ {A = ℕ} 0 1 = cc in omega arith)
 checked-type (type t) q = (t, refl)
 
-pub checked-refused : (r : Reading) (e : Error) → Refused e ≡ checkedOf r → r ≡ refused e
+pub checked-refused : (r : Reading) (e : Error) → answer.Refused e ≡ checkedOf r → r ≡ refused e
 checked-refused (refused d) e q = let y : d ≡ e = cc in ap refused y
 checked-refused (type t) e q = absurd (let z : _≡_ {A = ℕ} 0 1 = cc in omega arith)

@@ -1,6 +1,6 @@
 -- A position in the two arrays is a subtree: what the reader says there, from the node that stands there and what it says of the positions after it.
 -- These laws have no bound on the reading; every walk's proof goes by them. Assumes nothing.
-use mathlib.Core.Path.{_≡_, refl, sym, ap, ap₂, _∙_}
+use mathlib.Core.Path.{_≡_, refl, ap, ap₂, _∙_}
 use mathlib.Core.Bool.{Bool, true, false}
 use mathlib.Core.List.{List, [], _∷_}
 use mathlib.Core.Option.{Option, none, some}
@@ -10,7 +10,7 @@ use native.Mathlib.Numerals.{sub-one, add-one}
 use lib.Dec.{eqb}
 use lib.ListN.{length, getD, take, drop, length-drop}
 use lib.Seq.{drop-cons, drop-drop, take-all}
-use borrow.Author.Tests.{le-leb, lt-leb, eq-eqb, ne-eqb}
+use borrow.Author.Tests.{le-leb, eq-eqb, ne-eqb}
 use Rattle.flat.specs.Kind
 use Rattle.flat.specs.Tree.{DataType, list, array, struct, Fields, empty, field, size}
 use Rattle.flat.specs.Reader.{Children, no-child, under-list, under-array, fields, no-type, children, mapO, bindO, Reads, underNode, stepNode, underField, stepFields, nodeIn, fieldsIn, nodeAt, fieldsAt}
@@ -136,10 +136,6 @@ children-array k a p = rw p
 pub children-struct : (k a : ℕ) → k ≡ Kind.Struct → children k a ≡ fields
 unfolding children
 children-struct k a p = rw p
-
-pub children-other : (k a : ℕ) → Kind.Struct < k → children k a ≡ no-type
-unfolding children
-children-other k a p = rw (lt-leb k Kind.UnknownIntNeg (omega arith), ne-eqb k Kind.List (omega arith), ne-eqb k Kind.Array (omega arith), ne-eqb k Kind.Struct (omega arith))
 
 -- A part of a slice up to its end is what is left after the first j.
 pub rest : (l : List ℕ) (j : ℕ) → take (length l - j) (drop j l) ≡ drop j l

@@ -13,7 +13,7 @@ use borrow.Author.Tests.{le-leb, leb-true, eqb-true}
 use Rattle.flat.specs.Kind
 use Rattle.flat.specs.Tree.{DataType, leaf, list, array, struct, Fields, empty, field, size, sizes, count, kindsOf, kindsOfs, argsOf, argsOfs}
 use Rattle.flat.specs.Reader.{Children, no-child, under-list, under-array, fields, no-type, children, mapO, bindO, Reads, underNode, stepNode, underField, stepFields, never, nodeIn, fieldsIn, nodeAt, fieldsAt}
-use Rattle.flat.proofs.Sizes.{length-kinds, length-kindss, length-args, length-argss, count-le}
+use Rattle.flat.proofs.Sizes.{length-kinds, length-kindss, length-args, count-le}
 
 -- each leaf has a leaf's kind
 unfoldable mutual

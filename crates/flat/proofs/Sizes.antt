@@ -1,7 +1,6 @@
 -- The sizes of a tree and of its flat form. Assumes nothing.
 use mathlib.Core.Path.{_≡_, refl, ap, ap₂, _∙_}
-use mathlib.Core.List.{List}
-use Prim.Native.Nat.{ℕ, suc, _+_, _≤_, _<_}
+use Prim.Native.Nat.{suc, _+_, _≤_, _<_}
 use native.Mathlib.Omega.{arith}
 use lib.ListN.{length, length-append}
 use Rattle.flat.specs.Tree.{DataType, leaf, list, array, struct, Fields, empty, field, size, sizes, depth, depths, count, kindsOf, kindsOfs, argsOf, argsOfs}

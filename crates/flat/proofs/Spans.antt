@@ -9,7 +9,7 @@ use native.Mathlib.Numerals.{add-one}
 use lib.ListN.{length, getD, drop, length-drop, drop-of-length-le}
 use lib.Seq.{drop-cons, drop-drop, getD-drop}
 use Rattle.flat.specs.Kind
-use Rattle.flat.specs.Tree.{DataType, leaf, list, array, struct, Fields, empty, field, size, sizes, depth, depths}
+use Rattle.flat.specs.Tree.{DataType, list, array, struct, Fields, field, size, sizes, depth, depths}
 use Rattle.flat.specs.Reader.{Children, no-child, under-list, under-array, fields, no-type, mapO, children, underNode, nodeAt, fieldsAt}
 use Rattle.flat.specs.Span.{spanOf, spansOf, wrapping, wrappersOf, spanUnder, Within}
 use Rattle.flat.specs.declared.span.Span.{Span}

@@ -1,5 +1,5 @@
--- What a walk of a valid type meets: the cases at a node and at a field, in a slice's terms, and what each tells of the parts that it hands on. Each walk's proof goes by these.
--- Assumes nothing.
+-- What a walk of a valid type meets: the cases at a node and at a field, in the terms of the parts that it hands on, and what holds of those parts. They
+-- are stated once, for every walk. Assumes nothing.
 use mathlib.Core.Path.{_≡_, refl, sym, ap, ap₂, _∙_, subst}
 use mathlib.Core.Bool.{Bool, true, false}
 use mathlib.Core.List.{List}
@@ -13,13 +13,10 @@ use borrow.Author.Tests.{eqb-true}
 use Rattle.flat.specs.Kind
 use Rattle.flat.specs.Tree.{DataType, leaf, list, array, struct, Fields, empty, field, size, sizes, count}
 use Rattle.flat.specs.Reader.{Children, no-child, under-list, under-array, fields, no-type, children, mapO, bindO, underNode, underField, nodeAt, fieldsAt}
+use Rattle.flat.specs.Walk.{Node, Run, orElse, typeAt, runAt, Valid, ValidRun}
 use Rattle.flat.proofs.Sizes.{size-pos}
 use Rattle.flat.proofs.ReadBack.{View, is-leaf, is-struct, is-other, view, bounded, bounds, count-read, count-is}
 use Rattle.flat.proofs.Positions.{rest, node-at, fields-at, fields-zero}
-
-abbrev pub orElse : {A : Type 0} → A → Option A → A
-orElse d none = d
-orElse d (some a) = a
 
 -- a slice after its first j elements, as the code hands it on
 abbrev pub from : ℕ → List ℕ → List ℕ
@@ -31,20 +28,6 @@ length-from j l = rw (rest, length-drop)
 -- a part is shorter, for a walk's measure t
 pub shorter : (l : List ℕ) (n t : ℕ) → length l ≡ t → 0 < length l → length (from (n + 1) l) < t
 shorter l n t e h = let a = length-from (n + 1) l in omega arith
-
--- The type t stands at the front of ks and xs. The orders follow from the rest, and stand here for the arithmetic of the code.
-pub record Node (ks xs : List ℕ) (t : DataType) : Type 0 where
-  pub read : nodeAt ks xs ≡ some t
-  pub even : length ks ≡ length xs
-  pub pos : 1 ≤ size t
-  pub within : size t ≤ length ks
-
--- So do m fields.
-pub record Run (m : ℕ) (ks xs : List ℕ) (fs : Fields) : Type 0 where
-  pub read : fieldsAt m ks xs ≡ some fs
-  pub even : length ks ≡ length xs
-  pub pos : m ≤ sizes fs
-  pub within : sizes fs ≤ length ks
 
 pub node-of : (ks xs : List ℕ) (t : DataType) → length ks ≡ length xs → nodeAt ks xs ≡ some t → Node ks xs t
 node-of ks xs t e r = record { read = r; even = e; pos = size-pos t; within = bounded ks xs t r }
@@ -104,25 +87,13 @@ at-run (suc m) ks xs fs r = at-31 (eqb (getD ks 0 0) Kind.Field) refl (sym (fiel
         subst (λ (z : Fields). AtRun (suc m) ks xs z) (sym (s .2))
         (at-field (omega arith) k (node-of (from 1 ks) (from 1 xs) t (part-even 1 ks xs (r .even)) (rw (rest, rest) q))
         (λ n y. run-of (suc m - 1) (from (n + 1) ks) (from (n + 1) xs) (s .0) (part-even (n + 1) ks xs (r .even))
-          (ap₂ (fieldsAt (suc m - 1)) (past t n y ks) (past t n y xs) ∙ s .1)))
+        (ap₂ (fieldsAt (suc m - 1)) (past t n y ks) (past t n y xs) ∙ s .1)))
 
     at-31 : (b : Bool) → eqb (getD ks 0 0) Kind.Field ≡ b → underField nodeAt fieldsAt b (suc m - 1) (getD xs 0 0) (drop 1 ks) (drop 1 xs) ≡ some fs → AtRun (suc m) ks xs fs
     at-31 false k e = absurd (let y : _≡_ {A = ℕ} 0 1 = cc in omega arith)
     at-31 true k e = at-type (eqb-true (getD ks 0 0) Kind.Field k) (nodeAt (drop 1 ks) (drop 1 xs)) refl e
 
--- THE WALK LAWS. The type at the front, where one stands there: its contract's word for it.
-unfoldable pub typeAt : List ℕ → List ℕ → DataType
-typeAt ks xs = orElse (leaf 0 0) (nodeAt ks xs)
-
-unfoldable pub runAt : ℕ → List ℕ → List ℕ → Fields
-runAt m ks xs = orElse empty (fieldsAt m ks xs)
-
-abbrev pub Valid : List ℕ → List ℕ → Type 0
-Valid ks xs = Node ks xs (typeAt ks xs)
-
-abbrev pub ValidRun : ℕ → List ℕ → List ℕ → Type 0
-ValidRun m ks xs = Run m ks xs (runAt m ks xs)
-
+-- ---- the laws in the words of a walk's contract
 pub type-is : (ks xs : List ℕ) (t : DataType) → nodeAt ks xs ≡ some t → typeAt ks xs ≡ t
 unfolding typeAt
 type-is ks xs t e = ap (orElse (leaf 0 0)) e

@@ -7,3 +7,4 @@ pub mod Reader
 pub mod Reading
 pub mod Output
 pub mod Span
+pub mod Walk

@@ -3,6 +3,7 @@ pub mod argument;
 pub mod error;
 pub mod kind;
 pub mod span;
+
 ghost use mathlib.Core.Path.{_≡_};
 ghost use Prim.Native.Nat.{_<_};
 ghost use lib.ListN.{length};
@@ -18,6 +19,7 @@ pub struct Flat {}
 
 impl Flat {
     pub const MAX_NODES: usize = 512;
+
     pub const MAX_DEPTH: usize = 32;
 }
 

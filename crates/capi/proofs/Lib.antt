@@ -1,0 +1,2 @@
+-- What an answer says as a reply.
+mod Replies

@@ -1,0 +1,2 @@
+-- What the contracts of the C entry points cite.
+pub mod Reply

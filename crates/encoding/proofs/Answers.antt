@@ -1,0 +1,152 @@
+-- What the answers tell, and what answers come to: bytes of the right length hold as many kinds and arguments as their count says, any others are refused
+-- by 1; where a check answers Valid, there is a tree; and `decode` and `encode` leave its arrays or bytes, or all as it was.
+-- Assumes nothing.
+use mathlib.Core.Path.{_≡_, refl, sym, ap, _∙_}
+use mathlib.Core.Bool.{Bool, true, false, cond, and-eq-true-iff}
+use mathlib.Core.List.{List, _++_}
+use Prim.Native.Nat.{ℕ, _+_, _-_, _≤_, _<_}
+use native.Mathlib.Nat.{add-sub-cancel-left}
+use native.Mathlib.Omega.{arith}
+use borrow.Author.Tests.{lt-ltb, le-leb, eq-eqb, ltb-true, leb-true, eqb-true}
+use borrow.Rule.Slice.PartAt.{part-to-end}
+use lib.ListN.{length, take, drop, length-drop}
+use lib.Seq.{length-take-le, take-at}
+use Rattle.flat.specs.Tree.{DataType, size, kindsOf, argsOf}
+use Rattle.flat.specs.Reading.{Reading, refused, type, reading, checkedOf}
+use Rattle.flat.specs.declared.Checked.{Checked}
+use Rattle.flat.specs.declared.Checked.the-variants.{Valid}
+use Rattle.flat.specs.Output.{over, kindsOver, argsOver}
+use Rattle.flat.specs.declared.error.Error.{Error}
+use Rattle.flat.specs.declared.error.Error.the-variants.{Length}
+use Rattle.flat.proofs.Sizes.{length-kinds, length-args}
+use Rattle.flat.proofs.Meaning.{holds, checked-type}
+use Rattle.encoding.specs.Encoding.{argsFrom, encoding, encodedSize, countIn, kindsIn, argsIn, sizeFits, decoding}
+use Rattle.encoding.specs.Answer.{nodesIn, Decodes, bytesOver, Encodes}
+use Rattle.encoding.specs.declared.Decoded.{Decoded}
+use Rattle.encoding.specs.declared.Encoded.{Encoded}
+use Rattle.encoding.proofs.Laws.{argsFrom-length, size-parts}
+
+-- ---- the number of nodes
+
+-- bytes that say that they have n nodes, and are as long as n nodes take
+pub record Sized (w nodes n : ℕ) (s : List ℕ) : Type 0 where
+  pub count : n ≡ countIn s
+  pub some : 0 < n
+  pub few : n ≤ nodes
+  pub size : length s ≡ encodedSize w n
+
+pub sized : (w nodes : ℕ) (s : List ℕ) → sizeFits w nodes s ≡ true → Sized w nodes (countIn s) s
+unfolding sizeFits
+sized w nodes s e = let h = simp and-eq-true-iff at e in record { count = refl; some = ltb-true _ _ (h .0 .0 .1); few = leb-true _ _ (h .0 .1); size = eqb-true _ _ (h .1) }
+
+module _ {w nodes n : ℕ} {s : List ℕ} (z : Sized w nodes n s) where
+  pub size-fits : sizeFits w nodes s ≡ true
+  unfolding sizeFits
+  size-fits = simp (sym (z .count), le-leb 2 (length s) (omega (arith, z .size)), lt-ltb 0 n (z .some), le-leb n nodes (z .few), eq-eqb (length s) (encodedSize w n) (z .size))
+
+  -- the part of s that holds the kinds
+  pub kinds-part : take (2 + n - 2) (drop 2 s) ≡ kindsIn s
+  unfolding kindsIn
+  kinds-part = rw (← z .count, add-sub-cancel-left)
+
+  -- the arguments in the part after it
+  pub args-part : argsFrom w n (take (length s - (2 + n)) (drop (2 + n) s)) ≡ argsIn w s
+  unfolding argsIn
+  args-part = rw (part-to-end, ← z .count)
+
+  pub kinds-length : length (kindsIn s) ≡ n
+  kinds-length = rw (← kinds-part, add-sub-cancel-left) (length-take-le n (drop 2 s) (rw length-drop (omega (arith, z .size, size-parts w n))))
+
+  pub args-length : length (argsIn w s) ≡ n
+  args-length = rw (← args-part, argsFrom-length)
+
+  -- those arguments, read to the front of xs
+  pub args-read : (rest : List ℕ) {xs : List ℕ} → xs ≡ argsFrom w n (take (length s - (2 + n)) (drop (2 + n) s)) ++ rest → take n xs ≡ argsIn w s
+  args-read rest e = rw (e, args-part, take-at (argsIn w s) rest n args-length)
+
+  pub decoding-sized : (deep : ℕ) → decoding w nodes deep s ≡ reading nodes deep (kindsIn s) (argsIn w s)
+  unfolding decoding
+  decoding-sized deep = rw size-fits
+
+-- where the number of nodes is not 0
+pub nodes-some : {w nodes n : ℕ} {s : List ℕ} → n ≡ nodesIn w nodes s → (n ≡ 0 → ⊥) → Sized w nodes n s
+unfolding nodesIn
+nodes-some {w} {nodes} {n} {s} e h = go (sizeFits w nodes s) refl e
+  where
+    go : (b : Bool) → sizeFits w nodes s ≡ b → n ≡ cond b (countIn s) 0 → Sized w nodes n s
+    go true f e = rw e (sized w nodes s f)
+    go false f e = absurd (h e)
+
+-- where it is 0
+pub nodes-none : (w nodes : ℕ) (s : List ℕ) {n : ℕ} → n ≡ nodesIn w nodes s → n ≡ 0 → sizeFits w nodes s ≡ false
+unfolding nodesIn
+nodes-none w nodes s e h = go (sizeFits w nodes s) refl (sym h ∙ e)
+  where
+    go : (b : Bool) → sizeFits w nodes s ≡ b → 0 ≡ cond b (countIn s) 0 → b ≡ false
+    go true f e = absurd (omega (arith, sized w nodes s f .some))
+    go false f e = refl
+
+pub decoding-none : (w nodes deep : ℕ) (s : List ℕ) {n : ℕ} → n ≡ nodesIn w nodes s → n ≡ 0 → decoding w nodes deep s ≡ refused Length
+unfolding decoding
+decoding-none w nodes deep s e h = rw (nodes-none w nodes s e h)
+
+-- ---- what `flat::check` and `check` tell where they answer Valid
+
+-- the two arrays are the flat form of a tree of few enough nodes
+pub record FlatForm (nodes deep : ℕ) (ks xs : List ℕ) : Type 0 where
+  pub tree : DataType
+  pub reads : reading nodes deep ks xs ≡ type tree
+  pub kinds : ks ≡ kindsOf tree
+  pub args : xs ≡ argsOf tree
+  pub kinds-size : length ks ≡ size tree
+  pub args-size : length xs ≡ size tree
+  pub few : size tree ≤ nodes
+
+pub flat-form : {nodes deep : ℕ} {ks xs : List ℕ} {a : Checked} → a ≡ Valid → a ≡ checkedOf (reading nodes deep ks xs) → FlatForm nodes deep ks xs
+flat-form {nodes} {deep} {ks} {xs} v e =
+    let r = checked-type (reading nodes deep ks xs) (sym v ∙ e) in
+    let t = r .0 in
+    let h = holds nodes deep ks xs t (r .1) in
+    record { tree = t; reads = r .1; kinds = h .kinds; args = h .args; kinds-size = ap length (h .kinds) ∙ length-kinds t; args-size = ap length (h .args) ∙ length-args t; few = h .is-type .within }
+
+-- the bytes are those of a tree of n nodes
+pub record EncodedForm (w nodes deep n : ℕ) (s : List ℕ) : Type 0 where
+  pub sized : Sized w nodes n s
+  pub tree : DataType
+  pub reads : decoding w nodes deep s ≡ type tree
+  pub kinds : kindsIn s ≡ kindsOf tree
+  pub args : argsIn w s ≡ argsOf tree
+  pub tree-size : size tree ≡ n
+
+pub encoded-form : {w nodes deep n : ℕ} {s : List ℕ} {a : Checked} → a ≡ Valid → a ≡ checkedOf (decoding w nodes deep s) → n ≡ nodesIn w nodes s → EncodedForm w nodes deep n s
+encoded-form {w} {nodes} {deep} {n} {s} v e c =
+    let r = checked-type (decoding w nodes deep s) (sym v ∙ e) in
+    let t = r .0 in
+    let some : n ≡ 0 → ⊥ = (λ o. let y = sym (decoding-none w nodes deep s c o) ∙ r .1 in let x : _≡_ {A = ℕ} 0 1 = cc in omega arith) in
+    let z = nodes-some {w = w} {nodes = nodes} {s = s} c some in
+    let h = holds nodes deep (kindsIn s) (argsIn w s) t (sym (decoding-sized z deep) ∙ r .1) in
+    record { sized = z; tree = t; reads = r .1; kinds = h .kinds; args = h .args; tree-size = sym (length-kinds t) ∙ ap length (sym (h .kinds)) ∙ kinds-length z }
+
+-- ---- what `decode` and `encode` come to
+
+pub decodes-refused : {r : Reading} {e : Error} {ks xs : List ℕ} → r ≡ refused e → Decodes r ks xs ks xs (Decoded.Refused e)
+unfolding kindsOver argsOver
+decodes-refused h = rw h (record { answers = refl; kinds = refl; args = refl })
+
+-- the two parts of s, over the front of the two arrays
+pub decodes-type : {w nodes deep n : ℕ} {s : List ℕ} {r : Reading} {ks xs ks′ xs′ : List ℕ} (f : EncodedForm w nodes deep n s) → r ≡ type (f .tree)
+    → ks′ ≡ over (take (2 + n - 2) (drop 2 s)) ks → xs′ ≡ argsFrom w n (take (length s - (2 + n)) (drop (2 + n) s)) ++ drop n xs → Decodes r ks xs ks′ xs′ (Decoded.Nodes n)
+unfolding kindsOver argsOver
+decodes-type f h k a =
+    let z = f .sized in
+    rw h (record { answers = ap Decoded.Nodes (sym (f .tree-size)); kinds = rw (← f .kinds, ← kinds-part z) k; args = rw (← f .args, args-length z, ← args-part z) a })
+
+pub encodes-refused : {w : ℕ} {r : Reading} {e : Error} {out : List ℕ} → r ≡ refused e → Encodes w r out out (Encoded.Refused e)
+unfolding bytesOver
+encodes-refused h = rw h (record { answers = refl; bytes = refl })
+
+-- the bytes of the two arrays, over the front of the output
+pub encodes-type : {w nodes deep : ℕ} {r : Reading} {ks xs out out′ : List ℕ} (f : FlatForm nodes deep ks xs) → r ≡ type (f .tree) → out′ ≡ over (encoding w ks xs) out
+    → Encodes w r out out′ (Encoded.Bytes (encodedSize w (length ks)))
+unfolding bytesOver
+encodes-type f h e = rw (h, f .kinds-size) (record { answers = refl; bytes = rw (← f .kinds, ← f .args) e })

@@ -1,0 +1,4 @@
+-- Laws that several proofs of `encoding` cite, what an answer tells, and the two round trips.
+pub mod Laws
+pub mod Answers
+pub mod RoundTrip

@@ -1,0 +1,59 @@
+use borrow.Author.Needs.{needs}
+use borrow.Author.Tests.{le-leb, lt-leb}
+use native.Mathlib.Omega.{arith}
+use mathlib.Core.Path.{_≡_, sym, _∙_}
+use lib.ListN.{length, length-drop}
+use borrow.Rule.Slice.PartAt.{part-to-end}
+use Rattle.flat.specs.Output.{fitting}
+use Rattle.flat.proofs.Meaning.{checked-refused}
+use Rattle.encoding.specs.Encoding.{encodedSize, decoding}
+use Rattle.encoding.proofs.Answers.{encoded-form, decodes-refused, decodes-type}
+use Rattle.encoding.proofs.decode.Statement.{statement}
+use Rattle.encoding.proofs.decode.Tie as tie
+
+-- where the bytes are a type
+right-size : (c : tie.After-node-count) → length (c .before .before .before .before .before .before .before .args .encoded .now) ≡ encodedSize 8 (c .node-count .result)
+right-size c = encoded-form (c .before .enum-told .given .1) (c .before .before .before .check .ensures) (c .node-count .ensures) .sized .size
+
+read-args-requires : tie.Need-read-args-requires
+read-args-requires c κs = rw (part-to-end, length-drop) (omega (arith, right-size (c .before .before .before .before .before .before .before .before .before)))
+
+returns : tie.Need-returns
+unfolding fitting
+returns c =
+    let form = encoded-form (c .before .before .enum-told .given .1) (c .before .before .before .before .check .ensures) (c .before .node-count .ensures) in
+    decodes-refused (rw (form .reads, form .tree-size, lt-leb _ _ (c .if1 .taken)))
+
+returns-2 : tie.Need-returns-2
+unfolding fitting
+returns-2 c =
+    let form = encoded-form (c .before .before .before .enum-told .given .1) (c .before .before .before .before .before .check .ensures) (c .before .before .node-count .ensures) in
+    decodes-refused (rw (form .reads, form .tree-size, le-leb _ _ (c .before .if1 .left), lt-leb _ _ (c .if2 .taken)))
+
+returns-4 : tie.Need-returns-4
+unfolding fitting
+returns-4 c =
+    let at = c .before .before .before .before .before .before .before .before .before .before in
+    let form = encoded-form (at .before .before .before .enum-told .given .1) (at .before .before .before .before .before .check .ensures) (at .before .before .node-count .ensures) in
+    decodes-type form
+    (rw (form .reads, form .tree-size, le-leb _ _ (at .before .if1 .left), le-leb _ _ (at .if2 .left)))
+    (c .before .before .before .before .before .before .before .copy .ensures) (c .before .before .read-args .ensures)
+
+-- where they are none
+returns-3 : tie.Need-returns-3
+unfolding fitting
+returns-3 c = decodes-refused (rw (checked-refused (decoding _ _ _ _) _ (sym (c .before .e .given .1) ∙ c .before .before .before .check .ensures)))
+
+pub decode-spec : {M : Type 1} → statement M
+decode-spec =
+    tie.close
+    (tie.spec
+    (λ c κs. search needs) (λ c. search needs) (λ c. search needs) (λ c κs. search needs)
+    returns
+    returns-2
+    (λ c. search needs) (λ c. search needs) (λ c. search needs) (λ c. omega (arith, right-size (c .before .before))) (λ c κs. search needs)
+    (λ c. omega (arith, right-size (c .before .before .before .before .before .before .before))) (λ c. omega (arith, right-size (c .before .before .before .before .before .before .before))) (λ c. search needs)
+    read-args-requires
+    returns-3
+    (λ c. search needs) (λ c. search needs)
+    returns-4)

@@ -1,0 +1,51 @@
+//! `bench [--shapes]`: nanoseconds a call, the proved code beside the plain Rust, on the same inputs.
+//!
+//! Both are built for release and called through a slice interface; outputs are exactly long enough and not cleared
+//! between calls. A ratio below 1 says that the proved code is the faster one. `--shapes` adds inputs of other shapes.
+
+#![forbid(unsafe_code)]
+
+mod inputs;
+mod timing;
+
+use std::env;
+use std::hint::black_box;
+use timing::best;
+use trials::flat::Flat;
+
+fn main() {
+    println!("{:<28} {:>5}  {:<6} {:>9} {:>9} {:>6}", "input", "nodes", "call", "proved ns", "plain ns", "ratio");
+    let mut inputs = inputs::schemas().to_vec();
+    if env::args().any(|word| word == "--shapes") {
+        inputs.extend(inputs::shapes());
+    }
+    for (name, flat) in &inputs {
+        for (call, time) in [("check", check as fn(&Flat) -> (f64, f64)), ("decode", decode), ("encode", encode)] {
+            let ((proved, plain), nodes) = (time(flat), flat.kinds.len());
+            println!("{name:<28} {nodes:>5}  {call:<6} {proved:>9.1} {plain:>9.1} {:>6.2}", proved / plain);
+        }
+    }
+}
+
+fn check(flat: &Flat) -> (f64, f64) {
+    let encoded = &flat.laid_out();
+    best(|| lomzegash::check(black_box(encoded)).is_ok(), || plain::check_encoded(black_box(encoded)).is_ok())
+}
+
+fn decode(flat: &Flat) -> (f64, f64) {
+    let encoded = &flat.laid_out();
+    let [mut to, mut other] = [flat.clone(), flat.clone()];
+    best(
+        || lomzegash::decode(black_box(encoded), black_box(&mut to.kinds), black_box(&mut to.args)).is_ok(),
+        || plain::decode(black_box(encoded), black_box(&mut other.kinds), black_box(&mut other.args)).is_ok(),
+    )
+}
+
+fn encode(flat: &Flat) -> (f64, f64) {
+    let Flat { kinds, args } = flat;
+    let [mut out, mut other] = [flat.laid_out(), flat.laid_out()];
+    best(
+        || lomzegash::encode(black_box(kinds), black_box(args), black_box(&mut out)).is_ok(),
+        || plain::encode(black_box(kinds), black_box(args), black_box(&mut other)).is_ok(),
+    )
+}

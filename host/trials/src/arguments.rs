@@ -1,0 +1,62 @@
+//! Arguments to try at each kind.
+
+use crate::random::Random;
+use lomzegash::kind::{ARRAY, DATETIME, DECIMAL, DURATION, DYN_NEGATIVE, DYN_NONNEGATIVE, FIELD, STRUCT};
+
+const UP_TO_32_BITS: u64 = (1 << 32) - 1;
+
+/// Arguments on both sides of every bound of a kind's rule.
+pub fn boundaries(kind: u8) -> &'static [u64] {
+    match kind {
+        DECIMAL => &[
+            0,
+            1,
+            38,
+            39,
+            256,
+            256 + 1,
+            2 * 256 + 1,
+            38 * 256 + 37,
+            38 * 256 + 38,
+            39 * 256 + 38,
+            39 * 256 + 39,
+            (1 << 16) + 1,
+            (1 << 32) + 1,
+            u64::MAX,
+        ],
+        DATETIME => &[
+            0,
+            1,
+            2,
+            3,
+            4,
+            7,
+            4 * UP_TO_32_BITS + 2,
+            4 * UP_TO_32_BITS + 3,
+            4 * (UP_TO_32_BITS + 1),
+            1 << 63,
+            u64::MAX,
+        ],
+        DURATION => &[0, 1, 2, 3, 256, u64::MAX],
+        DYN_NONNEGATIVE | DYN_NEGATIVE | ARRAY => &[0, 1, u64::MAX],
+        STRUCT => &[0, 1, 2, 3, 255, 256, 257, u64::MAX],
+        FIELD => &[0, 1, UP_TO_32_BITS, UP_TO_32_BITS + 1, u64::MAX],
+        0..=FIELD => &[0, 1, u64::MAX],
+        _ => &[0],
+    }
+}
+
+/// An argument that keeps its kind's rule, where the kind is no Struct.
+pub fn valid(kind: u8, random: &mut Random) -> u64 {
+    match kind {
+        DECIMAL => {
+            let precision = random.between(1, 38);
+            (256 * random.between(0, precision) + precision) as u64
+        }
+        DATETIME => 4 * (random.number() & UP_TO_32_BITS) + random.below(3) as u64,
+        DURATION => random.below(3) as u64,
+        DYN_NONNEGATIVE | DYN_NEGATIVE | ARRAY => random.number() >> random.below(64),
+        FIELD => random.number() & UP_TO_32_BITS,
+        _ => 0,
+    }
+}

@@ -1,0 +1,79 @@
+/*
+ * lomzegash: the C interface of the proved library (archive libcapi.a).
+ *
+ * A flat type is a type as a tree in preorder: two arrays of equal length, one
+ * kind (8 bits) and one argument (64 bits) for each node. An encoded type is the
+ * same in bytes: the number of nodes n (2 bytes, low byte first), n kinds, then n
+ * arguments of 8 bytes each, low byte first: 2 + 9 * n bytes.
+ *
+ * Every array passes as a pointer and its number of elements. An array of length 0
+ * may have any pointer, null included. An output never overlaps an input or another
+ * output. No function keeps a pointer, allocates or has state of its own.
+ */
+#ifndef LOMZEGASH_H
+#define LOMZEGASH_H
+
+#include <stddef.h>
+#include <stdint.h>
+
+#ifdef __cplusplus
+extern "C" {
+#endif
+
+/* Why a call is refused. Of several numbers that apply the lowest is given; each of
+ * 1 to 5 looks at the whole type before the next. */
+enum lz_error {
+    LZ_OK = 0,
+    LZ_LENGTH = 1,               /* no node, too many nodes, a flat type's two lengths differ, or
+                                    an encoded type's length is under 2 or not 2 + 9 * n */
+    LZ_KIND = 2,                 /* a kind above 31 */
+    LZ_ARGUMENT = 3,             /* an argument outside its kind's rule */
+    LZ_SHAPE = 4,                /* the nodes don't form exactly one type */
+    LZ_DEPTH = 5,                /* a node with too many nodes above it */
+    LZ_NESTED = 6,               /* a nested type in a supertype call */
+    LZ_UNKNOWN = 7,              /* an unknown type that is not allowed where types are materialised */
+    LZ_OUTPUT_TOO_SHORT = 8,     /* an output shorter than the result */
+    LZ_CHANNEL = 9,              /* no such channel */
+    LZ_CHANNEL_CODE = 10,        /* the channel holds neither 0 nor 2 to 11 */
+    LZ_NOT_AN_INTEGER = 11,      /* the type is no integer type, codes 2 to 11 */
+    LZ_NO_UPCAST = 12,           /* no integer type holds the channel's numbers and the new type's */
+    LZ_DECIMAL_WITH_INTEGER = 13 /* a Decimal with an integer type in a supertype call */
+};
+
+/* The answer of every function here. A refused call has value 0. */
+typedef struct {
+    uint64_t number; /* 0, or the number of the refusal */
+    uint64_t value;  /* what the function says it is */
+} lz_reply;
+
+/*
+ * Checks an encoded type.
+ * Refused by 1 to 5. The value is 0. Nothing is written.
+ */
+lz_reply lz_check(const uint8_t *encoded, size_t encoded_len);
+
+/*
+ * Decodes an encoded type of n nodes into kinds and args.
+ * Refused by 1 to 5, then by 8 where kinds_len or args_len is below n. The value is
+ * n: so many elements of each array are written, the others keep what they held.
+ * A refused call writes nothing.
+ */
+lz_reply lz_decode(const uint8_t *encoded, size_t encoded_len,
+                   uint8_t *kinds, size_t kinds_len,
+                   uint64_t *args, size_t args_len);
+
+/*
+ * Encodes a flat type of n nodes into out.
+ * Refused by 1 to 5, then by 8 where out_len is below 2 + 9 * n. The value is
+ * 2 + 9 * n: so many bytes of out are written, the others keep what they held.
+ * A refused call writes nothing.
+ */
+lz_reply lz_encode(const uint8_t *kinds, size_t kinds_len,
+                   const uint64_t *args, size_t args_len,
+                   uint8_t *out, size_t out_len);
+
+#ifdef __cplusplus
+}
+#endif
+
+#endif /* LOMZEGASH_H */
