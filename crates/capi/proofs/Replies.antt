@@ -1,45 +1,59 @@
 -- What the answers of the proved functions come to as replies. Assumes nothing.
-use mathlib.Core.Path.{_≡_, refl, sym, ap, _∙_}
+use mathlib.Core.Path.{_≡_, sym, ap, _∙_}
 use mathlib.Core.List.{List}
 use Prim.Native.Nat.{ℕ}
 use native.Mathlib.Omega.{arith}
-use Rattle.flat.specs.Refusal.{numberOf}
 use Rattle.flat.specs.Tree.{DataType, size}
 use Rattle.flat.specs.Reading.{Reading, refused, type, checkedOf}
 use Rattle.flat.specs.declared.error.Error.{Error}
 use Rattle.flat.specs.declared.Checked.{Checked}
+use Rattle.flat.proofs.Meaning.{checked-type, checked-refused}
 use Rattle.encoding.specs.Encoding.{encodedSize}
-use Rattle.encoding.specs.Answer.{decodedOf, encodedOf}
+use Rattle.encoding.specs.Answer.{decodedOf, Decodes, encodedOf, Encodes}
 use Rattle.encoding.specs.declared.Decoded.{Decoded}
 use Rattle.encoding.specs.declared.Encoded.{Encoded}
-use Rattle.capi.specs.Reply.{replyOf, checkReply}
+use Rattle.capi.specs.Reply.{replyOf, checkReply, DecodeReply, EncodeReply}
 use Rattle.capi.specs.declared.Reply.{Reply}
 
-pub valid-reply : (r : Reading) → Checked.Valid ≡ checkedOf r → record { number = 0; value = 0 } ≡ checkReply r
-valid-reply (refused e) q = absurd (let z : _≡_ {A = ℕ} 0 1 = cc in omega arith)
-valid-reply (type t) q = refl
+-- a refusal's reply is the same of every call
+of-refusal : (value : DataType → ℕ) {e : Error} {a : Reply} {r : Reading} → a ≡ checkReply (refused e) → r ≡ refused e → a ≡ replyOf value r
+of-refusal value h q = h ∙ ap (replyOf value) (sym q)
 
-pub nodes-reply : (r : Reading) (n : ℕ) → Decoded.Nodes n ≡ decodedOf r → record { number = 0; value = n } ≡ replyOf size r
-nodes-reply (refused e) n q = absurd (let z : _≡_ {A = ℕ} 0 1 = cc in omega arith)
-nodes-reply (type t) n q = let y : n ≡ size t = cc in λ i. record { number = 0; value = y i }
+-- ---- lz_check
+pub check-valid : (r : Reading) → Checked.Valid ≡ checkedOf r → record { number = 0; value = 0 } ≡ checkReply r
+check-valid r q = ap checkReply (sym (checked-type r q .1))
 
-pub bytes-reply : (w : ℕ) (r : Reading) (n : ℕ) → Encoded.Bytes n ≡ encodedOf w r → record { number = 0; value = n } ≡ replyOf (λ t. encodedSize w (size t)) r
-bytes-reply w (refused e) n q = absurd (let z : _≡_ {A = ℕ} 0 1 = cc in omega arith)
-bytes-reply w (type t) n q = let y : n ≡ encodedSize w (size t) = cc in λ i. record { number = 0; value = y i }
+pub check-refused : (r : Reading) (e : Error) {a : Reply} → Checked.Refused e ≡ checkedOf r → a ≡ checkReply (refused e) → a ≡ checkReply r
+check-refused r e q h = of-refusal (λ t. 0) h (checked-refused r e q)
 
--- a refusal has no value, whatever the call
-module _ (value : DataType → ℕ) (e : Error) (a : Reply) (h : a ≡ checkReply (refused e)) where
-  of-refusal : (r : Reading) → r ≡ refused e → a ≡ replyOf value r
-  of-refusal r q = h ∙ ap (replyOf value) (sym q)
+-- ---- lz_decode
+module _ {r : Reading} {ks xs ks′ xs′ : List ℕ} {d : Decoded} (f : Decodes r ks xs ks′ xs′ d) where
+  pub decode-nodes : {n : ℕ} → d ≡ Decoded.Nodes n → DecodeReply r ks xs ks′ xs′ (record { number = 0; value = n })
+  decode-nodes {n} q = record { replies = go r (sym q ∙ f .answers); kinds = f .kinds; args = f .args }
+    where
+      go : (r : Reading) → Decoded.Nodes n ≡ decodedOf r → record { number = 0; value = n } ≡ replyOf size r
+      go (refused e) q = absurd (let z : _≡_ {A = ℕ} 0 1 = cc in omega arith)
+      go (type t) q = let y : n ≡ size t = cc in λ i. record { number = 0; value = y i }
 
-  pub check-refused : (r : Reading) → Checked.Refused e ≡ checkedOf r → a ≡ replyOf value r
-  check-refused (refused d) q = of-refusal (refused d) (let y : d ≡ e = cc in ap refused y)
-  check-refused (type t) q = absurd (let z : _≡_ {A = ℕ} 0 1 = cc in omega arith)
+  pub decode-refused : {e : Error} {a : Reply} → d ≡ Decoded.Refused e → a ≡ checkReply (refused e) → DecodeReply r ks xs ks′ xs′ a
+  decode-refused {e} q h = record { replies = of-refusal size h (go r (sym q ∙ f .answers)); kinds = f .kinds; args = f .args }
+    where
+      go : (r : Reading) → Decoded.Refused e ≡ decodedOf r → r ≡ refused e
+      go (refused d) q = let y : d ≡ e = cc in ap refused y
+      go (type t) q = absurd (let z : _≡_ {A = ℕ} 0 1 = cc in omega arith)
 
-  pub decode-refused : (r : Reading) → Decoded.Refused e ≡ decodedOf r → a ≡ replyOf value r
-  decode-refused (refused d) q = of-refusal (refused d) (let y : d ≡ e = cc in ap refused y)
-  decode-refused (type t) q = absurd (let z : _≡_ {A = ℕ} 0 1 = cc in omega arith)
+-- ---- lz_encode
+module _ {w : ℕ} {r : Reading} {out out′ : List ℕ} {d : Encoded} (f : Encodes w r out out′ d) where
+  pub encode-bytes : {n : ℕ} → d ≡ Encoded.Bytes n → EncodeReply w r out out′ (record { number = 0; value = n })
+  encode-bytes {n} q = record { replies = go r (sym q ∙ f .answers); bytes = f .bytes }
+    where
+      go : (r : Reading) → Encoded.Bytes n ≡ encodedOf w r → record { number = 0; value = n } ≡ replyOf (λ t. encodedSize w (size t)) r
+      go (refused e) q = absurd (let z : _≡_ {A = ℕ} 0 1 = cc in omega arith)
+      go (type t) q = let y : n ≡ encodedSize w (size t) = cc in λ i. record { number = 0; value = y i }
 
-  pub encode-refused : (w : ℕ) (r : Reading) → Encoded.Refused e ≡ encodedOf w r → a ≡ replyOf value r
-  encode-refused w (refused d) q = of-refusal (refused d) (let y : d ≡ e = cc in ap refused y)
-  encode-refused w (type t) q = absurd (let z : _≡_ {A = ℕ} 0 1 = cc in omega arith)
+  pub encode-refused : {e : Error} {a : Reply} → d ≡ Encoded.Refused e → a ≡ checkReply (refused e) → EncodeReply w r out out′ a
+  encode-refused {e} q h = record { replies = of-refusal (λ t. encodedSize w (size t)) h (go r (sym q ∙ f .answers)); bytes = f .bytes }
+    where
+      go : (r : Reading) → Encoded.Refused e ≡ encodedOf w r → r ≡ refused e
+      go (refused d) q = let y : d ≡ e = cc in ap refused y
+      go (type t) q = absurd (let z : _≡_ {A = ℕ} 0 1 = cc in omega arith)
