@@ -2,10 +2,11 @@
 pub mod bytes;
 
 ghost use mathlib.Core.Path.{_≡_};
+ghost use Prim.Native.Nat.{_≤_};
 ghost use lib.ListN.{length};
 ghost use Rattle.flat.specs.Reading.{reading, checkedOf};
-ghost use Rattle.flat.specs.Output.{fitting};
-ghost use Rattle.encoding.specs.Encoding.{decoding};
+ghost use Rattle.flat.specs.Output.{over, fitting};
+ghost use Rattle.encoding.specs.Encoding.{argsIn, decoding};
 ghost use Rattle.encoding.specs.Answer.{nodesIn, Decodes, fittingBytes, Encodes};
 use flat::Checked;
 use flat::Flat;
@@ -16,6 +17,9 @@ pub struct Encoding {}
 
 impl Encoding {
     pub const ARGUMENT_BYTES: usize = 8;
+
+    // A type of so few nodes is checked with a small array: a large one takes longer to clear than to use.
+    const FEW: usize = 32;
 }
 
 // What decoding answers: the number of nodes written.
@@ -53,7 +57,24 @@ pub fn node_count(encoded: &[u8]) -> usize
     n
 }
 
-// Whether bytes are an encoded type. One node needs no room for its argument.
+// Checks an encoded type of n nodes, with room for its arguments.
+fn check_with(encoded: &[u8], n: usize, args: &mut [u64]) -> Checked
+    requires { do
+      nodes ← ⟦Flat::MAX_NODES⟧
+      w ← ⟦Encoding::ARGUMENT_BYTES⟧
+      ⌜ (n ≡ nodesIn w nodes (now encoded)) × (n ≡ 0 → ⊥) × (n ≤ length (now args)) ⌝ }
+    ensures { λ r. do
+      nodes ← ⟦Flat::MAX_NODES⟧ .entry
+      deep ← ⟦Flat::MAX_DEPTH⟧ .entry
+      w ← ⟦Encoding::ARGUMENT_BYTES⟧ .entry
+      ⌜ (r ≡ checkedOf (decoding w nodes deep (now (encoded .entry)))) × (now (args .exit) ≡ over (argsIn w (now (encoded .entry))) (now (args .entry))) ⌝ }
+{
+    let m = 2 + n;
+    bytes::read_args(&encoded[m..], n, args);
+    flat::check(&encoded[2..m], &args[..n])
+}
+
+// Whether bytes are an encoded type.
 pub fn check(encoded: &[u8]) -> Checked
     ensures { λ r. do
       nodes ← ⟦Flat::MAX_NODES⟧ .entry
@@ -66,13 +87,14 @@ pub fn check(encoded: &[u8]) -> Checked
         return Checked::Refused(Error::Length);
     }
     if n == 1 {
-        let one = [bytes::word(encoded, 3)];
-        return flat::check(&encoded[2..3], &one);
+        return flat::check_one(encoded[2], bytes::word(encoded, 3));
     }
-    let m = 2 + n;
-    let mut args = [0u64; Flat::MAX_NODES];
-    bytes::read_args(&encoded[m..], n, &mut args);
-    flat::check(&encoded[2..m], &args[..n])
+    if n <= Encoding::FEW {
+        let mut few = [0u64; Encoding::FEW];
+        return check_with(encoded, n, &mut few);
+    }
+    let mut many = [0u64; Flat::MAX_NODES];
+    check_with(encoded, n, &mut many)
 }
 
 // Decodes a type to the front of kinds and args: refusals 1 to 5, then 8.

@@ -1,27 +1,30 @@
 -- Which answer each way out of the check gives. Assumes nothing.
-use mathlib.Core.Path.{_≡_, sym}
-use mathlib.Core.Bool.{true, false}
-use mathlib.Core.List.{List}
-use mathlib.Core.Option.{Option}
+use mathlib.Core.Path.{_≡_, refl, sym, ap, ap₂, _∙_}
+use mathlib.Core.Bool.{Bool, true, false}
+use mathlib.Core.List.{List, [], _∷_}
+use mathlib.Core.Option.{Option, none, some}
 use Prim.Native.Nat.{ℕ, _≤_, _<_}
 use native.Mathlib.Omega.{arith}
 use borrow.Author.Tests.{le-leb, lt-leb, lt-ltb, le-ltb, eq-eqb, ne-eqb}
 use lib.ListN.{length, getD}
 use Rattle.flat.specs.Kind
-use Rattle.flat.specs.Tree.{DataType}
-use Rattle.flat.specs.Reader.{nodeAt}
+use Rattle.flat.specs.Argument.{argumentFits}
+use Rattle.flat.specs.Tree.{DataType, leaf, list, array, struct, empty, size, depth}
+use Rattle.flat.specs.Reader.{Children, no-child, under-list, under-array, fields, no-type, children, mapO, underNode, nodeAt, fieldsAt}
 use Rattle.flat.specs.Reading.{lengthFits, kindsFit, argumentsFit, shaped, reading, checkedOf}
 use Rattle.flat.specs.Span.{spanOf}
 use Rattle.flat.specs.declared.span.Span.the-variants.{Ends, Broken}
 use Rattle.flat.specs.declared.error.Error.the-variants.{Length, Kind, Argument, Shape, Depth}
 use Rattle.flat.specs.declared.Checked.the-variants.{Valid, Refused}
 use Rattle.flat.proofs.Scans.{arguments-kinds}
-use Rattle.flat.proofs.Spans.{ended, broken, leaf-span}
+use Rattle.flat.proofs.ReadBack.{View, is-leaf, is-list, is-array, is-struct, is-other, view}
+use Rattle.flat.proofs.Positions.{node-at, node-end, children-leaf, children-struct, fields-zero, fields-end}
+use Rattle.flat.proofs.Spans.{ended, broken}
 
 -- 4 and 5, from the walk's answer
 module _ (deep l : ℕ) (p : Option DataType) where
-  pub no-type : Broken ≡ spanOf p → Refused Shape ≡ checkedOf (shaped deep l p)
-  no-type e = rw (broken p e)
+  pub no-tree : Broken ≡ spanOf p → Refused Shape ≡ checkedOf (shaped deep l p)
+  no-tree e = rw (broken p e)
 
   module _ (n d : ℕ) (e : Ends n d ≡ spanOf p) where
     pub not-all : (n ≡ l → ⊥) → Refused Shape ≡ checkedOf (shaped deep l p)
@@ -33,10 +36,6 @@ module _ (deep l : ℕ) (p : Option DataType) where
 
       pub one-type : d ≤ deep → Valid ≡ checkedOf (shaped deep l p)
       one-type g = let t = ended p n d e in rw (t .1, ← t .2, ← t .3, eq-eqb n l h, le-leb d deep g)
-
--- one leaf
-pub one-leaf : (deep : ℕ) (ks xs : List ℕ) → length ks ≡ length xs → length ks ≡ 1 → getD ks 0 0 < Kind.List → Valid ≡ checkedOf (shaped deep (length ks) (nodeAt ks xs))
-one-leaf deep ks xs e o h = one-type deep (length ks) (nodeAt ks xs) 1 0 (leaf-span ks xs (omega arith) (omega arith) h) (sym o) (omega arith)
 
 -- 1 to 3, and then the rest
 module _ (nodes deep : ℕ) (ks xs : List ℕ) where
@@ -72,3 +71,52 @@ module _ (nodes deep : ℕ) (ks xs : List ℕ) where
         pub fit-nodes : argumentsFit ks xs ≡ true → checkedOf (shaped deep (length ks) (nodeAt ks xs)) ≡ checkedOf (reading nodes deep ks xs)
         unfolding reading
         fit-nodes a = rw (fits, arguments-kinds ks xs e a, a)
+
+-- ---- one node
+module _ (nodes deep k a : ℕ) (h : 1 ≤ nodes) where
+  fits-alone : (b : Bool) → argumentFits k a ≡ b → argumentsFit (k ∷ []) (a ∷ []) ≡ b
+  unfolding argumentsFit
+  fits-alone true e = rw e
+  fits-alone false e = rw e
+
+  pub one-bad-kind : Kind.Field < k → Refused Kind ≡ checkedOf (reading nodes deep (k ∷ []) (a ∷ []))
+  unfolding kindsFit
+  one-bad-kind g = bad-kind nodes deep (k ∷ []) (a ∷ []) refl (omega arith) h (rw (lt-leb k Kind.Field g))
+
+  pub one-bad-argument : k ≤ Kind.Field → argumentFits k a ≡ false → Refused Argument ≡ checkedOf (reading nodes deep (k ∷ []) (a ∷ []))
+  unfolding kindsFit
+  one-bad-argument g e = bad-argument nodes deep (k ∷ []) (a ∷ []) refl (omega arith) h (rw (le-leb k Kind.Field g)) (fits-alone false e)
+
+  module _ (e : argumentFits k a ≡ true) where
+    alone : (p : Option DataType) → nodeAt (k ∷ []) (a ∷ []) ≡ p → checkedOf (shaped deep 1 p) ≡ checkedOf (reading nodes deep (k ∷ []) (a ∷ []))
+    alone p q = ap (λ (r : Option DataType). checkedOf (shaped deep 1 r)) (sym q) ∙ fit-nodes nodes deep (k ∷ []) (a ∷ []) refl (omega arith) h (fits-alone true e)
+
+    pub one-leaf : k < Kind.List → Valid ≡ checkedOf (reading nodes deep (k ∷ []) (a ∷ []))
+    unfolding size depth
+    one-leaf l = rw (le-leb 0 deep (omega arith)) at (alone (some (leaf k a)) (node-at (k ∷ []) (a ∷ []) 0 (omega arith) (omega arith) no-child (children-leaf k a (omega arith))))
+
+    pub one-struct : k ≡ Kind.Struct → a ≡ 0 → Valid ≡ checkedOf (reading nodes deep (k ∷ []) (a ∷ []))
+    unfolding size depth
+    one-struct s z = rw (le-leb 0 deep (omega arith)) at (alone (some (struct empty)) (node-at (k ∷ []) (a ∷ []) 0 (omega arith) (omega arith) fields (children-struct k a s) ∙ ap (mapO struct) (ap (λ (i : ℕ). fieldsAt i [] []) z ∙ fields-zero [] [])))
+
+    pub one-short-struct : k ≡ Kind.Struct → (a ≡ 0 → ⊥) → Refused Shape ≡ checkedOf (reading nodes deep (k ∷ []) (a ∷ []))
+    one-short-struct s z = alone none (node-at (k ∷ []) (a ∷ []) 0 (omega arith) (omega arith) fields (children-struct k a s) ∙ ap (mapO struct) (fields-end a [] [] (omega arith) refl))
+
+    pub one-other : Kind.UnknownIntNeg < k → (k ≡ Kind.Struct → ⊥) → Refused Shape ≡ checkedOf (reading nodes deep (k ∷ []) (a ∷ []))
+    one-other l s = alone none (node-at (k ∷ []) (a ∷ []) 0 (omega arith) (omega arith) (children k a) refl ∙ go (children k a) (view k a) l s)
+      where
+        go : {j b : ℕ} (c : Children) → View j b c → Kind.UnknownIntNeg < j → (j ≡ Kind.Struct → ⊥) → underNode nodeAt fieldsAt c j b [] [] ≡ none
+        go no-child (is-leaf i) l s = absurd (omega arith)
+        go under-list is-list l s = ap (mapO list) (node-end [] [] refl)
+        go under-array (is-array {a = b}) l s = ap (mapO (array b)) (node-end [] [] refl)
+        go fields is-struct l s = absurd (s refl)
+        go no-type is-other l s = refl
+
+-- two arrays of one element
+single : (l : List ℕ) → length l ≡ 1 → (getD l 0 0 ∷ []) ≡ l
+single [] e = absurd (omega arith)
+single (x ∷ []) e = refl
+single (x ∷ (y ∷ l)) e = absurd (omega arith)
+
+pub one-node : (nodes deep : ℕ) (ks xs : List ℕ) → length ks ≡ length xs → length ks ≡ 1 → checkedOf (reading nodes deep (getD ks 0 0 ∷ []) (getD xs 0 0 ∷ [])) ≡ checkedOf (reading nodes deep ks xs)
+one-node nodes deep ks xs e o = ap₂ (λ (k x : List ℕ). checkedOf (reading nodes deep k x)) (single ks o) (single xs (sym e ∙ o))

@@ -166,11 +166,6 @@ module _ (ks xs : List ℕ) (s n b : ℕ) (e : b ≡ s + n) (w : n ≡ wrappersO
         go none = refl
         go (some fs) = ap (λ (i : ℕ). Ends i (n + depths fs)) (let z : n + 1 + sizes fs ≡ n + suc (sizes fs) = omega arith in z)
 
--- a leaf at the front
-pub leaf-span : (ks xs : List ℕ) → 0 < length ks → 0 < length xs → getD ks 0 0 < Kind.List → Ends 1 0 ≡ spanOf (nodeAt ks xs)
-unfolding size depth
-leaf-span ks xs h h′ k = sym (ap spanOf (node-at ks xs 0 h h′ no-child (children-leaf _ _ (omega arith))))
-
 -- ---- the field walk
 -- the answer for fields of which some are done: n nodes, as deep as d, stand before the others
 abbrev after : ℕ → ℕ → Option Fields → Span

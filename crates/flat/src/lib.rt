@@ -5,7 +5,7 @@ pub mod kind;
 pub mod span;
 
 ghost use mathlib.Core.Path.{_≡_};
-ghost use Prim.Native.Nat.{_<_};
+ghost use mathlib.Core.List.{_∷_, []};
 ghost use lib.ListN.{length};
 ghost use Rattle.flat.specs.Reader.{nodeAt};
 ghost use Rattle.flat.specs.Reading.{kindsFit, argumentsFit, shaped, reading, checkedOf};
@@ -56,18 +56,13 @@ fn arguments_fit(kinds: &[u8], args: &[u64]) -> bool
     true
 }
 
-// Refusals 4 and 5. A leaf alone needs no walk.
+// Refusals 4 and 5.
 fn check_shape(kinds: &[u8], args: &[u64]) -> Checked
-    requires { ⌜ (length (now kinds) ≡ length (now args)) × (0 < length (now kinds)) ⌝ }
+    requires { ⌜ length (now kinds) ≡ length (now args) ⌝ }
     ensures { λ r. do
       deep ← ⟦Flat::MAX_DEPTH⟧ .entry
       ⌜ r ≡ checkedOf (shaped deep (length (now (kinds .entry))) (nodeAt (now (kinds .entry)) (now (args .entry)))) ⌝ }
 {
-    if kinds.len() == 1 {
-        if kinds[0] < Kind::LIST {
-            return Checked::Valid;
-        }
-    }
     match span::node_span(kinds, args) {
         Span::Ends(n, depth) => {
             if n != kinds.len() {
@@ -79,6 +74,32 @@ fn check_shape(kinds: &[u8], args: &[u64]) -> Checked
             Checked::Valid
         }
         Span::Broken => Checked::Refused(Error::Shape),
+    }
+}
+
+// Whether one node is a type, without a walk.
+pub fn check_one(kind: u8, arg: u64) -> Checked
+    ensures { λ r. do
+      nodes ← ⟦Flat::MAX_NODES⟧ .entry
+      deep ← ⟦Flat::MAX_DEPTH⟧ .entry
+      ⌜ r ≡ checkedOf (reading nodes deep (kind ∷ []) (arg ∷ [])) ⌝ }
+{
+    if !argument_fits(kind, arg) {
+        if kind > Kind::FIELD {
+            return Checked::Refused(Error::Kind);
+        }
+        return Checked::Refused(Error::Argument);
+    }
+    match kind {
+        Kind::NULL..=Kind::UNKNOWN_INT_NEG => Checked::Valid,
+        Kind::STRUCT => {
+            if arg == 0 {
+                Checked::Valid
+            } else {
+                Checked::Refused(Error::Shape)
+            }
+        }
+        _ => Checked::Refused(Error::Shape),
     }
 }
 
@@ -97,6 +118,9 @@ pub fn check(kinds: &[u8], args: &[u64]) -> Checked
     }
     if kinds.len() > Flat::MAX_NODES {
         return Checked::Refused(Error::Length);
+    }
+    if kinds.len() == 1 {
+        return check_one(kinds[0], args[0]);
     }
     // an argument fits no code above 31, so one scan serves both where all is well
     if !arguments_fit(kinds, args) {
