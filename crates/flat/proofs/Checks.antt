@@ -1,5 +1,5 @@
 -- Which answer each way out of the check gives. Assumes nothing.
-use mathlib.Core.Path.{_≡_, refl, sym, ap, ap₂, _∙_}
+use mathlib.Core.Path.{_≡_, refl, sym, ap, _∙_}
 use mathlib.Core.Bool.{Bool, true, false}
 use mathlib.Core.List.{List, [], _∷_}
 use mathlib.Core.Option.{Option, none, some}
@@ -36,6 +36,11 @@ module _ (deep l : ℕ) (p : Option DataType) where
 
       pub one-type : d ≤ deep → Valid ≡ checkedOf (shaped deep l p)
       one-type g = let t = ended p n d e in rw (t .1, ← t .2, ← t .3, eq-eqb n l h, le-leb d deep g)
+
+-- a leaf alone
+pub leaf-alone : (deep : ℕ) (ks xs : List ℕ) → length ks ≡ length xs → length ks ≡ 1 → getD ks 0 0 < Kind.List → Valid ≡ checkedOf (shaped deep (length ks) (nodeAt ks xs))
+unfolding size depth
+leaf-alone deep ks xs e o h = rw (node-at ks xs 0 (omega arith) (omega arith) no-child (children-leaf _ _ (omega arith)), eq-eqb 1 (length ks) (sym o), le-leb 0 deep (omega arith))
 
 -- 1 to 3, and then the rest
 module _ (nodes deep : ℕ) (ks xs : List ℕ) where
@@ -111,12 +116,3 @@ module _ (nodes deep k a : ℕ) (h : 1 ≤ nodes) where
         go under-array (is-array {a = b}) l s = ap (mapO (array b)) (node-end [] [] refl)
         go fields is-struct l s = absurd (s refl)
         go no-type is-other l s = refl
-
--- two arrays of one element
-single : (l : List ℕ) → length l ≡ 1 → (getD l 0 0 ∷ []) ≡ l
-single [] e = absurd (omega arith)
-single (x ∷ []) e = refl
-single (x ∷ (y ∷ l)) e = absurd (omega arith)
-
-pub one-node : (nodes deep : ℕ) (ks xs : List ℕ) → length ks ≡ length xs → length ks ≡ 1 → checkedOf (reading nodes deep (getD ks 0 0 ∷ []) (getD xs 0 0 ∷ [])) ≡ checkedOf (reading nodes deep ks xs)
-one-node nodes deep ks xs e o = ap₂ (λ (k x : List ℕ). checkedOf (reading nodes deep k x)) (single ks o) (single xs (sym e ∙ o))

@@ -6,6 +6,7 @@ pub mod span;
 
 ghost use mathlib.Core.Path.{_≡_};
 ghost use mathlib.Core.List.{_∷_, []};
+ghost use Prim.Native.Nat.{_<_};
 ghost use lib.ListN.{length};
 ghost use Rattle.flat.specs.Reader.{nodeAt};
 ghost use Rattle.flat.specs.Reading.{kindsFit, argumentsFit, shaped, reading, checkedOf};
@@ -56,13 +57,18 @@ fn arguments_fit(kinds: &[u8], args: &[u64]) -> bool
     true
 }
 
-// Refusals 4 and 5.
+// Refusals 4 and 5. A leaf alone needs no walk.
 fn check_shape(kinds: &[u8], args: &[u64]) -> Checked
-    requires { ⌜ length (now kinds) ≡ length (now args) ⌝ }
+    requires { ⌜ (length (now kinds) ≡ length (now args)) × (0 < length (now kinds)) ⌝ }
     ensures { λ r. do
       deep ← ⟦Flat::MAX_DEPTH⟧ .entry
       ⌜ r ≡ checkedOf (shaped deep (length (now (kinds .entry))) (nodeAt (now (kinds .entry)) (now (args .entry)))) ⌝ }
 {
+    if kinds.len() == 1 {
+        if kinds[0] < Kind::LIST {
+            return Checked::Valid;
+        }
+    }
     match span::node_span(kinds, args) {
         Span::Ends(n, depth) => {
             if n != kinds.len() {
@@ -118,9 +124,6 @@ pub fn check(kinds: &[u8], args: &[u64]) -> Checked
     }
     if kinds.len() > Flat::MAX_NODES {
         return Checked::Refused(Error::Length);
-    }
-    if kinds.len() == 1 {
-        return check_one(kinds[0], args[0]);
     }
     // an argument fits no code above 31, so one scan serves both where all is well
     if !arguments_fit(kinds, args) {
