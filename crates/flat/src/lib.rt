@@ -90,10 +90,10 @@ pub fn check_one(kind: u8, arg: u64) -> Checked
       deep ← ⟦Flat::MAX_DEPTH⟧ .entry
       ⌜ r ≡ checkedOf (reading nodes deep (kind ∷ []) (arg ∷ [])) ⌝ }
 {
+    if kind > Kind::FIELD {
+        return Checked::Refused(Error::Kind);
+    }
     if !argument_fits(kind, arg) {
-        if kind > Kind::FIELD {
-            return Checked::Refused(Error::Kind);
-        }
         return Checked::Refused(Error::Argument);
     }
     match kind {

@@ -1,3 +1,4 @@
+-- `lz_decode` meets its contract. Assumes nothing.
 use borrow.Author.Needs.{needs}
 use Rattle.capi.proofs.Replies.{decode-nodes, decode-refused}
 use Rattle.capi.proofs.lz_decode.Statement.{statement}

@@ -1,3 +1,4 @@
+-- `lz_encode` meets its contract. Assumes nothing.
 use borrow.Author.Needs.{needs}
 use Rattle.capi.proofs.Replies.{encode-bytes, encode-refused}
 use Rattle.capi.proofs.lz_encode.Statement.{statement}

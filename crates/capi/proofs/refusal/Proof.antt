@@ -1,3 +1,4 @@
+-- `capi::refusal` meets its contract. Assumes nothing.
 use borrow.Author.Needs.{needs}
 use Rattle.capi.proofs.refusal.Statement.{statement}
 use Rattle.capi.proofs.refusal.Tie as tie

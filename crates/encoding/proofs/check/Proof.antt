@@ -1,3 +1,4 @@
+-- `encoding::check` meets its contract: no node, one, few, many. Assumes nothing.
 use borrow.Author.Needs.{needs}
 use native.Mathlib.Omega.{arith}
 use mathlib.Core.Path.{_≡_, sym, ap}

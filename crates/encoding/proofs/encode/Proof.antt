@@ -1,3 +1,4 @@
+-- `encoding::encode` meets its contract: three pieces written one after the other. Assumes nothing.
 use borrow.Author.Needs.{needs}
 use borrow.Author.Tests.{le-leb, lt-leb}
 use native.Mathlib.Omega.{arith}

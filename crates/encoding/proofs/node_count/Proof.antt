@@ -1,3 +1,4 @@
+-- `encoding::node_count` meets its contract. Assumes nothing.
 use borrow.Author.Needs.{needs}
 use borrow.Author.Tests.{le-leb, lt-leb, eq-eqb, ne-eqb, lt-ltb}
 use native.Mathlib.Nat.{pos-of-ne-zero}

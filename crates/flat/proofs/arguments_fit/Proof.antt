@@ -1,3 +1,4 @@
+-- `flat::arguments_fit` meets its contract: what is left to test after i nodes decides. Assumes nothing.
 use mathlib.Core.Path.{sym, _∙_}
 use borrow.Author.Tests.{not-true, not-false}
 use Prim.Native.Nat.{_≤_, _-_}
@@ -19,32 +20,23 @@ abbrev μ-loop : tie.MeasureT-loop
 loop-holds : tie.Need-loop-holds Inv-loop μ-loop
 loop-holds c = (omega arith, refl)
 
-shared-slice-read-argument-fits : tie.Need-shared-slice-read-argument-fits Inv-loop μ-loop
-shared-slice-read-argument-fits c = search needs
-
-mul-argument-fits : tie.Need-mul-argument-fits Inv-loop μ-loop
-mul-argument-fits c = search needs
-
-shared-slice-read-argument-fits-2 : tie.Need-shared-slice-read-argument-fits-2 Inv-loop μ-loop
-shared-slice-read-argument-fits-2 c = search needs
-
-argument-fits-requires : tie.Need-argument-fits-requires Inv-loop μ-loop
-argument-fits-requires c κs = search needs
-
 returns : tie.Need-returns Inv-loop μ-loop
-returns c = arguments-stop (c .before .before .before .before .before .before .before .before .args .kinds .now) (c .before .before .before .before .before .before .before .before .args .args .now) (c .before .before .before .before .before .loop .i) (c .before .before .before .before .before .loop .inv .1) (omega arith) (omega arith) (sym (c .before .argument-fits .ensures) ∙ not-true _ (c .if1 .taken))
-
-add-i : tie.Need-add-i Inv-loop μ-loop
-add-i c = search needs
-
-loop-less : tie.Need-loop-less Inv-loop μ-loop
-loop-less c = search needs
+returns c =
+    let s = c .before .before .before .before .before .before .before .before in
+    let l = c .before .before .before .before .before in
+    arguments-stop (s .args .kinds .now) (s .args .args .now) (l .loop .i) (l .loop .inv .1) (omega arith) (omega arith) (sym (c .before .argument-fits .ensures) ∙ not-true _ (c .if1 .taken))
 
 loop-again : tie.Need-loop-again Inv-loop μ-loop
-loop-again c = (omega arith, arguments-on (c .before .before .before .before .before .before .before .before .args .kinds .now) (c .before .before .before .before .before .before .before .before .args .args .now) (c .before .before .before .before .before .loop .i) (c .before .before .before .before .before .loop .inv .1) (omega arith) (omega arith) (sym (c .before .argument-fits .ensures) ∙ not-false _ (c .if1 .left)))
+loop-again c =
+    let s = c .before .before .before .before .before .before .before .before in
+    let l = c .before .before .before .before .before in
+    (omega arith, arguments-on (s .args .kinds .now) (s .args .args .now) (l .loop .i) (l .loop .inv .1) (omega arith) (omega arith) (sym (c .before .argument-fits .ensures) ∙ not-false _ (c .if1 .left)))
 
 returns-2 : tie.Need-returns-2 Inv-loop μ-loop
-returns-2 c = arguments-end (c .before .before .before .before .args .kinds .now) (c .before .before .before .before .args .args .now) (c .before .loop .i) (c .before .loop .inv .1) (c .loop-test .left)
+returns-2 c =
+    let s = c .before .before .before .before in
+    let l = c .before in
+    arguments-end (s .args .kinds .now) (s .args .args .now) (l .loop .i) (l .loop .inv .1) (c .loop-test .left)
 
 pub arguments-fit-spec : {M : Type 1} → statement M
 arguments-fit-spec =
@@ -53,12 +45,8 @@ arguments-fit-spec =
     Inv-loop
     μ-loop
     loop-holds
-    shared-slice-read-argument-fits
-    mul-argument-fits
-    shared-slice-read-argument-fits-2
-    argument-fits-requires
+    (λ c. search needs) (λ c. search needs) (λ c. search needs) (λ c κs. search needs)
     returns
-    add-i
-    loop-less
+    (λ c. search needs) (λ c. search needs)
     loop-again
     returns-2)

@@ -1,3 +1,4 @@
+-- `flat::kinds_fit` meets its contract: what is left to test after i kinds decides. Assumes nothing.
 use Prim.Native.Nat.{_≤_, _-_}
 use mathlib.Core.Path.{_≡_, refl}
 use native.Mathlib.Omega.{arith}
@@ -17,20 +18,15 @@ abbrev μ-loop : tie.MeasureT-loop
 loop-holds : tie.Need-loop-holds Inv-loop μ-loop
 loop-holds c = (omega arith, refl)
 
-shared-slice-read-if1 : tie.Need-shared-slice-read-if1 Inv-loop μ-loop
-shared-slice-read-if1 c = search needs
-
 returns : tie.Need-returns Inv-loop μ-loop
-returns c = kinds-stop (c .before .before .before .before .args .kinds .now) (c .before .before .before .loop .i) (c .before .before .before .loop .inv .1) (omega arith) (c .if1 .taken)
-
-add-i : tie.Need-add-i Inv-loop μ-loop
-add-i c = search needs
-
-loop-less : tie.Need-loop-less Inv-loop μ-loop
-loop-less c = search needs
+returns c =
+    let l = c .before .before .before in
+    kinds-stop (c .before .before .before .before .args .kinds .now) (l .loop .i) (l .loop .inv .1) (omega arith) (c .if1 .taken)
 
 loop-again : tie.Need-loop-again Inv-loop μ-loop
-loop-again c = (omega arith, kinds-on (c .before .before .before .before .args .kinds .now) (c .before .before .before .loop .i) (c .before .before .before .loop .inv .1) (omega arith) (c .if1 .left))
+loop-again c =
+    let l = c .before .before .before in
+    (omega arith, kinds-on (c .before .before .before .before .args .kinds .now) (l .loop .i) (l .loop .inv .1) (omega arith) (c .if1 .left))
 
 returns-2 : tie.Need-returns-2 Inv-loop μ-loop
 returns-2 c = kinds-end (c .before .before .args .kinds .now) (c .before .loop .i) (c .before .loop .inv .1) (c .loop-test .left)
@@ -42,9 +38,8 @@ kinds-fit-spec =
     Inv-loop
     μ-loop
     loop-holds
-    shared-slice-read-if1
+    (λ c. search needs)
     returns
-    add-i
-    loop-less
+    (λ c. search needs) (λ c. search needs)
     loop-again
     returns-2)

@@ -1,3 +1,4 @@
+-- `encoding::bytes::copy` meets its contract: the first i bytes are copied. Assumes nothing.
 use native.Mathlib.Omega.{arith}
 use Prim.Native.Nat.{_≤_, _-_}
 use mathlib.Core.Path.{_≡_, refl}

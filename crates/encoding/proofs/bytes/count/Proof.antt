@@ -1,3 +1,4 @@
+-- `encoding::bytes::count` meets its contract. Assumes nothing.
 use borrow.Author.Needs.{needs}
 use native.Mathlib.Omega.{arith}
 use Rattle.encoding.specs.Encoding.{countIn}

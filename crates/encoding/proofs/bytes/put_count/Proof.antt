@@ -1,3 +1,4 @@
+-- `encoding::bytes::put_count` meets its contract. Assumes nothing.
 use borrow.Author.Needs.{needs}
 use lib.Seq.{sets-eq}
 use Rattle.encoding.specs.Encoding.{littleEndian}

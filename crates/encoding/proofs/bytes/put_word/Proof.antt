@@ -1,3 +1,4 @@
+-- `encoding::bytes::put_word` meets its contract. Assumes nothing.
 use borrow.Author.Needs.{needs}
 use native.Mathlib.Omega.{arith}
 use lib.ListN.{length-set}

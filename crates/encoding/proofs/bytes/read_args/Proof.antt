@@ -1,3 +1,4 @@
+-- `encoding::bytes::read_args` meets its contract: the first i arguments are read. Assumes nothing.
 use native.Mathlib.Omega.{arith}
 use Prim.Native.Nat.{_≤_, _-_}
 use mathlib.Core.Path.{_≡_, refl}

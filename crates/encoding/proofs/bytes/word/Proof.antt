@@ -1,3 +1,4 @@
+-- `encoding::bytes::word` meets its contract: the number, byte by byte. Assumes nothing.
 use borrow.Author.Needs.{needs}
 use native.Mathlib.Nat.{add-zero}
 use native.Mathlib.Omega.{arith}

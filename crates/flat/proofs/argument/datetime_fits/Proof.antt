@@ -1,3 +1,4 @@
+-- `flat::argument::datetime_fits` meets its contract. Assumes nothing.
 use borrow.Author.Tests.{le-ltb, lt-ltb}
 use Rattle.flat.proofs.argument.datetime_fits.Statement.{statement}
 use Rattle.flat.proofs.argument.datetime_fits.Tie as tie

@@ -1,3 +1,4 @@
+-- `flat::argument::decimal_fits` meets its contract. Assumes nothing.
 use borrow.Author.Tests.{le-leb, lt-leb}
 use Rattle.flat.proofs.argument.decimal_fits.Statement.{statement}
 use Rattle.flat.proofs.argument.decimal_fits.Tie as tie
