@@ -1,5 +1,5 @@
 // Encoded types (document 01's stored sheets): checked, decoded to the two arrays of a flat type, and encoded from them.
-pub mod bytes;
+mod bytes;
 
 ghost use mathlib.Core.Path.{_≡_};
 ghost use Prim.Native.Nat.{_≤_};

@@ -1,6 +1,8 @@
 //! Flat types as readable text.
 
-use lomzegash::kind::{self, ARRAY, DATETIME, DECIMAL, DURATION, DYN_NEGATIVE, DYN_NONNEGATIVE, FIELD, LIST, STRUCT};
+use lomzegash::kind::{
+    self, ARRAY, DATETIME, DECIMAL, DURATION, FIELD, LIST, STRUCT, UNKNOWN_INT_NEG, UNKNOWN_INT_POS,
+};
 
 /// The text of a checked flat type, as `Struct{7: Boolean, 9: Array(3, Date)}`.
 pub fn text(kinds: &[u8], args: &[u64]) -> String {
@@ -17,8 +19,8 @@ fn whole_type(nodes: &mut impl Iterator<Item = (u8, u64)>) -> String {
         DATETIME if arg < 4 => format!("{name}({})", unit(arg)),
         DATETIME => format!("{name}({}, zone {})", unit(arg % 4), arg / 4),
         DURATION => format!("{name}({})", unit(arg)),
-        DYN_NONNEGATIVE => format!("dyn {arg}"),
-        DYN_NEGATIVE => format!("dyn {}", -1 - i128::from(arg)),
+        UNKNOWN_INT_POS => format!("Unknown(Int({arg}))"),
+        UNKNOWN_INT_NEG => format!("Unknown(Int({}))", -1 - i128::from(arg)),
         LIST => format!("{name}({})", whole_type(nodes)),
         ARRAY => format!("{name}({arg}, {})", whole_type(nodes)),
         STRUCT => {
@@ -47,8 +49,8 @@ mod tests {
             (&[20], &[1], "Datetime(µs)"),
             (&[20], &[4 * 5 + 2], "Datetime(ms, zone 5)"),
             (&[21], &[0], "Duration(ns)"),
-            (&[26], &[u64::MAX], "dyn 18446744073709551615"),
-            (&[27], &[u64::MAX], "dyn -18446744073709551616"),
+            (&[26], &[u64::MAX], "Unknown(Int(18446744073709551615))"),
+            (&[27], &[u64::MAX], "Unknown(Int(-18446744073709551616))"),
             (&[30], &[0], "Struct{}"),
             (&[30, 31, 1, 31, 29, 19], &[2, 7, 0, 9, 3, 0], "Struct{7: Boolean, 9: Array(3, Date)}"),
         ];

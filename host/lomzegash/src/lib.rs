@@ -5,8 +5,9 @@
 //! byte first), n kinds, then n arguments of 8 bytes each, low byte first: 2 + 9 × n bytes.
 //!
 //! Arguments: Decimal has 256 × scale + precision; Datetime 4 × zone + unit, zone 0 for none; Duration the unit (0 ns,
-//! 1 µs, 2 ms); dyn v has v, or −1 − v below zero; Array the width, Struct the number of its fields, field a name's
-//! number. All others have 0. List, Array and field have one child; a Struct's children are its fields.
+//! 1 µs, 2 ms); Unknown(Int(v)) has v, or −1 − v where v is below zero; Array the width, Struct the number of its
+//! fields, field a name's number. All others have 0. List, Array and field have one child; a Struct's children are its
+//! fields.
 //!
 //! Any input gets an answer or an [`Error`], and a refused call writes nothing.
 //!

@@ -1,7 +1,7 @@
 //! Arguments to try at each kind.
 
 use crate::random::Random;
-use lomzegash::kind::{ARRAY, DATETIME, DECIMAL, DURATION, DYN_NEGATIVE, DYN_NONNEGATIVE, FIELD, STRUCT};
+use lomzegash::kind::{ARRAY, DATETIME, DECIMAL, DURATION, FIELD, STRUCT, UNKNOWN_INT_NEG, UNKNOWN_INT_POS};
 
 const UP_TO_32_BITS: u64 = (1 << 32) - 1;
 
@@ -38,7 +38,7 @@ pub fn boundaries(kind: u8) -> &'static [u64] {
             u64::MAX,
         ],
         DURATION => &[0, 1, 2, 3, 256, u64::MAX],
-        DYN_NONNEGATIVE | DYN_NEGATIVE | ARRAY => &[0, 1, u64::MAX],
+        UNKNOWN_INT_POS | UNKNOWN_INT_NEG | ARRAY => &[0, 1, u64::MAX],
         STRUCT => &[0, 1, 2, 3, 255, 256, 257, u64::MAX],
         FIELD => &[0, 1, UP_TO_32_BITS, UP_TO_32_BITS + 1, u64::MAX],
         0..=FIELD => &[0, 1, u64::MAX],
@@ -55,7 +55,7 @@ pub fn valid(kind: u8, random: &mut Random) -> u64 {
         }
         DATETIME => 4 * (random.number() & UP_TO_32_BITS) + random.below(3) as u64,
         DURATION => random.below(3) as u64,
-        DYN_NONNEGATIVE | DYN_NEGATIVE | ARRAY => random.number() >> random.below(64),
+        UNKNOWN_INT_POS | UNKNOWN_INT_NEG | ARRAY => random.number() >> random.below(64),
         FIELD => random.number() & UP_TO_32_BITS,
         _ => 0,
     }

@@ -139,7 +139,7 @@ fn a_kind_above_31_is_refused_by_2() {
 fn every_kind_has_its_argument_rule() {
     let four_gig = 1 << 32;
     let mut cases = vec![];
-    for kind in (NULL..=FLOAT64).chain(STRING..=DATE).chain([TIME]).chain(ANY..=DYN_FLOAT) {
+    for kind in (NULL..=FLOAT64).chain(STRING..=DATE).chain([TIME]).chain(UNKNOWN_ANY..=UNKNOWN_FLOAT) {
         cases.extend([(kind, 0, 0), (kind, 1, 3), (kind, u64::MAX, 3)]);
     }
     for precision in 1..=38 {
@@ -153,7 +153,7 @@ fn every_kind_has_its_argument_rule() {
     }
     cases.extend([(DURATION, 3, 3), (DURATION, 4, 3), (DATETIME, 3, 3), (DATETIME, 4 * (four_gig - 1) + 3, 3)]);
     for arg in [0, 1, four_gig, u64::MAX] {
-        cases.extend([(DYN_NONNEGATIVE, arg, 0), (DYN_NEGATIVE, arg, 0), (ARRAY, arg, 4)]);
+        cases.extend([(UNKNOWN_INT_POS, arg, 0), (UNKNOWN_INT_NEG, arg, 0), (ARRAY, arg, 4)]);
     }
     cases.extend([(LIST, 0, 4), (LIST, 1, 3), (STRUCT, 0, 0), (STRUCT, 255, 4), (STRUCT, 256, 3)]);
     cases.extend([(FIELD, 0, 4), (FIELD, four_gig - 1, 4), (FIELD, four_gig, 3)]);
