@@ -16,6 +16,7 @@ use Rattle.encoding.specs.declared.Encoded.{Encoded}
 unfoldable pub nodesIn : ℕ → ℕ → List ℕ → ℕ
 nodesIn w nodes s = cond (sizeFits w nodes s) (countIn s) 0
 
+-- the answer of `decode`: the number of nodes
 abbrev pub decodedOf : Reading → Decoded
 decodedOf (refused e) = Decoded.Refused e
 decodedOf (type t) = Decoded.Nodes (size t)
@@ -31,6 +32,7 @@ unfoldable pub fittingBytes : ℕ → ℕ → Reading → Reading
 fittingBytes w m (refused e) = refused e
 fittingBytes w m (type t) = unless (leb (encodedSize w (size t)) m) OutputTooShort (type t)
 
+-- the answer of `encode`: the number of bytes
 abbrev pub encodedOf : ℕ → Reading → Encoded
 encodedOf w (refused e) = Encoded.Refused e
 encodedOf w (type t) = Encoded.Bytes (encodedSize w (size t))

@@ -36,7 +36,7 @@ encoding w ks xs = littleEndian 2 (length ks) ++ (ks ++ argBytes w xs)
 abbrev pub encodedSize : ℕ → ℕ → ℕ
 encodedSize w n = 2 + (w + 1) * n
 
--- the parts of an encoded type
+-- the parts of an encoded type: the count, the kinds, the arguments
 unfoldable pub countIn : List ℕ → ℕ
 countIn s = number (take 2 s)
 

@@ -8,12 +8,13 @@ use Rattle.flat.specs.Kind
 abbrev pub timeUnits : ℕ
 timeUnits = 3
 
+-- what a rule can be: only 0, a form of its own, below a number, or any argument
 pub data Rule : Type 0 where
   zero decimal datetime : Rule
   below : ℕ → Rule
   free : Rule
 
--- the rule of a kind
+-- the rule of a kind: all others have 0
 unfoldable pub ruleOf : ℕ → Rule
 ruleOf k =
     cond (eqb k Kind.Decimal) decimal
@@ -34,6 +35,7 @@ decimalFits a = leb 1 (a % 256) && leb (a % 256) 38 && leb (a / 256) (a % 256)
 abbrev pub datetimeFits : ℕ → Bool
 datetimeFits a = ltb (a % 4) timeUnits && ltb (a / 4) (2 ^ 32)
 
+-- an argument that follows a rule
 abbrev pub follows : Rule → ℕ → Bool
 follows zero a = eqb a 0
 follows decimal a = decimalFits a

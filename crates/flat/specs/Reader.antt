@@ -21,10 +21,12 @@ children k a =
     (cond (eqb k Kind.Array) under-array
     (cond (eqb k Kind.Struct) fields no-type)))
 
+-- f of what there is, if there is something
 abbrev pub mapO : {A B : Type 0} → (A → B) → Option A → Option B
 mapO f none = none
 mapO f (some a) = some (f a)
 
+-- what f makes of what there is, if there is something
 abbrev pub bindO : {A B : Type 0} → Option A → (A → Option B) → Option B
 bindO none f = none
 bindO (some a) f = f a
@@ -41,6 +43,7 @@ underNode node fs under-array k a ks xs = mapO (array a) (node ks xs)
 underNode node fs fields k a ks xs = mapO struct (fs a ks xs)
 underNode node fs no-type k a ks xs = none
 
+-- the node at the front
 abbrev pub stepNode : Reads DataType → (ℕ → Reads Fields) → Reads DataType
 stepNode node fs [] xs = none
 stepNode node fs (k ∷ ks) [] = none
@@ -51,12 +54,14 @@ abbrev pub underField : Reads DataType → (ℕ → Reads Fields) → Bool → �
 underField node fs true m a ks xs = bindO (node ks xs) (λ t. mapO (field a t) (fs m (drop (size t) ks) (drop (size t) xs)))
 underField node fs false m a ks xs = none
 
+-- so many fields at the front
 abbrev pub stepFields : Reads DataType → (ℕ → Reads Fields) → ℕ → Reads Fields
 stepFields node fs zero ks xs = some empty
 stepFields node fs (suc m) [] xs = none
 stepFields node fs (suc m) (k ∷ ks) [] = none
 stepFields node fs (suc m) (k ∷ ks) (a ∷ xs) = underField node fs (eqb k Kind.Field) m a ks xs
 
+-- reads nothing
 abbrev pub never : {A : Type 0} → Reads A
 never ks xs = none
 

@@ -15,6 +15,7 @@ use Rattle.flat.specs.declared.error.Error.the-variants.{Length, Kind, A
 use Rattle.flat.specs.declared.Checked.{Checked}
 use Rattle.flat.specs.declared.Checked.the-variants.{Valid, Refused}
 
+-- what two arrays are
 pub data Reading : Type 0 where
   refused : Error → Reading
   type : DataType → Reading

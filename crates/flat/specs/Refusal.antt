@@ -3,6 +3,7 @@ use Prim.Native.Nat.{ℕ}
 use Rattle.flat.specs.declared.error.Error.{Error}
 use Rattle.flat.specs.declared.error.Error.the-variants.{Length, Kind, Argument, Shape, Depth, OutputTooShort}
 
+-- the number of a cause
 abbrev pub numberOf : Error → ℕ
 numberOf Length = 1
 numberOf Kind = 2

@@ -17,7 +17,7 @@ abbrev pub spansOf : Option Fields → Span
 spansOf none = Broken
 spansOf (some fs) = Ends (sizes fs) (depths fs)
 
--- how many Lists and Arrays stand at the front, one under the other
+-- one List or Array more than n, where the node is one
 abbrev pub wrapping : Children → ℕ → ℕ
 wrapping no-child n = 0
 wrapping under-list n = suc n
@@ -25,6 +25,7 @@ wrapping under-array n = suc n
 wrapping fields n = 0
 wrapping no-type n = 0
 
+-- how many Lists and Arrays stand at the front, one under the other
 unfoldable pub wrappersOf : List ℕ → List ℕ → ℕ
 wrappersOf [] xs = 0
 wrappersOf (k ∷ ks) [] = 0

@@ -21,6 +21,7 @@ pub record Run (m : ℕ) (ks xs : List ℕ) (fs : Fields) : Type 0 where
   pub pos : m ≤ sizes fs
   pub within : sizes fs ≤ length ks
 
+-- what there is, else d
 abbrev pub orElse : {A : Type 0} → A → Option A → A
 orElse d none = d
 orElse d (some a) = a
