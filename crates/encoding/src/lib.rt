@@ -19,7 +19,7 @@ impl Encoding {
     pub const ARGUMENT_BYTES: usize = 8;
 
     // A type of so few nodes is checked with a small array: a large one takes longer to clear than to use.
-    const FEW: usize = 32;
+    const FEW: usize = 24;
 }
 
 // What decoding answers: the number of nodes written.
