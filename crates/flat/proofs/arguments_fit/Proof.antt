@@ -1,13 +1,12 @@
 -- `flat::arguments_fit` meets its contract: what is left to test after i nodes decides. Assumes nothing.
-use mathlib.Core.Path.{sym, _∙_}
+use mathlib.Core.Path.{sym, _∙_, _≡_, refl}
 use borrow.Author.Tests.{not-true, not-false}
 use Prim.Native.Nat.{_≤_, _-_}
-use mathlib.Core.Path.{_≡_, refl}
 use native.Mathlib.Omega.{arith}
 use lib.ListN.{length, drop}
+use borrow.Author.Needs.{needs}
 use Rattle.flat.specs.Reading.{argumentsFit}
 use Rattle.flat.proofs.Scans.{arguments-on, arguments-stop, arguments-end}
-use borrow.Author.Needs.{needs}
 use Rattle.flat.proofs.arguments_fit.Statement.{statement}
 use Rattle.flat.proofs.arguments_fit.Tie as tie
 

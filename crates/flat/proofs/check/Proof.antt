@@ -2,8 +2,8 @@
 use mathlib.Core.Path.{sym, _∙_}
 use denote.Ref.{now}
 use borrow.Author.Tests.{not-true, not-false}
-use Rattle.flat.proofs.Checks.{uneven, no-node, too-many, bad-kind, bad-argument, fit-nodes}
 use borrow.Author.Needs.{needs}
+use Rattle.flat.proofs.Checks.{uneven, no-node, too-many, bad-kind, bad-argument, fit-nodes}
 use Rattle.flat.proofs.check.Statement.{statement}
 use Rattle.flat.proofs.check.Tie as tie
 

@@ -2,8 +2,8 @@
 use mathlib.Core.Path.{sym, _∙_}
 use borrow.Author.Tests.{not-true, not-false}
 use lib.Dec.{lit≤}
-use Rattle.flat.proofs.Checks.{one-bad-kind, one-bad-argument, one-leaf, one-struct, one-short-struct, one-other}
 use borrow.Author.Needs.{needs}
+use Rattle.flat.proofs.Checks.{one-bad-kind, one-bad-argument, one-leaf, one-struct, one-short-struct, one-other}
 use Rattle.flat.proofs.check_one.Statement.{statement}
 use Rattle.flat.proofs.check_one.Tie as tie
 

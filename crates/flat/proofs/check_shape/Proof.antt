@@ -1,9 +1,9 @@
 -- `flat::check_shape` meets its contract, by what the walk answers. Assumes nothing.
 use mathlib.Core.Path.{sym, _∙_}
 use denote.Ref.{now}
+use borrow.Author.Needs.{needs}
 use Rattle.flat.specs.Reader.{nodeAt}
 use Rattle.flat.proofs.Checks.{leaf-alone, no-tree, not-all, too-deep, one-type}
-use borrow.Author.Needs.{needs}
 use Rattle.flat.proofs.check_shape.Statement.{statement}
 use Rattle.flat.proofs.check_shape.Tie as tie
 

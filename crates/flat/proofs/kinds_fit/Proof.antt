@@ -3,9 +3,9 @@ use Prim.Native.Nat.{_≤_, _-_}
 use mathlib.Core.Path.{_≡_, refl}
 use native.Mathlib.Omega.{arith}
 use lib.ListN.{length, drop}
+use borrow.Author.Needs.{needs}
 use Rattle.flat.specs.Reading.{kindsFit}
 use Rattle.flat.proofs.Scans.{kinds-on, kinds-stop, kinds-end}
-use borrow.Author.Needs.{needs}
 use Rattle.flat.proofs.kinds_fit.Statement.{statement}
 use Rattle.flat.proofs.kinds_fit.Tie as tie
 

@@ -1,8 +1,8 @@
 -- `flat::argument::argument_fits` meets its contract: single kinds by computation, runs of kinds by one computed test each. Assumes nothing.
 use native.Mathlib.Omega.{arith}
+use borrow.Author.Needs.{needs}
 use Rattle.flat.specs.Argument.{argumentFits, ruleOf}
 use Rattle.flat.proofs.Rules.{next, isZero, isFree, ruled, zero-follows, free-follows, no-kind}
-use borrow.Author.Needs.{needs}
 use Rattle.flat.proofs.argument.argument_fits.Statement.{statement}
 use Rattle.flat.proofs.argument.argument_fits.Tie as tie
 

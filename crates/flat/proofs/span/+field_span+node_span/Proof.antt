@@ -3,13 +3,12 @@ use mathlib.Core.Path.{sym, _∙_}
 use native.Mathlib.Nat.{zero-add}
 use native.Mathlib.Omega.{arith}
 use denote.Ref.{now}
-use Rattle.flat.proofs.Spans.{within, withins, node-ends, node-none, node-leaf, node-struct, start, fields-short, fields-stray, fields-broken, fields-done, field-done, wrapped-ends, wrapped-leaf}
 use borrow.Author.Needs.{needs}
 use Prim.Native.Nat.{ℕ, _+_, _-_, _≤_, _<_}
 use lib.ListN.{length}
-use Rattle.flat.proofs.Spans.{Along}
 use borrow.Fn.Kinds.{In}
 use borrow.Fn.PlainCycle.{Measures, is, falls, and}
+use Rattle.flat.proofs.Spans.{within, withins, node-ends, node-none, node-leaf, node-struct, start, fields-short, fields-stray, fields-broken, fields-done, field-done, wrapped-ends, wrapped-leaf, Along}
 use Rattle.flat.proofs.span.field_span.Reads as field-span
 use Rattle.flat.proofs.span.field_span.Kinds as field-span-kinds
 use Rattle.flat.proofs.span.+field_span+node_span.Lts-field_span as field-span-lts

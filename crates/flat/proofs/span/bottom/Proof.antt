@@ -4,11 +4,11 @@ use mathlib.Core.Path.{_≡_, refl}
 use native.Mathlib.Omega.{arith}
 use denote.Ref.{now}
 use lib.ListN.{length, drop}
+use borrow.Author.Needs.{needs}
 use Rattle.flat.specs.Reader.{no-type, under-list, under-array}
 use Rattle.flat.specs.Span.{wrappersOf}
 use Rattle.flat.proofs.Positions.{children-list, children-list-bad, children-array}
 use Rattle.flat.proofs.Spans.{no-wrapper, wrappers-stop, wrappers-on, wrappers-end}
-use borrow.Author.Needs.{needs}
 use Rattle.flat.proofs.span.bottom.Statement.{statement}
 use Rattle.flat.proofs.span.bottom.Tie as tie
 

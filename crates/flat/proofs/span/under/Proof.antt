@@ -2,8 +2,8 @@
 use mathlib.Core.Path.{sym, ap, subst}
 use Prim.Native.Nat.{_^_}
 use native.Mathlib.Omega.{arith}
-use Rattle.flat.specs.Span.{spanUnder, Within}
 use borrow.Author.Needs.{needs}
+use Rattle.flat.specs.Span.{spanUnder, Within}
 use Rattle.flat.proofs.span.under.Statement.{statement}
 use Rattle.flat.proofs.span.under.Tie as tie
 
