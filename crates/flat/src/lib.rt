@@ -19,8 +19,10 @@ use span::Span;
 pub struct Flat {}
 
 impl Flat {
+    // The most nodes that a type has.
     pub const MAX_NODES: usize = 512;
 
+    // The most nodes that stand above a node.
     pub const MAX_DEPTH: usize = 32;
 }
 
@@ -30,6 +32,7 @@ pub enum Checked {
     Refused(Error),
 }
 
+// Refusal 2 is not given.
 fn kinds_fit(kinds: &[u8]) -> bool
     ensures { λ r. ⌜ r ≡ kindsFit (now (kinds .entry)) ⌝ }
 {
@@ -43,6 +46,7 @@ fn kinds_fit(kinds: &[u8]) -> bool
     true
 }
 
+// Refusal 3 is not given.
 fn arguments_fit(kinds: &[u8], args: &[u64]) -> bool
     requires { ⌜ length (now kinds) ≡ length (now args) ⌝ }
     ensures { λ r. ⌜ r ≡ argumentsFit (now (kinds .entry)) (now (args .entry)) ⌝ }

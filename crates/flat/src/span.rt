@@ -86,13 +86,14 @@ pub fn field_span(kinds: &[u8], args: &[u64], count: u64) -> Span
             return Span::Broken;
         }
         let next = at + 1;
-        let under = bottom(kinds, args, next);
-        if under == kinds.len() {
+        let lowest = bottom(kinds, args, next);
+        if lowest == kinds.len() {
             return Span::Broken;
         }
-        if kinds[under] < Kind::LIST {
-            depth = larger(depth, under - at + 1);
-            at = under + 1;
+        // the Struct and the field stand above the field's type: two levels more
+        if kinds[lowest] < Kind::LIST {
+            depth = larger(depth, lowest - at + 1);
+            at = lowest + 1;
             left = left - 1;
             continue;
         }
