@@ -1,4 +1,5 @@
--- Laws that several proofs of `encoding` cite, what an answer tells, and the two round trips.
+-- Laws that several proofs of `encoding` cite, what an answer tells, the round trips, and document 01's example.
 pub mod Laws
 pub mod Answers
 pub mod RoundTrip
+mod Examples
