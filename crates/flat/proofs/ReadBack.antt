@@ -65,27 +65,27 @@ pub data View : ℕ → ℕ → Children → Type 0 where
 
 pub view : (k a : ℕ) → View k a (children k a)
 unfolding children
-view k a = at-27 (leb k Kind.UnknownIntNeg) refl
+view k a = by-leaf (leb k Kind.UnknownIntNeg) refl
   where
-    at-0 : k ≡ Kind.List → (b : Bool) → eqb a 0 ≡ b → View k a (cond b under-list no-type)
-    at-0 e true p = subst (λ (j : ℕ). View j a under-list) (sym e) (subst (λ (j : ℕ). View Kind.List j under-list) (sym (eqb-true a 0 p)) is-list)
-    at-0 e false p = is-other
+    by-zero : k ≡ Kind.List → (b : Bool) → eqb a 0 ≡ b → View k a (cond b under-list no-type)
+    by-zero e true p = subst (λ (j : ℕ). View j a under-list) (sym e) (subst (λ (j : ℕ). View Kind.List j under-list) (sym (eqb-true a 0 p)) is-list)
+    by-zero e false p = is-other
 
-    at-30 : (b : Bool) → eqb k Kind.Struct ≡ b → View k a (cond b fields no-type)
-    at-30 true p = subst (λ (j : ℕ). View j a fields) (sym (eqb-true k Kind.Struct p)) is-struct
-    at-30 false p = is-other
+    by-struct : (b : Bool) → eqb k Kind.Struct ≡ b → View k a (cond b fields no-type)
+    by-struct true p = subst (λ (j : ℕ). View j a fields) (sym (eqb-true k Kind.Struct p)) is-struct
+    by-struct false p = is-other
 
-    at-29 : (b : Bool) → eqb k Kind.Array ≡ b → View k a (cond b under-array (cond (eqb k Kind.Struct) fields no-type))
-    at-29 true p = subst (λ (j : ℕ). View j a under-array) (sym (eqb-true k Kind.Array p)) is-array
-    at-29 false p = at-30 (eqb k Kind.Struct) refl
+    by-array : (b : Bool) → eqb k Kind.Array ≡ b → View k a (cond b under-array (cond (eqb k Kind.Struct) fields no-type))
+    by-array true p = subst (λ (j : ℕ). View j a under-array) (sym (eqb-true k Kind.Array p)) is-array
+    by-array false p = by-struct (eqb k Kind.Struct) refl
 
-    at-28 : (b : Bool) → eqb k Kind.List ≡ b → View k a (cond b (cond (eqb a 0) under-list no-type) (cond (eqb k Kind.Array) under-array (cond (eqb k Kind.Struct) fields no-type)))
-    at-28 true p = at-0 (eqb-true k Kind.List p) (eqb a 0) refl
-    at-28 false p = at-29 (eqb k Kind.Array) refl
+    by-list : (b : Bool) → eqb k Kind.List ≡ b → View k a (cond b (cond (eqb a 0) under-list no-type) (cond (eqb k Kind.Array) under-array (cond (eqb k Kind.Struct) fields no-type)))
+    by-list true p = by-zero (eqb-true k Kind.List p) (eqb a 0) refl
+    by-list false p = by-array (eqb k Kind.Array) refl
 
-    at-27 : (b : Bool) → leb k Kind.UnknownIntNeg ≡ b → View k a (cond b no-child (cond (eqb k Kind.List) (cond (eqb a 0) under-list no-type) (cond (eqb k Kind.Array) under-array (cond (eqb k Kind.Struct) fields no-type))))
-    at-27 true p = is-leaf (leb-true k Kind.UnknownIntNeg p)
-    at-27 false p = at-28 (eqb k Kind.List) refl
+    by-leaf : (b : Bool) → leb k Kind.UnknownIntNeg ≡ b → View k a (cond b no-child (cond (eqb k Kind.List) (cond (eqb a 0) under-list no-type) (cond (eqb k Kind.Array) under-array (cond (eqb k Kind.Struct) fields no-type))))
+    by-leaf true p = is-leaf (leb-true k Kind.UnknownIntNeg p)
+    by-leaf false p = by-list (eqb k Kind.List) refl
 
 joined : (l A B : List ℕ) (n m : ℕ) → l ≡ A ++ drop n l → drop n l ≡ B ++ drop m (drop n l) → l ≡ (A ++ B) ++ drop (n + m) l
 joined l A B n m p q = p ∙ ap (λ (x : List ℕ). A ++ x) (q ∙ ap (λ (x : List ℕ). B ++ x) (drop-drop m n l)) ∙ sym (append-assoc A B (drop (n + m) l))

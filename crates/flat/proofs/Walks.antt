@@ -75,7 +75,7 @@ pub data AtRun (m : ℕ) (ks xs : List ℕ) : Fields → Type 0 where
 
 pub at-run : (m : ℕ) (ks xs : List ℕ) (fs : Fields) → Run m ks xs fs → AtRun m ks xs fs
 at-run zero ks xs fs r = subst (λ (z : Fields). AtRun zero ks xs z) (let e = sym (fields-zero ks xs) ∙ r .read in let y : empty ≡ fs = cc in y) (at-end refl)
-at-run (suc m) ks xs fs r = at-31 (eqb (getD ks 0 0) Kind.Field) refl (sym (fields-at (suc m) ks xs 0 (omega arith) (omega arith) (omega arith) (eqb (getD ks 0 0) Kind.Field) refl) ∙ r .read)
+at-run (suc m) ks xs fs r = by-field (eqb (getD ks 0 0) Kind.Field) refl (sym (fields-at (suc m) ks xs 0 (omega arith) (omega arith) (omega arith) (eqb (getD ks 0 0) Kind.Field) refl) ∙ r .read)
   where
     past : (t : DataType) (n : ℕ) → n ≡ size t → (l : List ℕ) → from (n + 1) l ≡ drop (size t) (drop 1 l)
     past t n y l = rest l (n + 1) ∙ ap (λ (i : ℕ). drop i l) (let z : n + 1 ≡ 1 + size t = omega arith in z) ∙ sym (drop-drop (size t) 1 l)
@@ -89,9 +89,9 @@ at-run (suc m) ks xs fs r = at-31 (eqb (getD ks 0 0) Kind.Field) refl (sym (fiel
         (λ n y. run-of (suc m - 1) (from (n + 1) ks) (from (n + 1) xs) (s .0) (part-even (n + 1) ks xs (r .even))
         (ap₂ (fieldsAt (suc m - 1)) (past t n y ks) (past t n y xs) ∙ s .1)))
 
-    at-31 : (b : Bool) → eqb (getD ks 0 0) Kind.Field ≡ b → underField nodeAt fieldsAt b (suc m - 1) (getD xs 0 0) (drop 1 ks) (drop 1 xs) ≡ some fs → AtRun (suc m) ks xs fs
-    at-31 false k e = absurd (let y : _≡_ {A = ℕ} 0 1 = cc in omega arith)
-    at-31 true k e = at-type (eqb-true (getD ks 0 0) Kind.Field k) (nodeAt (drop 1 ks) (drop 1 xs)) refl e
+    by-field : (b : Bool) → eqb (getD ks 0 0) Kind.Field ≡ b → underField nodeAt fieldsAt b (suc m - 1) (getD xs 0 0) (drop 1 ks) (drop 1 xs) ≡ some fs → AtRun (suc m) ks xs fs
+    by-field false k e = absurd (let y : _≡_ {A = ℕ} 0 1 = cc in omega arith)
+    by-field true k e = at-type (eqb-true (getD ks 0 0) Kind.Field k) (nodeAt (drop 1 ks) (drop 1 xs)) refl e
 
 -- ---- the laws in the words of a walk's contract
 pub type-is : (ks xs : List ℕ) (t : DataType) → nodeAt ks xs ≡ some t → typeAt ks xs ≡ t
