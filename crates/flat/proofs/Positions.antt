@@ -15,6 +15,7 @@ use Rattle.flat.specs.Kind
 use Rattle.flat.specs.Tree.{DataType, list, array, struct, Fields, empty, field, size}
 use Rattle.flat.specs.Reader.{Children, no-child, under-list, under-array, fields, no-type, children, mapO, bindO, Reads, underNode, stepNode, underField, stepFields, nodeIn, fieldsIn, nodeAt, fieldsAt}
 
+-- Readers that agree on what stands under a node agree on the node.
 same-under : (p p′ : Reads DataType) (f f′ : ℕ → Reads Fields) (s : Children) (k a : ℕ) (ks xs : List ℕ) → p ks xs ≡ p′ ks xs → f a ks xs ≡ f′ a ks xs → underNode p f s k a ks xs ≡ underNode p′ f′ s k a ks xs
 same-under p p′ f f′ no-child k a ks xs e g = refl
 same-under p p′ f f′ under-list k a ks xs e g = ap (mapO list) e
@@ -22,6 +23,7 @@ same-under p p′ f f′ under-array k a ks xs e g = ap (mapO (array a)) e
 same-under p p′ f f′ fields k a ks xs e g = ap (mapO struct) g
 same-under p p′ f f′ no-type k a ks xs e g = refl
 
+-- So too of a field and those after it.
 same-under-field : (p p′ : Reads DataType) (f f′ : ℕ → Reads Fields) (b : Bool) (m a : ℕ) (ks xs : List ℕ) → p ks xs ≡ p′ ks xs → ((j : ℕ) → f m (drop j ks) (drop j xs) ≡ f′ m (drop j ks) (drop j xs)) → underField p f b m a ks xs ≡ underField p′ f′ b m a ks xs
 same-under-field p p′ f f′ false m a ks xs e g = refl
 same-under-field p p′ f f′ true m a ks xs e g = rw e (go (p′ ks xs))

@@ -55,7 +55,7 @@ mutual
         readsIn fs (g .1) n ks xs (omega arith),
       )
 
--- what a node's children says of its kind and its argument
+-- what `children` says of a kind and its argument
 pub data View : ℕ → ℕ → Children → Type 0 where
   is-leaf : {k a : ℕ} → k ≤ Kind.UnknownIntNeg → View k a no-child
   is-list : View Kind.List 0 under-list
