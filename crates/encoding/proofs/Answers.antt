@@ -12,7 +12,7 @@ use borrow.Rule.Slice.PartAt.{part-to-end}
 use lib.ListN.{length, take, drop, length-drop}
 use lib.Seq.{length-take-le, take-at}
 use Rattle.flat.specs.Tree.{DataType, size, kindsOf, argsOf}
-use Rattle.flat.specs.Reading.{Reading, refused, type, reading, checkedOf}
+use Rattle.flat.specs.Reading.{Reading, refused, type, unless, reading, checkedOf}
 use Rattle.flat.specs.declared.Checked.{Checked}
 use Rattle.flat.specs.declared.Checked.the-variants.{Valid}
 use Rattle.flat.specs.Output.{over, kindsOver, argsOver}
@@ -118,12 +118,20 @@ pub record EncodedForm (w nodes deep n : ℕ) (s : List ℕ) : Type 0 where
   pub args : argsIn w s ≡ argsOf tree
   pub tree-size : size tree ≡ n
 
-pub encoded-form : {w nodes deep n : ℕ} {s : List ℕ} {a : Checked} → a ≡ Valid → a ≡ checkedOf (decoding w nodes deep s) → n ≡ nodesIn w nodes s → EncodedForm w nodes deep n s
+-- bytes that are a type have the right length
+pub decoded-fits : (w nodes deep : ℕ) (s : List ℕ) (t : DataType) → decoding w nodes deep s ≡ type t → sizeFits w nodes s ≡ true
+unfolding decoding
+decoded-fits w nodes deep s t e = go (sizeFits w nodes s) e
+  where
+    go : (b : Bool) → unless b Length (reading nodes deep (kindsIn s) (argsIn w s)) ≡ type t → b ≡ true
+    go true e = refl
+    go false e = absurd (let z : _≡_ {A = ℕ} 0 1 = cc in omega arith)
+
+pub encoded-form : {w nodes deep n : ℕ} {s : List ℕ} {a : Checked} → a ≡ Valid → a ≡ checkedOf (decoding w nodes deep s) → n ≡ countIn s → EncodedForm w nodes deep n s
 encoded-form {w} {nodes} {deep} {n} {s} v e c =
     let r = checked-type (decoding w nodes deep s) (sym v ∙ e) in
     let t = r .0 in
-    let some : n ≡ 0 → ⊥ = (λ o. let y = sym (decoding-none w nodes deep s c o) ∙ r .1 in let x : _≡_ {A = ℕ} 0 1 = cc in omega arith) in
-    let z = nodes-some {w = w} {nodes = nodes} {s = s} c some in
+    let z : Sized w nodes n s = rw c (sized w nodes s (decoded-fits w nodes deep s t (r .1))) in
     let h = holds nodes deep (kindsIn s) (argsIn w s) t (sym (decoding-sized z deep) ∙ r .1) in
     record { sized = z; tree = t; reads = r .1; kinds = h .kinds; args = h .args; tree-size = sym (length-kinds t) ∙ ap length (sym (h .kinds)) ∙ kinds-length z }
 

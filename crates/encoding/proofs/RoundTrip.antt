@@ -1,19 +1,18 @@
 -- A stored type reads back as written, and what is read is written back, at any width w of an argument. Assumes nothing.
-use mathlib.Core.Path.{_≡_, refl, sym, ap₂, _∙_}
-use mathlib.Core.Bool.{Bool, true, false}
+use mathlib.Core.Path.{_≡_, sym, ap₂, _∙_}
+use mathlib.Core.Bool.{true}
 use mathlib.Core.List.{List, _++_}
 use Prim.Native.Nat.{ℕ, _+_, _^_, _≤_, _<_}
 use native.Mathlib.Omega.{arith}
 use lib.ListN.{length, take, drop, length-drop, take-append-drop}
 use lib.Seq.{take-at, drop-at, drop-drop, length-take-le}
 use Rattle.flat.specs.Tree.{DataType, size, kindsOf, argsOf}
-use Rattle.flat.specs.Reading.{type, unless, reading, IsType}
-use Rattle.flat.specs.declared.error.Error.the-variants.{Length}
+use Rattle.flat.specs.Reading.{type, reading, IsType}
 use Rattle.flat.proofs.Sizes.{length-kinds, length-args, size-pos}
 use Rattle.flat.proofs.Meaning.{passes, holds}
 use Rattle.encoding.specs.Encoding.{littleEndian, argBytes, encoding, encodedSize, countIn, kindsIn, argsIn, sizeFits, decoding}
 use Rattle.encoding.proofs.Laws.{Below, below-drop, below-take, littleEndian-length, number-littleEndian, littleEndian-number, argsFrom-argBytes, argBytes-argsFrom, args-below, size-parts, encoding-length}
-use Rattle.encoding.proofs.Answers.{Sized, sized, size-fits, kinds-length, decoding-sized}
+use Rattle.encoding.proofs.Answers.{Sized, sized, size-fits, kinds-length, decoding-sized, decoded-fits}
 
 -- What was written is read back: the bytes of a type's kinds and arguments have the size that its nodes take, the count, the kinds and the arguments
 -- are read from them, and they are refused or are a type just as the kinds and arguments are.
@@ -90,9 +89,7 @@ module _ (w nodes : ℕ) (s : List ℕ) (fits : sizeFits w nodes s ≡ true) (by
 
 -- So bytes that are a type are the bytes of that type, and no others.
 pub type-bytes : (w nodes deep : ℕ) (s : List ℕ) (t : DataType) → Below 256 s → decoding w nodes deep s ≡ type t → encoding w (kindsOf t) (argsOf t) ≡ s
-unfolding decoding
-type-bytes w nodes deep s t bytes e = go (sizeFits w nodes s) refl e
-  where
-    go : (b : Bool) → sizeFits w nodes s ≡ b → unless b Length (reading nodes deep (kindsIn s) (argsIn w s)) ≡ type t → encoding w (kindsOf t) (argsOf t) ≡ s
-    go true f q = let h = holds nodes deep (kindsIn s) (argsIn w s) t q in ap₂ (encoding w) (sym (h .kinds)) (sym (h .args)) ∙ written-back w nodes s f bytes .bytes
-    go false f q = absurd (let z : _≡_ {A = ℕ} 0 1 = cc in omega arith)
+type-bytes w nodes deep s t bytes e =
+    let fits = decoded-fits w nodes deep s t e in
+    let h = holds nodes deep (kindsIn s) (argsIn w s) t (sym (decoding-sized (sized w nodes s fits) deep) ∙ e) in
+    ap₂ (encoding w) (sym (h .kinds)) (sym (h .args)) ∙ written-back w nodes s fits bytes .bytes

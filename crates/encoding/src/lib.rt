@@ -108,7 +108,7 @@ pub fn decode(encoded: &[u8], kinds: &mut [u8], args: &mut [u64]) -> Decoded
     match check(encoded) {
         Checked::Refused(e) => Decoded::Refused(e),
         Checked::Valid => {
-            let n = node_count(encoded);
+            let n = bytes::count(encoded);
             if kinds.len() < n {
                 return Decoded::Refused(Error::OutputTooShort);
             }

@@ -2,7 +2,7 @@
 use borrow.Author.Needs.{needs}
 use borrow.Author.Tests.{le-leb, lt-leb}
 use native.Mathlib.Omega.{arith}
-use mathlib.Core.Path.{_≡_, sym, _∙_}
+use mathlib.Core.Path.{_≡_, refl, sym, _∙_}
 use lib.ListN.{length, length-drop}
 use borrow.Rule.Slice.PartAt.{part-to-end}
 use Rattle.flat.specs.Output.{fitting}
@@ -13,8 +13,11 @@ use Rattle.encoding.proofs.decode.Statement.{statement}
 use Rattle.encoding.proofs.decode.Tie as tie
 
 -- where the bytes are a type
-right-size : (c : tie.After-node-count) → length (c .before .before .before .before .before .before .before .args .encoded .now) ≡ encodedSize 8 (c .node-count .result)
-right-size c = encoded-form (c .before .enum-told .given .1) (c .before .before .before .check .ensures) (c .node-count .ensures) .sized .size
+count-requires : tie.Need-count-requires
+count-requires c κs = let form = encoded-form (c .enum-told .given .1) (c .before .before .check .ensures) refl in omega (arith, form .sized .size)
+
+right-size : (c : tie.After-count) → length (c .before .before .before .before .before .before .before .args .encoded .now) ≡ encodedSize 8 (c .count .result)
+right-size c = encoded-form (c .before .enum-told .given .1) (c .before .before .before .check .ensures) (c .count .ensures .0) .sized .size
 
 read-args-requires : tie.Need-read-args-requires
 read-args-requires c κs = rw (part-to-end, length-drop) (omega (arith, right-size (c .before .before .before .before .before .before .before .before .before)))
@@ -22,20 +25,20 @@ read-args-requires c κs = rw (part-to-end, length-drop) (omega (arith, right-si
 returns : tie.Need-returns
 unfolding fitting
 returns c =
-    let form = encoded-form (c .before .before .enum-told .given .1) (c .before .before .before .before .check .ensures) (c .before .node-count .ensures) in
+    let form = encoded-form (c .before .before .enum-told .given .1) (c .before .before .before .before .check .ensures) (c .before .count .ensures .0) in
     decodes-refused (rw (form .reads, form .tree-size, lt-leb _ _ (c .if1 .taken)))
 
 returns-2 : tie.Need-returns-2
 unfolding fitting
 returns-2 c =
-    let form = encoded-form (c .before .before .before .enum-told .given .1) (c .before .before .before .before .before .check .ensures) (c .before .before .node-count .ensures) in
+    let form = encoded-form (c .before .before .before .enum-told .given .1) (c .before .before .before .before .before .check .ensures) (c .before .before .count .ensures .0) in
     decodes-refused (rw (form .reads, form .tree-size, le-leb _ _ (c .before .if1 .left), lt-leb _ _ (c .if2 .taken)))
 
 returns-4 : tie.Need-returns-4
 unfolding fitting
 returns-4 c =
     let at = c .before .before .before .before .before .before .before .before .before .before in
-    let form = encoded-form (at .before .before .before .enum-told .given .1) (at .before .before .before .before .before .check .ensures) (at .before .before .node-count .ensures) in
+    let form = encoded-form (at .before .before .before .enum-told .given .1) (at .before .before .before .before .before .check .ensures) (at .before .before .count .ensures .0) in
     decodes-type form
     (rw (form .reads, form .tree-size, le-leb _ _ (at .before .if1 .left), le-leb _ _ (at .if2 .left)))
     (c .before .before .before .before .before .before .before .copy .ensures) (c .before .before .read-args .ensures)
@@ -49,7 +52,8 @@ pub decode-spec : {M : Type 1} → statement M
 decode-spec =
     tie.close
     (tie.spec
-    (λ c κs. search needs) (λ c. search needs) (λ c. search needs) (λ c κs. search needs)
+    (λ c κs. search needs) (λ c. search needs) (λ c. search needs)
+    count-requires
     returns
     returns-2
     (λ c. search needs) (λ c. search needs) (λ c. search needs) (λ c. omega (arith, right-size (c .before .before))) (λ c κs. search needs)
