@@ -25,8 +25,10 @@ pub fn schemas() -> [(&'static str, Flat); 3] {
 }
 
 /// Types of other shapes.
-pub fn shapes() -> [(&'static str, Flat); 3] {
+pub fn shapes() -> [(&'static str, Flat); 5] {
     [
+        ("a List of Int8", Flat::lists(1)),
+        ("a Struct of one Int8 field", Flat::structs(1, &Flat::int8())),
         ("32 Lists over Int8", Flat::lists(32)),
         ("16 Structs over Int8", Flat::structs(16, &Flat::int8())),
         ("a Struct of 255 Int8 fields", Flat::wide_struct(255)),

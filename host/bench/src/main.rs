@@ -2,6 +2,7 @@
 //!
 //! Both are built for release and called through a slice interface; outputs are exactly long enough and not cleared
 //! between calls. A ratio below 1 says that the proved code is the faster one. `--shapes` adds inputs of other shapes.
+//! The rows of one build depend on where its linker put the archive's code: `layouts` runs them at every place.
 
 #![forbid(unsafe_code)]
 
