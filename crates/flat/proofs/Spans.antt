@@ -201,39 +201,17 @@ module _ (ks xs : List ℕ) (even : length ks ≡ length xs) (m at d left : ℕ)
       fields-stray k = stop (fields-other left ks xs at p h (omega arith) k)
 
       -- a field without a type
-      no-type-there : Broken ≡ spanOf (nodeAt (drop (at + 1) ks) (drop (at + 1) xs)) → Broken ≡ spansOf (fieldsAt m ks xs)
-      no-type-there q = stop (fields-none left ks xs at p h (omega arith) (broken (nodeAt (drop (at + 1) ks) (drop (at + 1) xs)) q))
-
       pub fields-broken : Broken ≡ spanOf (nodeAt (from (at + 1) ks) (from (at + 1) xs)) → Broken ≡ spansOf (fieldsAt m ks xs)
-      fields-broken q = no-type-there (rw (rest ks, rest xs) at q)
+      fields-broken q = stop (fields-none left ks xs at p h (omega arith) (broken (nodeAt (drop (at + 1) ks) (drop (at + 1) xs)) (rw (rest ks, rest xs) at q)))
 
       -- a field is done
-      module _ (k : getD ks at 0 ≡ Kind.Field) where
-        past : (n d′ : ℕ) → Ends n d′ ≡ spanOf (nodeAt (drop (at + 1) ks) (drop (at + 1) xs)) → Along ks xs m (at + 1 + n) (max d (d′ + 2)) (left - 1)
-        unfolding size depth
-        past n d′ q =
-            let s = ended (nodeAt (drop (at + 1) ks) (drop (at + 1) xs)) n d′ q in
-            e ∙ ap (after at d) (fields-some left ks xs at p h (omega arith) k (s .0) (s .1) (at + 1 + n) (ap (λ (i : ℕ). at + 1 + i) (s .2)))
-            ∙ go (s .0) (s .2) (s .3) (fieldsAt (left - 1) (drop (at + 1 + n) ks) (drop (at + 1 + n) xs))
-          where
-            go : (t : DataType) → n ≡ size t → d′ ≡ depth t → (f : Option Fields) → after at d (mapO (field (getD xs at 0) t) f) ≡ after (at + 1 + n) (max d (d′ + 2)) f
-            go t y z none = refl
-            go t y z (some fs) = ap₂ Ends (let w : at + suc (size t + sizes fs) ≡ at + 1 + n + sizes fs = omega arith in w) (let w : max d (max (suc (suc (depth t))) (depths fs)) ≡ max (max d (d′ + 2)) (depths fs) = omega arith in w)
-
-        pub field-done : (n d′ : ℕ) → Ends n d′ ≡ spanOf (nodeAt (from (at + 1) ks) (from (at + 1) xs)) → Along ks xs m (at + 1 + n) (max d (d′ + 2)) (left - 1)
-        field-done n d′ q = past n d′ (rw (rest ks, rest xs) at q)
-
-      -- the field's type, down to b, is Lists and Arrays
-      module _ (b : ℕ) (l : at + 1 ≤ b) (w : b ≡ at + 1 + wrappersOf (drop (at + 1) ks) (drop (at + 1) xs)) where
-        count : b - (at + 1) ≡ wrappersOf (drop (at + 1) ks) (drop (at + 1) xs)
-        count = omega arith
-
-        pub wrapped-ends : b ≡ length ks → Broken ≡ spansOf (fieldsAt m ks xs)
-        wrapped-ends z = no-type-there (node-ends ks xs (at + 1) (b - (at + 1)) b (omega arith) count z)
-
-        -- a leaf stands under them
-        pub wrapped-leaf : b < length ks → getD ks at 0 ≡ Kind.Field → getD ks b 0 < Kind.List → Along ks xs m (b + 1) (max d (b - at + 1)) (left - 1)
-        wrapped-leaf z k o =
-            subst (λ (i : ℕ). Along ks xs m i (max d (b - at + 1)) (left - 1)) (let y : at + 1 + (b - (at + 1) + 1) ≡ b + 1 = omega arith in y)
-            (subst (λ (i : ℕ). Along ks xs m (at + 1 + (b - (at + 1) + 1)) (max d i) (left - 1)) (let y : b - (at + 1) + 2 ≡ b - at + 1 = omega arith in y)
-            (past k (b - (at + 1) + 1) (b - (at + 1)) (node-leaf ks xs (at + 1) (b - (at + 1)) b (omega arith) count z (omega arith) o)))
+      pub field-done : getD ks at 0 ≡ Kind.Field → (n d′ : ℕ) → Ends n d′ ≡ spanOf (nodeAt (from (at + 1) ks) (from (at + 1) xs)) → Along ks xs m (at + 1 + n) (max d (d′ + 2)) (left - 1)
+      unfolding size depth
+      field-done k n d′ q =
+          let s = ended (nodeAt (drop (at + 1) ks) (drop (at + 1) xs)) n d′ (rw (rest ks, rest xs) at q) in
+          e ∙ ap (after at d) (fields-some left ks xs at p h (omega arith) k (s .0) (s .1) (at + 1 + n) (ap (λ (i : ℕ). at + 1 + i) (s .2)))
+          ∙ go (s .0) (s .2) (s .3) (fieldsAt (left - 1) (drop (at + 1 + n) ks) (drop (at + 1 + n) xs))
+        where
+          go : (t : DataType) → n ≡ size t → d′ ≡ depth t → (f : Option Fields) → after at d (mapO (field (getD xs at 0) t) f) ≡ after (at + 1 + n) (max d (d′ + 2)) f
+          go t y z none = refl
+          go t y z (some fs) = ap₂ Ends (let w : at + suc (size t + sizes fs) ≡ at + 1 + n + sizes fs = omega arith in w) (let w : max d (max (suc (suc (depth t))) (depths fs)) ≡ max (max d (d′ + 2)) (depths fs) = omega arith in w)

@@ -70,7 +70,7 @@ pub fn node_span(kinds: &[u8], args: &[u64]) -> Span
     }
 }
 
-// The given number of fields at the front of the two arrays. A leaf, under Lists and Arrays or not, needs no call.
+// The given number of fields at the front of the two arrays.
 pub fn field_span(kinds: &[u8], args: &[u64], count: u64) -> Span
     requires { ⌜ length (now kinds) ≡ length (now args) ⌝ }
     ensures { λ r. ⌜ r ≡ spansOf (fieldsAt count (now (kinds .entry)) (now (args .entry))) ⌝ }
@@ -86,20 +86,10 @@ pub fn field_span(kinds: &[u8], args: &[u64], count: u64) -> Span
             return Span::Broken;
         }
         let next = at + 1;
-        let lowest = bottom(kinds, args, next);
-        if lowest == kinds.len() {
-            return Span::Broken;
-        }
-        // the Struct and the field stand above the field's type: two levels more
-        if kinds[lowest] < Kind::LIST {
-            depth = larger(depth, lowest - at + 1);
-            at = lowest + 1;
-            left = left - 1;
-            continue;
-        }
         match node_span(&kinds[next..], &args[next..]) {
             Span::Ends(n, d) => {
                 at = next + n;
+                // the Struct and the field stand above the field's type: two levels more
                 depth = larger(depth, d + 2);
                 left = left - 1;
             }

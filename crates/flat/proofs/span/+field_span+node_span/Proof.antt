@@ -8,7 +8,7 @@ use Prim.Native.Nat.{ℕ, _+_, _-_, _≤_, _<_}
 use lib.ListN.{length}
 use borrow.Fn.Kinds.{In}
 use borrow.Fn.PlainCycle.{Measures, is, falls, and}
-use Rattle.flat.proofs.Spans.{within, withins, node-ends, node-none, node-leaf, node-struct, start, fields-short, fields-stray, fields-broken, fields-done, field-done, wrapped-ends, wrapped-leaf, Along}
+use Rattle.flat.proofs.Spans.{within, withins, node-ends, node-none, node-leaf, node-struct, start, fields-short, fields-stray, fields-broken, fields-done, field-done, Along}
 use Rattle.flat.proofs.span.field_span.Reads as field-span
 use Rattle.flat.proofs.span.field_span.Kinds as field-span-kinds
 use Rattle.flat.proofs.span.+field_span+node_span.Lts-field_span as field-span-lts
@@ -49,7 +49,7 @@ abbrev field-span-μ-loop : field-span-lts.MeasureT-loop
 field-span-μ-loop kinds args count at₀ depth₀ left₀ at depth left = left
 
 abbrev field-span-claims : ℕ → field-span-lts.Claims
-field-span-claims t = (bottom-reads.Asked, bottom-reads.Learnt, larger-reads.Asked, larger-reads.Learnt, node-span-below t, node-span.Post)
+field-span-claims t = (node-span-below t, node-span.Post, larger-reads.Asked, larger-reads.Learnt)
 
 abbrev node-span-claims : ℕ → node-span-lts.Claims
 node-span-claims t = (bottom-reads.Asked, bottom-reads.Learnt, field-span-below t, field-span.Post, under-reads.Asked, under-reads.Learnt)
@@ -69,45 +69,33 @@ field-span-returns-2 t c =
     let l = c .before .before .before .before in
     fields-stray (now (s .args .kinds)) (now (s .args .args)) (s .pre .1) (s .args .count) (l .loop .at) (l .loop .depth) (l .loop .left) (l .loop .inv .1) (c .before .before .before .loop-test .taken) (search needs) (c .if2 .taken)
 
-field-span-returns-3 : (t : ℕ) → field-span-lts.Need-returns-3 (field-span-claims t) (field-span-at t) field-span.Post field-span-Inv-loop field-span-μ-loop
-field-span-returns-3 t c =
-    let s = c .before .before .before .before .before .before .before .before .before in
-    let l = c .before .before .before .before .before .before in
-    wrapped-ends (now (s .args .kinds)) (now (s .args .args)) (s .pre .1) (s .args .count) (l .loop .at) (l .loop .depth) (l .loop .left) (l .loop .inv .1) (c .before .before .before .before .before .loop-test .taken) (search needs) (c .before .bottom .result) (c .before .bottom .ensures .1) (c .before .bottom .ensures .0) (c .if3 .taken)
+field-span-add-at : (t : ℕ) → field-span-lts.Need-add-at (field-span-claims t) (field-span-at t) field-span.Post field-span-Inv-loop field-span-μ-loop
+field-span-add-at t c =
+    let s = c .before .before .before .before .before .before .before .before .before .before .before .before .before in
+    let l = c .before .before .before .before .before .before .before .before .before .before in
+    omega (arith, within (l .loop .at + 1) (now (s .args .kinds)) (now (s .args .args)) (length (now (s .args .kinds)) - (l .loop .at + 1)) _ (sym (c .before .n .given .1) ∙ c .before .before .before .node-span .ensures) (omega arith))
+
+field-span-add-larger : (t : ℕ) → field-span-lts.Need-add-larger (field-span-claims t) (field-span-at t) field-span.Post field-span-Inv-loop field-span-μ-loop
+field-span-add-larger t c =
+    let s = c .before .before .before .before .before .before .before .before .before .before .before .before .before in
+    let l = c .before .before .before .before .before .before .before .before .before .before in
+    omega (arith, within (l .loop .at + 1) (now (s .args .kinds)) (now (s .args .args)) (length (now (s .args .kinds)) - (l .loop .at + 1)) _ (sym (c .before .n .given .1) ∙ c .before .before .before .node-span .ensures) (omega arith))
 
 field-span-loop-again : (t : ℕ) → field-span-lts.Need-loop-again (field-span-claims t) (field-span-at t) field-span.Post field-span-Inv-loop field-span-μ-loop
 field-span-loop-again t c =
+    let s = c .before .before .before .before .before .before .before .before .before .before .before .before .before .before in
+    let l = c .before .before .before .before .before .before .before .before .before .before .before in
+    let n = c .before .before .n .given in
+    (omega (arith, within (l .loop .at + 1) (now (s .args .kinds)) (now (s .args .args)) (length (now (s .args .kinds)) - (l .loop .at + 1)) _ (sym (n .1) ∙ c .before .before .before .before .node-span .ensures) (omega arith)), rw (c .larger .ensures) (field-done (now (s .args .kinds)) (now (s .args .args)) (s .pre .1) (s .args .count) (l .loop .at) (l .loop .depth) (l .loop .left) (l .loop .inv .1) (c .before .before .before .before .before .before .before .before .before .before .loop-test .taken) (search needs) (c .before .before .before .before .before .before .before .if2 .left) (n .0 .0) (n .0 .1 .0) (sym (n .1) ∙ c .before .before .before .before .node-span .ensures)))
+
+field-span-returns-3 : (t : ℕ) → field-span-lts.Need-returns-3 (field-span-claims t) (field-span-at t) field-span.Post field-span-Inv-loop field-span-μ-loop
+field-span-returns-3 t c =
     let s = c .before .before .before .before .before .before .before .before .before .before .before .before in
     let l = c .before .before .before .before .before .before .before .before .before in
-    (omega arith, rw (c .larger .ensures) (wrapped-leaf (now (s .args .kinds)) (now (s .args .args)) (s .pre .1) (s .args .count) (l .loop .at) (l .loop .depth) (l .loop .left) (l .loop .inv .1) (c .before .before .before .before .before .before .before .before .loop-test .taken) (search needs) (c .before .before .before .before .bottom .result) (c .before .before .before .before .bottom .ensures .1) (c .before .before .before .before .bottom .ensures .0) (omega arith) (c .before .before .before .before .before .if2 .left) (c .before .if4 .taken)))
-
-field-span-add-at-2 : (t : ℕ) → field-span-lts.Need-add-at-2 (field-span-claims t) (field-span-at t) field-span.Post field-span-Inv-loop field-span-μ-loop
-field-span-add-at-2 t c =
-    let s = c .before .before .before .before .before .before .before .before .before .before .before .before .before .before .before .before .before in
-    let l = c .before .before .before .before .before .before .before .before .before .before .before .before .before .before in
-    omega (arith, within (l .loop .at + 1) (now (s .args .kinds)) (now (s .args .args)) (length (now (s .args .kinds)) - (l .loop .at + 1)) _ (sym (c .before .n .given .1) ∙ c .before .before .before .node-span .ensures) (omega arith))
-
-field-span-add-larger-2 : (t : ℕ) → field-span-lts.Need-add-larger-2 (field-span-claims t) (field-span-at t) field-span.Post field-span-Inv-loop field-span-μ-loop
-field-span-add-larger-2 t c =
-    let s = c .before .before .before .before .before .before .before .before .before .before .before .before .before .before .before .before .before in
-    let l = c .before .before .before .before .before .before .before .before .before .before .before .before .before .before in
-    omega (arith, within (l .loop .at + 1) (now (s .args .kinds)) (now (s .args .args)) (length (now (s .args .kinds)) - (l .loop .at + 1)) _ (sym (c .before .n .given .1) ∙ c .before .before .before .node-span .ensures) (omega arith))
-
-field-span-loop-again-2 : (t : ℕ) → field-span-lts.Need-loop-again-2 (field-span-claims t) (field-span-at t) field-span.Post field-span-Inv-loop field-span-μ-loop
-field-span-loop-again-2 t c =
-    let s = c .before .before .before .before .before .before .before .before .before .before .before .before .before .before .before .before .before .before in
-    let l = c .before .before .before .before .before .before .before .before .before .before .before .before .before .before .before in
-    let n = c .before .before .n .given in
-    (omega (arith, within (l .loop .at + 1) (now (s .args .kinds)) (now (s .args .args)) (length (now (s .args .kinds)) - (l .loop .at + 1)) _ (sym (n .1) ∙ c .before .before .before .before .node-span .ensures) (omega arith)), rw (c .larger2 .ensures) (field-done (now (s .args .kinds)) (now (s .args .args)) (s .pre .1) (s .args .count) (l .loop .at) (l .loop .depth) (l .loop .left) (l .loop .inv .1) (c .before .before .before .before .before .before .before .before .before .before .before .before .before .before .loop-test .taken) (search needs) (c .before .before .before .before .before .before .before .before .before .before .before .if2 .left) (n .0 .0) (n .0 .1 .0) (sym (n .1) ∙ c .before .before .before .before .node-span .ensures)))
+    fields-broken (now (s .args .kinds)) (now (s .args .args)) (s .pre .1) (s .args .count) (l .loop .at) (l .loop .depth) (l .loop .left) (l .loop .inv .1) (c .before .before .before .before .before .before .before .before .loop-test .taken) (search needs) (sym (c .enum-told .given .1) ∙ c .before .before .node-span .ensures)
 
 field-span-returns-4 : (t : ℕ) → field-span-lts.Need-returns-4 (field-span-claims t) (field-span-at t) field-span.Post field-span-Inv-loop field-span-μ-loop
 field-span-returns-4 t c =
-    let s = c .before .before .before .before .before .before .before .before .before .before .before .before .before .before .before .before in
-    let l = c .before .before .before .before .before .before .before .before .before .before .before .before .before in
-    fields-broken (now (s .args .kinds)) (now (s .args .args)) (s .pre .1) (s .args .count) (l .loop .at) (l .loop .depth) (l .loop .left) (l .loop .inv .1) (c .before .before .before .before .before .before .before .before .before .before .before .before .loop-test .taken) (search needs) (sym (c .enum-told .given .1) ∙ c .before .before .node-span .ensures)
-
-field-span-returns-5 : (t : ℕ) → field-span-lts.Need-returns-5 (field-span-claims t) (field-span-at t) field-span.Post field-span-Inv-loop field-span-μ-loop
-field-span-returns-5 t c =
     let s = c .before .before .before .before in
     let l = c .before in
     fields-done (now (s .args .kinds)) (now (s .args .args)) (s .pre .1) (s .args .count) (l .loop .at) (l .loop .depth) (l .loop .left) (l .loop .inv .1) (omega arith)
@@ -138,7 +126,7 @@ node-span-returns-4 t c =
     node-none (now (s .args .kinds)) (now (s .args .args)) 0 (c .before .before .before .before .before .bottom .result) (c .before .before .before .before .before .bottom .result) (sym (zero-add _)) (c .before .before .before .before .before .bottom .ensures .0 ∙ zero-add _) (search needs) (search needs) (omega arith) (c .before .match .rest .1)
 
 pub +field-span+node-span-spec : {M : Type 1} → statement M
-+field-span+node-span-spec = close μ-field-span μ-node-span (λ t. field-span-lts.spec (bottom-reads.Asked, bottom-reads.Learnt, larger-reads.Asked, larger-reads.Learnt, node-span-below t, node-span.Post)
++field-span+node-span-spec = close μ-field-span μ-node-span (λ t. field-span-lts.spec (node-span-below t, node-span.Post, larger-reads.Asked, larger-reads.Learnt)
     (field-span-at t)
     field-span.Post
     field-span-Inv-loop
@@ -147,18 +135,14 @@ pub +field-span+node-span-spec : {M : Type 1} → statement M
     (field-span-returns t)
     (λ c. search needs)
     (field-span-returns-2 t)
-    (λ c. search needs) (λ c κs. search needs)
-    (field-span-returns-3 t)
-    (λ c. search needs) (λ c. search needs) (λ c. search needs) (λ c κs. search needs) (λ c. search needs) (λ c. search needs) (λ c. search needs)
-    (field-span-loop-again t)
-    (λ c. search needs) (λ c. search needs) (λ c. search needs) (λ c. search needs) (λ c. search needs) (λ c. search needs) (λ c. search needs) (λ c κs. search needs) (λ c. search needs)
-    (field-span-add-at-2 t)
-    (field-span-add-larger-2 t)
+    (λ c. search needs) (λ c. search needs) (λ c. search needs) (λ c. search needs) (λ c. search needs) (λ c. search needs) (λ c. search needs) (λ c. search needs) (λ c κs. search needs) (λ c. search needs)
+    (field-span-add-at t)
+    (field-span-add-larger t)
     (λ c κs. search needs) (λ c. search needs) (λ c. search needs)
-    (field-span-loop-again-2 t)
+    (field-span-loop-again t)
     (λ c. search needs)
-    (field-span-returns-4 t)
-    (field-span-returns-5 t))
+    (field-span-returns-3 t)
+    (field-span-returns-4 t))
     λ t. node-span-lts.spec (bottom-reads.Asked, bottom-reads.Learnt, field-span-below t, field-span.Post, under-reads.Asked, under-reads.Learnt)
     (node-span-at t)
     node-span.Post
