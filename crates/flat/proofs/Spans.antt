@@ -7,7 +7,7 @@ use Prim.Native.Nat.{ℕ, suc, _+_, _-_, _≤_, _<_, max}
 use native.Mathlib.Omega.{arith}
 use native.Mathlib.Numerals.{add-one}
 use lib.ListN.{length, getD, drop, length-drop, drop-of-length-le}
-use lib.Seq.{drop-cons, drop-drop, getD-drop}
+use lib.Seq.{drop-cons}
 use Rattle.flat.specs.Kind
 use Rattle.flat.specs.Tree.{DataType, list, array, struct, Fields, field, size, sizes, depth, depths}
 use Rattle.flat.specs.Reader.{Children, no-child, under-list, under-array, fields, no-type, mapO, children, underNode, nodeAt, fieldsAt}
@@ -43,9 +43,9 @@ pub broken : (p : Option DataType) → Broken ≡ spanOf p → p ≡ none
 broken none e = refl
 broken (some t) e = absurd (let z : _≡_ {A = ℕ} 0 1 = cc in omega arith)
 
--- ---- the Lists and Arrays at a place, of which all down to `at` were seen
-module _ (ks xs : List ℕ) (start at : ℕ) (e : start + wrappersOf (drop start ks) (drop start xs) ≡ at + wrappersOf (drop at ks) (drop at xs)) where
-  pub wrappers-end : length ks ≤ at → at ≡ start + wrappersOf (drop start ks) (drop start xs)
+-- ---- the Lists and Arrays at the front, of which all down to `at` were seen
+module _ (ks xs : List ℕ) (at : ℕ) (e : wrappersOf ks xs ≡ at + wrappersOf (drop at ks) (drop at xs)) where
+  pub wrappers-end : length ks ≤ at → at ≡ wrappersOf ks xs
   unfolding wrappersOf
   wrappers-end h = sym (e ∙ ap (λ (l : List ℕ). at + wrappersOf l (drop at xs)) (drop-of-length-le ks h) ∙ (let z : at + 0 ≡ at = omega arith in z))
 
@@ -54,10 +54,10 @@ module _ (ks xs : List ℕ) (start at : ℕ) (e : start + wrappersOf (drop start
     unfolding wrappersOf
     wrappers-step = rw (add-one, drop-cons ks at 0 h, drop-cons xs at 0 h′, c)
 
-    pub wrappers-stop : wrapping s (wrappersOf (drop (at + 1) ks) (drop (at + 1) xs)) ≡ 0 → at ≡ start + wrappersOf (drop start ks) (drop start xs)
+    pub wrappers-stop : wrapping s (wrappersOf (drop (at + 1) ks) (drop (at + 1) xs)) ≡ 0 → at ≡ wrappersOf ks xs
     wrappers-stop z = omega (arith, e, wrappers-step, z)
 
-    pub wrappers-on : wrapping s (wrappersOf (drop (at + 1) ks) (drop (at + 1) xs)) ≡ suc (wrappersOf (drop (at + 1) ks) (drop (at + 1) xs)) → start + wrappersOf (drop start ks) (drop start xs) ≡ at + 1 + wrappersOf (drop (at + 1) ks) (drop (at + 1) xs)
+    pub wrappers-on : wrapping s (wrappersOf (drop (at + 1) ks) (drop (at + 1) xs)) ≡ suc (wrappersOf (drop (at + 1) ks) (drop (at + 1) xs)) → wrappersOf ks xs ≡ at + 1 + wrappersOf (drop (at + 1) ks) (drop (at + 1) xs)
     wrappers-on z = omega (arith, e, wrappers-step, z)
 
 pub no-wrapper : (k a n : ℕ) → (k ≡ Kind.List → ⊥) → (k ≡ Kind.Array → ⊥) → wrapping (children k a) n ≡ 0
@@ -131,36 +131,28 @@ wrapped (k ∷ ks) (a ∷ xs) = go (children k a) refl (wrapped ks xs)
     go fields c r = none-over (nodeAt (k ∷ ks) (a ∷ xs))
     go no-type c r = none-over (nodeAt (k ∷ ks) (a ∷ xs))
 
--- n Lists and Arrays stand at s, and end at b
-module _ (ks xs : List ℕ) (s n b : ℕ) (e : b ≡ s + n) (w : n ≡ wrappersOf (drop s ks) (drop s xs)) where
-  down : spanOf (nodeAt (drop s ks) (drop s xs)) ≡ below n (nodeAt (drop b ks) (drop b xs))
-  down = wrapped (drop s ks) (drop s xs) ∙ ap (λ (i : ℕ). below i (nodeAt (drop i (drop s ks)) (drop i (drop s xs)))) (sym w) ∙ ap₂ (λ (k x : List ℕ). below n (nodeAt k x)) (past ks) (past xs)
-    where
-      past : (l : List ℕ) → drop n (drop s l) ≡ drop b l
-      past l = drop-drop n s l ∙ ap (λ (i : ℕ). drop i l) (sym e)
+-- n Lists and Arrays stand at the front
+module _ (ks xs : List ℕ) (n : ℕ) (w : n ≡ wrappersOf ks xs) where
+  down : spanOf (nodeAt ks xs) ≡ below n (nodeAt (drop n ks) (drop n xs))
+  down = wrapped ks xs ∙ ap (λ (i : ℕ). below i (nodeAt (drop i ks) (drop i xs))) (sym w)
 
-  pub node-ends : b ≡ length ks → Broken ≡ spanOf (nodeAt (drop s ks) (drop s xs))
-  node-ends h = sym (down ∙ ap (below n) (node-end (drop b ks) (drop b xs) (rw length-drop (omega arith))))
+  pub node-ends : n ≡ length ks → Broken ≡ spanOf (nodeAt ks xs)
+  node-ends h = sym (down ∙ ap (below n) (node-end (drop n ks) (drop n xs) (rw length-drop (omega arith))))
 
-  module _ (h : b < length ks) (h′ : b < length xs) where
-    pub node-leaf : getD ks b 0 < Kind.List → Ends (n + 1) n ≡ spanOf (nodeAt (drop s ks) (drop s xs))
+  module _ (h : n < length ks) (h′ : n < length xs) where
+    pub node-leaf : getD ks n 0 < Kind.List → Ends (n + 1) n ≡ spanOf (nodeAt ks xs)
     unfolding size depth
-    node-leaf k = sym (down ∙ ap (below n) (node-at ks xs b h h′ no-child (children-leaf _ _ (omega arith))) ∙ ap (Ends (n + 1)) (let z : n + 0 ≡ n = omega arith in z))
+    node-leaf k = sym (down ∙ ap (below n) (node-at ks xs n h h′ no-child (children-leaf _ _ (omega arith))) ∙ ap (Ends (n + 1)) (let z : n + 0 ≡ n = omega arith in z))
 
-    pub node-none : Kind.UnknownIntNeg < getD ks b 0 → (getD ks b 0 ≡ Kind.Struct → ⊥) → Broken ≡ spanOf (nodeAt (drop s ks) (drop s xs))
-    node-none l o = sym (down ∙ ap (below n) (node-at ks xs b h h′ no-type (no-other _ _ l o low)))
+    pub node-none : Kind.UnknownIntNeg < getD ks n 0 → (getD ks n 0 ≡ Kind.Struct → ⊥) → Broken ≡ spanOf (nodeAt ks xs)
+    node-none l o = sym (down ∙ ap (below n) (node-at ks xs n h h′ no-type (no-other _ _ l o low)))
       where
-        there : (l : List ℕ) → getD (drop s l) n 0 ≡ getD l b 0
-        there l = getD-drop s l n 0 ∙ ap (λ (i : ℕ). getD l i 0) (sym e)
+        low : wrapping (children (getD ks n 0) (getD xs n 0)) 0 ≡ 0
+        low = subst (λ (i : ℕ). wrapping (children (getD ks i 0) (getD xs i 0)) 0 ≡ 0) (sym w) (lowest ks xs (omega arith) (omega arith))
 
-        low : wrapping (children (getD ks b 0) (getD xs b 0)) 0 ≡ 0
-        low =
-            ap₂ (λ (k a : ℕ). wrapping (children k a) 0) (sym (there ks)) (sym (there xs))
-            ∙ subst (λ (i : ℕ). wrapping (children (getD (drop s ks) i 0) (getD (drop s xs) i 0)) 0 ≡ 0) (sym w) (lowest (drop s ks) (drop s xs) (rw length-drop (omega arith)) (rw length-drop (omega arith)))
-
-    pub node-struct : getD ks b 0 ≡ Kind.Struct → (r : Span) → r ≡ spansOf (fieldsAt (getD xs b 0) (from (b + 1) ks) (from (b + 1) xs)) → spanUnder n r ≡ spanOf (nodeAt (drop s ks) (drop s xs))
+    pub node-struct : getD ks n 0 ≡ Kind.Struct → (r : Span) → r ≡ spansOf (fieldsAt (getD xs n 0) (from (n + 1) ks) (from (n + 1) xs)) → spanUnder n r ≡ spanOf (nodeAt ks xs)
     unfolding size depth
-    node-struct k r q = ap (spanUnder n) q ∙ rw (rest, rest) (go (fieldsAt (getD xs b 0) (drop (b + 1) ks) (drop (b + 1) xs))) ∙ sym (down ∙ ap (below n) (node-at ks xs b h h′ fields (children-struct _ _ k)))
+    node-struct k r q = ap (spanUnder n) q ∙ rw (rest, rest) (go (fieldsAt (getD xs n 0) (drop (n + 1) ks) (drop (n + 1) xs))) ∙ sym (down ∙ ap (below n) (node-at ks xs n h h′ fields (children-struct _ _ k)))
       where
         go : (p : Option Fields) → spanUnder n (spansOf p) ≡ below n (mapO struct p)
         go none = refl

@@ -1,7 +1,7 @@
 // The walk of the check: a node hands its fields to a walk over fields, which hands each field back.
 ghost use mathlib.Core.Path.{_≡_};
-ghost use lib.ListN.{length, drop};
-ghost use Prim.Native.Nat.{_+_, _^_, _≤_, max};
+ghost use lib.ListN.{length};
+ghost use Prim.Native.Nat.{_^_, _≤_, max};
 ghost use Rattle.flat.specs.Reader.{nodeAt, fieldsAt};
 ghost use Rattle.flat.specs.Span.{spanOf, spansOf, wrappersOf, spanUnder, Within};
 use crate::kind::Kind;
@@ -18,12 +18,12 @@ fn larger(a: usize, b: usize) -> usize
     if a < b { b } else { a }
 }
 
-// Where the Lists and Arrays end that stand at a place, one under the other.
-fn bottom(kinds: &[u8], args: &[u64], start: usize) -> usize
-    requires { ⌜ (length (now kinds) ≡ length (now args)) × (start ≤ length (now kinds)) ⌝ }
-    ensures { λ r. ⌜ (r ≡ start + wrappersOf (drop start (now (kinds .entry))) (drop start (now (args .entry)))) × (start ≤ r) × (r ≤ length (now (kinds .entry))) ⌝ }
+// Where the Lists and Arrays end that stand at the front, one under the other.
+fn bottom(kinds: &[u8], args: &[u64]) -> usize
+    requires { ⌜ length (now kinds) ≡ length (now args) ⌝ }
+    ensures { λ r. ⌜ (r ≡ wrappersOf (now (kinds .entry)) (now (args .entry))) × (r ≤ length (now (kinds .entry))) ⌝ }
 {
-    let mut at = start;
+    let mut at = 0;
     while at < kinds.len() {
         let k = kinds[at];
         match k {
@@ -56,7 +56,7 @@ pub fn node_span(kinds: &[u8], args: &[u64]) -> Span
     requires { ⌜ length (now kinds) ≡ length (now args) ⌝ }
     ensures { λ r. ⌜ r ≡ spanOf (nodeAt (now (kinds .entry)) (now (args .entry))) ⌝ }
 {
-    let at = bottom(kinds, args, 0);
+    let at = bottom(kinds, args);
     if at == kinds.len() {
         return Span::Broken;
     }

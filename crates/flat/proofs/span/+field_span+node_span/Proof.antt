@@ -1,6 +1,5 @@
 -- The check's walk: `node_span` and `field_span` call each other, and the number of nodes left falls. The laws are in proofs/Spans.antt. Assumes nothing.
 use mathlib.Core.Path.{sym, _∙_}
-use native.Mathlib.Nat.{zero-add}
 use native.Mathlib.Omega.{arith}
 use denote.Ref.{now}
 use borrow.Author.Needs.{needs}
@@ -103,27 +102,27 @@ field-span-returns-4 t c =
 node-span-returns : (t : ℕ) → node-span-lts.Need-returns (node-span-claims t) (node-span-at t) node-span.Post
 node-span-returns t c =
     let s = c .before .before .before .before in
-    node-ends (now (s .args .kinds)) (now (s .args .args)) 0 (c .before .bottom .result) (c .before .bottom .result) (sym (zero-add _)) (c .before .bottom .ensures .0 ∙ zero-add _) (c .if1 .taken)
+    node-ends (now (s .args .kinds)) (now (s .args .args)) (c .before .bottom .result) (c .before .bottom .ensures .0) (c .if1 .taken)
 
 node-span-under-requires : (t : ℕ) → node-span-lts.Need-under-requires (node-span-claims t) (node-span-at t) node-span.Post
 node-span-under-requires t c κs =
     let s = c .before .before .before .before .before .before .before .before .before .before in
-    (withins _ (c .before .before .before .before .before .before .before .bottom .result + 1) (now (s .args .kinds)) (now (s .args .args)) _ _ (c .field-span .ensures) (omega (arith, s .good, s .pre .1)), omega (arith, s .good, s .pre .1, c .before .before .before .before .before .before .before .bottom .ensures .2))
+    (withins _ (c .before .before .before .before .before .before .before .bottom .result + 1) (now (s .args .kinds)) (now (s .args .args)) _ _ (c .field-span .ensures) (omega (arith, s .good, s .pre .1)), omega (arith, s .good, s .pre .1, c .before .before .before .before .before .before .before .bottom .ensures .1))
 
 node-span-returns-2 : (t : ℕ) → node-span-lts.Need-returns-2 (node-span-claims t) (node-span-at t) node-span.Post
 node-span-returns-2 t c =
     let s = c .before .before .before .before .before .before .before .before .before .before .before in
-    c .under .ensures ∙ node-struct (now (s .args .kinds)) (now (s .args .args)) 0 (c .before .before .before .before .before .before .before .before .bottom .result) (c .before .before .before .before .before .before .before .before .bottom .result) (sym (zero-add _)) (c .before .before .before .before .before .before .before .before .bottom .ensures .0 ∙ zero-add _) (search needs) (search needs) (c .before .before .before .before .match .keys1) _ (c .before .field-span .ensures)
+    c .under .ensures ∙ node-struct (now (s .args .kinds)) (now (s .args .args)) (c .before .before .before .before .before .before .before .before .bottom .result) (c .before .before .before .before .before .before .before .before .bottom .ensures .0) (search needs) (search needs) (c .before .before .before .before .match .keys1) _ (c .before .field-span .ensures)
 
 node-span-returns-3 : (t : ℕ) → node-span-lts.Need-returns-3 (node-span-claims t) (node-span-at t) node-span.Post
 node-span-returns-3 t c =
     let s = c .before .before .before .before .before .before .before .before in
-    node-leaf (now (s .args .kinds)) (now (s .args .args)) 0 (c .before .before .before .before .before .bottom .result) (c .before .before .before .before .before .bottom .result) (sym (zero-add _)) (c .before .before .before .before .before .bottom .ensures .0 ∙ zero-add _) (search needs) (search needs) (c .if2 .taken)
+    node-leaf (now (s .args .kinds)) (now (s .args .args)) (c .before .before .before .before .before .bottom .result) (c .before .before .before .before .before .bottom .ensures .0) (search needs) (search needs) (c .if2 .taken)
 
 node-span-returns-4 : (t : ℕ) → node-span-lts.Need-returns-4 (node-span-claims t) (node-span-at t) node-span.Post
 node-span-returns-4 t c =
     let s = c .before .before .before .before .before .before .before .before in
-    node-none (now (s .args .kinds)) (now (s .args .args)) 0 (c .before .before .before .before .before .bottom .result) (c .before .before .before .before .before .bottom .result) (sym (zero-add _)) (c .before .before .before .before .before .bottom .ensures .0 ∙ zero-add _) (search needs) (search needs) (omega arith) (c .before .match .rest .1)
+    node-none (now (s .args .kinds)) (now (s .args .args)) (c .before .before .before .before .before .bottom .result) (c .before .before .before .before .before .bottom .ensures .0) (search needs) (search needs) (omega arith) (c .before .match .rest .1)
 
 pub +field-span+node-span-spec : {M : Type 1} → statement M
 +field-span+node-span-spec = close μ-field-span μ-node-span (λ t. field-span-lts.spec (node-span-below t, node-span.Post, larger-reads.Asked, larger-reads.Learnt)
