@@ -9,8 +9,9 @@ use Rattle.flat.specs.declared.error.Error.{Error}
 use Rattle.flat.specs.declared.Checked.{Checked}
 use Rattle.flat.proofs.Meaning.{checked-type, checked-refused}
 use Rattle.encoding.specs.Encoding.{encodedSize}
-use Rattle.encoding.specs.Answer.{decodedOf, Decodes, encodedOf, Encodes}
-use Rattle.encoding.specs.declared.Decoded.{Decoded}
+use Rattle.encoding.specs.Answer.{encodedOf, Encodes}
+use Rattle.flat.specs.declared.Written.{Written}
+use Rattle.flat.specs.Output.{writtenOf, Writes}
 use Rattle.encoding.specs.declared.Encoded.{Encoded}
 use Rattle.capi.specs.Reply.{replyOf, checkReply, DecodeReply, EncodeReply}
 use Rattle.capi.specs.declared.Reply.{Reply}
@@ -27,18 +28,18 @@ pub check-refused : (r : Reading) (e : Error) {a : Reply} → Checked.Refused e 
 check-refused r e q h = of-refusal (λ t. 0) h (checked-refused r e q)
 
 -- ---- lz_decode
-module _ {r : Reading} {ks xs ks′ xs′ : List ℕ} {d : Decoded} (f : Decodes r ks xs ks′ xs′ d) where
-  pub decode-nodes : {n : ℕ} → d ≡ Decoded.Nodes n → DecodeReply r ks xs ks′ xs′ (record { number = 0; value = n })
+module _ {r : Reading} {ks xs ks′ xs′ : List ℕ} {d : Written} (f : Writes r ks xs ks′ xs′ d) where
+  pub decode-nodes : {n : ℕ} → d ≡ Written.Nodes n → DecodeReply r ks xs ks′ xs′ (record { number = 0; value = n })
   decode-nodes {n} q = record { replies = go r (sym q ∙ f .answers); kinds = f .kinds; args = f .args }
     where
-      go : (r : Reading) → Decoded.Nodes n ≡ decodedOf r → record { number = 0; value = n } ≡ replyOf size r
+      go : (r : Reading) → Written.Nodes n ≡ writtenOf r → record { number = 0; value = n } ≡ replyOf size r
       go (refused e) q = absurd (let z : _≡_ {A = ℕ} 0 1 = cc in omega arith)
       go (type t) q = let y : n ≡ size t = cc in λ i. record { number = 0; value = y i }
 
-  pub decode-refused : {e : Error} {a : Reply} → d ≡ Decoded.Refused e → a ≡ checkReply (refused e) → DecodeReply r ks xs ks′ xs′ a
+  pub decode-refused : {e : Error} {a : Reply} → d ≡ Written.Refused e → a ≡ checkReply (refused e) → DecodeReply r ks xs ks′ xs′ a
   decode-refused {e} q h = record { replies = of-refusal size h (go r (sym q ∙ f .answers)); kinds = f .kinds; args = f .args }
     where
-      go : (r : Reading) → Decoded.Refused e ≡ decodedOf r → r ≡ refused e
+      go : (r : Reading) → Written.Refused e ≡ writtenOf r → r ≡ refused e
       go (refused d) q = let y : d ≡ e = cc in ap refused y
       go (type t) q = absurd (let z : _≡_ {A = ℕ} 0 1 = cc in omega arith)
 

@@ -6,11 +6,11 @@ ghost use Rattle.flat.specs.Output.{fitting};
 ghost use Rattle.encoding.specs.Encoding.{decoding};
 ghost use Rattle.encoding.specs.Answer.{fittingBytes};
 ghost use Rattle.capi.specs.Reply.{checkReply, DecodeReply, EncodeReply};
-use encoding::Decoded;
 use encoding::Encoded;
 use encoding::Encoding;
 use flat::Checked;
 use flat::Flat;
+use flat::Written;
 use flat::error::Error;
 
 // 0 and a value, or a refusal's number and 0.
@@ -57,11 +57,11 @@ pub extern "C" fn lz_decode(encoded: &[u8], kinds: &mut [u8], args: &mut [u64]) 
       ⌜ DecodeReply (fitting (length (now (kinds .entry))) (length (now (args .entry))) (decoding w nodes deep (now (encoded .entry)))) (now (kinds .entry)) (now (args .entry)) (now (kinds .exit)) (now (args .exit)) r ⌝ }
 {
     match encoding::decode(encoded, kinds, args) {
-        Decoded::Nodes(n) => Reply {
+        Written::Nodes(n) => Reply {
             number: 0,
             value: n as u64,
         },
-        Decoded::Refused(e) => refusal(e),
+        Written::Refused(e) => refusal(e),
     }
 }
 

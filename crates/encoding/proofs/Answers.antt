@@ -15,14 +15,14 @@ use Rattle.flat.specs.Tree.{DataType, size, kindsOf, argsOf}
 use Rattle.flat.specs.Reading.{Reading, refused, type, unless, reading, checkedOf}
 use Rattle.flat.specs.declared.Checked.{Checked}
 use Rattle.flat.specs.declared.Checked.the-variants.{Valid}
-use Rattle.flat.specs.Output.{over, kindsOver, argsOver}
+use Rattle.flat.specs.Output.{over, kindsOver, argsOver, Writes}
 use Rattle.flat.specs.declared.error.Error.{Error}
 use Rattle.flat.specs.declared.error.Error.the-variants.{Length}
 use Rattle.flat.proofs.Sizes.{length-kinds, length-args}
 use Rattle.flat.proofs.Meaning.{holds, checked-type}
 use Rattle.encoding.specs.Encoding.{argsFrom, encoding, encodedSize, countIn, kindsIn, argsIn, sizeFits, decoding}
-use Rattle.encoding.specs.Answer.{nodesIn, Decodes, bytesOver, Encodes}
-use Rattle.encoding.specs.declared.Decoded.{Decoded}
+use Rattle.encoding.specs.Answer.{nodesIn, bytesOver, Encodes}
+use Rattle.flat.specs.declared.Written.{Written}
 use Rattle.encoding.specs.declared.Encoded.{Encoded}
 use Rattle.encoding.proofs.Laws.{argsFrom-length, size-parts}
 
@@ -137,17 +137,17 @@ encoded-form {w} {nodes} {deep} {n} {s} v e c =
 
 -- ---- what `decode` and `encode` come to
 
-pub decodes-refused : {r : Reading} {e : Error} {ks xs : List ℕ} → r ≡ refused e → Decodes r ks xs ks xs (Decoded.Refused e)
+pub decodes-refused : {r : Reading} {e : Error} {ks xs : List ℕ} → r ≡ refused e → Writes r ks xs ks xs (Written.Refused e)
 unfolding kindsOver argsOver
 decodes-refused h = rw h (record { answers = refl; kinds = refl; args = refl })
 
 -- the two parts of s, over the front of the two arrays
 pub decodes-type : {w nodes deep n : ℕ} {s : List ℕ} {r : Reading} {ks xs ks′ xs′ : List ℕ} (f : EncodedForm w nodes deep n s) → r ≡ type (f .tree)
-    → ks′ ≡ over (take (2 + n - 2) (drop 2 s)) ks → xs′ ≡ argsFrom w n (take (length s - (2 + n)) (drop (2 + n) s)) ++ drop n xs → Decodes r ks xs ks′ xs′ (Decoded.Nodes n)
+    → ks′ ≡ over (take (2 + n - 2) (drop 2 s)) ks → xs′ ≡ argsFrom w n (take (length s - (2 + n)) (drop (2 + n) s)) ++ drop n xs → Writes r ks xs ks′ xs′ (Written.Nodes n)
 unfolding kindsOver argsOver
 decodes-type f h k a =
     let z = f .sized in
-    rw h (record { answers = ap Decoded.Nodes (sym (f .tree-size)); kinds = rw (← f .kinds, ← kinds-part z) k; args = rw (← f .args, args-length z, ← args-part z) a })
+    rw h (record { answers = ap Written.Nodes (sym (f .tree-size)); kinds = rw (← f .kinds, ← kinds-part z) k; args = rw (← f .args, args-length z, ← args-part z) a })
 
 pub encodes-refused : {w : ℕ} {r : Reading} {e : Error} {out : List ℕ} → r ≡ refused e → Encodes w r out out (Encoded.Refused e)
 unfolding bytesOver

@@ -6,26 +6,14 @@ use Prim.Native.Nat.{ℕ}
 use lib.Dec.{leb}
 use Rattle.flat.specs.Tree.{size, kindsOf, argsOf}
 use Rattle.flat.specs.Reading.{Reading, refused, type, unless}
-use Rattle.flat.specs.Output.{over, kindsOver, argsOver}
+use Rattle.flat.specs.Output.{over}
 use Rattle.flat.specs.declared.error.Error.the-variants.{OutputTooShort}
 use Rattle.encoding.specs.Encoding.{encoding, encodedSize, countIn, sizeFits}
-use Rattle.encoding.specs.declared.Decoded.{Decoded}
 use Rattle.encoding.specs.declared.Encoded.{Encoded}
 
 -- the number of nodes that bytes of the right length hold, 0 of any others
 unfoldable pub nodesIn : ℕ → ℕ → List ℕ → ℕ
 nodesIn w nodes s = cond (sizeFits w nodes s) (countIn s) 0
-
--- the answer of `decode`: the number of nodes
-abbrev pub decodedOf : Reading → Decoded
-decodedOf (refused e) = Decoded.Refused e
-decodedOf (type t) = Decoded.Nodes (size t)
-
--- What `decode` comes to: its answer, and the two lent arrays, ks and xs before the call and ks′ and xs′ after it.
-pub record Decodes (r : Reading) (ks xs ks′ xs′ : List ℕ) (answer : Decoded) : Type 0 where
-  pub answers : answer ≡ decodedOf r
-  pub kinds : ks′ ≡ kindsOver r ks
-  pub args : xs′ ≡ argsOver r xs
 
 -- 8: the output, of m bytes, is shorter than the result, where there is one
 unfoldable pub fittingBytes : ℕ → ℕ → Reading → Reading

@@ -5,11 +5,12 @@ ghost use mathlib.Core.Path.{_≡_};
 ghost use Prim.Native.Nat.{_≤_};
 ghost use lib.ListN.{length};
 ghost use Rattle.flat.specs.Reading.{reading, checkedOf};
-ghost use Rattle.flat.specs.Output.{over, fitting};
+ghost use Rattle.flat.specs.Output.{over, fitting, Writes};
 ghost use Rattle.encoding.specs.Encoding.{argsIn, decoding};
-ghost use Rattle.encoding.specs.Answer.{nodesIn, Decodes, fittingBytes, Encodes};
+ghost use Rattle.encoding.specs.Answer.{nodesIn, fittingBytes, Encodes};
 use flat::Checked;
 use flat::Flat;
+use flat::Written;
 use flat::error::Error;
 
 // The layout of an encoded type.
@@ -20,12 +21,6 @@ impl Encoding {
 
     // A type of so few nodes is checked with a small array: a large one takes longer to clear than to use.
     const FEW: usize = 24;
-}
-
-// What decoding answers: the number of nodes written.
-pub enum Decoded {
-    Nodes(usize),
-    Refused(Error),
 }
 
 // What encoding answers: the number of bytes written.
@@ -98,27 +93,27 @@ pub fn check(encoded: &[u8]) -> Checked
 }
 
 // Decodes a type to the front of kinds and args: refusals 1 to 5, then 8.
-pub fn decode(encoded: &[u8], kinds: &mut [u8], args: &mut [u64]) -> Decoded
+pub fn decode(encoded: &[u8], kinds: &mut [u8], args: &mut [u64]) -> Written
     ensures { λ r. do
       nodes ← ⟦Flat::MAX_NODES⟧ .entry
       deep ← ⟦Flat::MAX_DEPTH⟧ .entry
       w ← ⟦Encoding::ARGUMENT_BYTES⟧ .entry
-      ⌜ Decodes (fitting (length (now (kinds .entry))) (length (now (args .entry))) (decoding w nodes deep (now (encoded .entry)))) (now (kinds .entry)) (now (args .entry)) (now (kinds .exit)) (now (args .exit)) r ⌝ }
+      ⌜ Writes (fitting (length (now (kinds .entry))) (length (now (args .entry))) (decoding w nodes deep (now (encoded .entry)))) (now (kinds .entry)) (now (args .entry)) (now (kinds .exit)) (now (args .exit)) r ⌝ }
 {
     match check(encoded) {
-        Checked::Refused(e) => Decoded::Refused(e),
+        Checked::Refused(e) => Written::Refused(e),
         Checked::Valid => {
             let n = bytes::count(encoded);
             if kinds.len() < n {
-                return Decoded::Refused(Error::OutputTooShort);
+                return Written::Refused(Error::OutputTooShort);
             }
             if args.len() < n {
-                return Decoded::Refused(Error::OutputTooShort);
+                return Written::Refused(Error::OutputTooShort);
             }
             let m = 2 + n;
             bytes::copy(&encoded[2..m], kinds);
             bytes::read_args(&encoded[m..], n, args);
-            Decoded::Nodes(n)
+            Written::Nodes(n)
         }
     }
 }

@@ -11,7 +11,7 @@ use lib.ListN.{length, getD, take, drop, length-drop}
 use lib.Seq.{drop-drop}
 use borrow.Author.Tests.{eqb-true}
 use Rattle.flat.specs.Kind
-use Rattle.flat.specs.Tree.{DataType, leaf, list, array, struct, Fields, empty, field, size, sizes, count}
+use Rattle.flat.specs.Tree.{DataType, leaf, list, array, struct, Fields, empty, field, size, sizes, count, headKind, headArg}
 use Rattle.flat.specs.Reader.{Children, no-child, under-list, under-array, fields, no-type, children, mapO, bindO, underNode, underField, nodeAt, fieldsAt}
 use Rattle.flat.specs.Walk.{Node, Run, orElse, typeAt, runAt, Valid, ValidRun}
 use Rattle.flat.proofs.Sizes.{size-pos}
@@ -183,19 +183,6 @@ module _ (m : ℕ) (ks xs : List ℕ) (v : ValidRun m ks xs) (p : (m ≡ 0) → 
     pub field-nodes : sizes (runAt m ks xs) ≡ suc (n + sizes (runAt (m - 1) (from (n + 1) ks) (from (n + 1) xs)))
     unfolding size
     field-nodes = ap sizes run-field ∙ rw e
-
--- the kind and the argument at a tree's root
-unfoldable pub headKind : DataType → ℕ
-headKind (leaf k a) = k
-headKind (list t) = Kind.List
-headKind (array w t) = Kind.Array
-headKind (struct fs) = Kind.Struct
-
-unfoldable pub headArg : DataType → ℕ
-headArg (leaf k a) = a
-headArg (list t) = 0
-headArg (array w t) = w
-headArg (struct fs) = count fs
 
 module _ (ks xs : List ℕ) (v : Valid ks xs) where
   heads : (headKind (typeAt ks xs) ≡ getD ks 0 0) × (headArg (typeAt ks xs) ≡ getD xs 0 0)

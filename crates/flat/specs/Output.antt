@@ -1,4 +1,5 @@
 -- What a call that writes a type leaves in the two lent arrays. Assumes nothing: these are definitions.
+use mathlib.Core.Path.{_≡_}
 use mathlib.Core.Bool.{_&&_}
 use mathlib.Core.List.{List, _++_}
 use Prim.Native.Nat.{ℕ}
@@ -7,6 +8,7 @@ use lib.ListN.{length, drop}
 use Rattle.flat.specs.Tree.{size, kindsOf, argsOf}
 use Rattle.flat.specs.Reading.{Reading, refused, type, unless}
 use Rattle.flat.specs.declared.error.Error.the-variants.{OutputTooShort}
+use Rattle.flat.specs.declared.Written.{Written}
 
 -- 8: the output arrays, of k kinds and a arguments, are shorter than the result, where there is one
 unfoldable pub fitting : ℕ → ℕ → Reading → Reading
@@ -26,3 +28,14 @@ kindsOver (type t) out = over (kindsOf t) out
 unfoldable pub argsOver : Reading → List ℕ → List ℕ
 argsOver (refused e) out = out
 argsOver (type t) out = over (argsOf t) out
+
+-- the answer of a call that writes a type: the number of nodes
+abbrev pub writtenOf : Reading → Written
+writtenOf (refused e) = Written.Refused e
+writtenOf (type t) = Written.Nodes (size t)
+
+-- What such a call comes to: its answer, and the two lent arrays, ks and xs before the call and ks′ and xs′ after it.
+pub record Writes (r : Reading) (ks xs ks′ xs′ : List ℕ) (answer : Written) : Type 0 where
+  pub answers : answer ≡ writtenOf r
+  pub kinds : ks′ ≡ kindsOver r ks
+  pub args : xs′ ≡ argsOver r xs

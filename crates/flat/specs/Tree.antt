@@ -21,6 +21,19 @@ unfoldable pub count : Fields → ℕ
 count empty = 0
 count (field name t fs) = suc (count fs)
 
+-- the kind and the argument at a tree's root
+unfoldable pub headKind : DataType → ℕ
+headKind (leaf k a) = k
+headKind (list t) = Kind.List
+headKind (array w t) = Kind.Array
+headKind (struct fs) = Kind.Struct
+
+unfoldable pub headArg : DataType → ℕ
+headArg (leaf k a) = a
+headArg (list t) = 0
+headArg (array w t) = w
+headArg (struct fs) = count fs
+
 -- the number of nodes
 unfoldable mutual
   pub size : DataType → ℕ

@@ -8,6 +8,7 @@ pub enum Error {
     Argument,
     Shape,
     Depth,
+    Unknown,
     OutputTooShort,
 }
 
@@ -21,6 +22,7 @@ impl Error {
             Error::Argument => 3,
             Error::Shape => 4,
             Error::Depth => 5,
+            Error::Unknown => 7,
             Error::OutputTooShort => 8,
         }
     }

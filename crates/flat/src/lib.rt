@@ -32,6 +32,12 @@ pub enum Checked {
     Refused(Error),
 }
 
+// What a call answers that writes a type to two lent arrays: the number of nodes written.
+pub enum Written {
+    Nodes(usize),
+    Refused(Error),
+}
+
 // Refusal 2 is not given.
 fn kinds_fit(kinds: &[u8]) -> bool
     ensures { λ r. ⌜ r ≡ kindsFit (now (kinds .entry)) ⌝ }
