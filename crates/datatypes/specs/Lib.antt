@@ -9,4 +9,5 @@ pub mod Physical
 pub mod Recursive
 pub mod Inner
 pub mod Cast
+pub mod Scan
 pub mod Answer

@@ -1,12 +1,23 @@
 -- Units of time (time_unit.rs) and their numbers in an argument. Assumes nothing: these are definitions.
-use mathlib.Core.Option.{Option, none, some}
-use mathlib.Core.List.{List, [], _∷_}
-use Prim.Native.Nat.{ℕ, zero, suc}
+use mathlib.Core.Bool.{cond}
+use Prim.Native.Nat.{ℕ}
+use lib.Dec.{eqb}
+use Rattle.flat.specs.declared.error.Error.the-variants.{Argument}
 use Rattle.datatypes.specs.declared.time_unit.TimeUnit.{TimeUnit}
 use Rattle.datatypes.specs.declared.time_unit.TimeUnit.the-variants.{Nanoseconds, Microseconds, Milliseconds}
+use Rattle.datatypes.specs.declared.time_unit.Unit.the-variants.{Of, Refused}
+use Rattle.datatypes.specs.declared.time_unit.Unit.{Unit}
 
 -- document 01's number of a unit
 abbrev pub unitNumber : TimeUnit → ℕ
 unitNumber Nanoseconds = 0
 unitNumber Microseconds = 1
 unitNumber Milliseconds = 2
+
+-- the unit of a number; a number that is no unit's is refused by 3
+unfoldable pub unitOf : ℕ → Unit
+unitOf n =
+    cond (eqb n (unitNumber Nanoseconds)) (Of Nanoseconds)
+    (cond (eqb n (unitNumber Microseconds)) (Of Microseconds)
+    (cond (eqb n (unitNumber Milliseconds)) (Of Milliseconds)
+    (Refused Argument)))
