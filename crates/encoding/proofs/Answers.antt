@@ -9,6 +9,7 @@ use native.Mathlib.Nat.{add-sub-cancel-left}
 use native.Mathlib.Omega.{arith}
 use borrow.Author.Tests.{lt-ltb, le-leb, eq-eqb, ltb-true, leb-true, eqb-true}
 use borrow.Rule.Slice.PartAt.{part-to-end}
+use lib.Dec.{leb}
 use lib.ListN.{length, take, drop, length-drop}
 use lib.Seq.{length-take-le, take-at}
 use Rattle.flat.specs.Tree.{DataType, size, kindsOf, argsOf}
@@ -17,11 +18,11 @@ use Rattle.flat.specs.declared.Checked.{Checked}
 use Rattle.flat.specs.declared.Checked.the-variants.{Valid}
 use Rattle.flat.specs.Output.{over, kindsOver, argsOver, Writes}
 use Rattle.flat.specs.declared.error.Error.{Error}
-use Rattle.flat.specs.declared.error.Error.the-variants.{Length}
+use Rattle.flat.specs.declared.error.Error.the-variants.{Length, OutputTooShort}
 use Rattle.flat.proofs.Sizes.{length-kinds, length-args}
 use Rattle.flat.proofs.Meaning.{holds, checked-type}
 use Rattle.encoding.specs.Encoding.{argsFrom, encoding, encodedSize, countIn, kindsIn, argsIn, sizeFits, decoding}
-use Rattle.encoding.specs.Answer.{nodesIn, bytesOver, Encodes}
+use Rattle.encoding.specs.Answer.{nodesIn, fittingBytes, bytesOver, Encodes, Puts}
 use Rattle.flat.specs.declared.Written.{Written}
 use Rattle.encoding.specs.declared.Encoded.{Encoded}
 use Rattle.encoding.proofs.Laws.{argsFrom-length, size-parts}
@@ -153,8 +154,13 @@ pub encodes-refused : {w : ℕ} {r : Reading} {e : Error} {out : List ℕ} → r
 unfolding bytesOver
 encodes-refused h = rw h (record { answers = refl; bytes = refl })
 
--- the bytes of the two arrays, over the front of the output
-pub encodes-type : {w nodes deep : ℕ} {r : Reading} {ks xs out out′ : List ℕ} (f : FlatForm nodes deep ks xs) → r ≡ type (f .tree) → out′ ≡ over (encoding w ks xs) out
-    → Encodes w r out out′ (Encoded.Bytes (encodedSize w (length ks)))
-unfolding bytesOver
-encodes-type f h e = rw (h, f .kinds-size) (record { answers = refl; bytes = rw (← f .kinds, ← f .args) e })
+-- what `put` leaves of a tree's two arrays is what `encode` leaves of the tree
+pub puts-type : (t : DataType) {w : ℕ} {ks xs out out′ : List ℕ} {a : Encoded} → ks ≡ kindsOf t → xs ≡ argsOf t → Puts w ks xs out out′ a → Encodes w (fittingBytes w (length out) (type t)) out out′ a
+unfolding fittingBytes bytesOver
+puts-type t {w} {ks} {xs} {out} {out′} {a} k x p =
+    let n : length ks ≡ size t = ap length k ∙ length-kinds t in
+    go (leb (encodedSize w (size t)) (length out)) (rw n at (p .answers)) (rw (n, k, x) at (p .bytes))
+  where
+    go : (b : Bool) → a ≡ cond b (Encoded.Bytes (encodedSize w (size t))) (Encoded.Refused OutputTooShort) → out′ ≡ cond b (over (encoding w (kindsOf t) (argsOf t)) out) out → Encodes w (unless b OutputTooShort (type t)) out out′ a
+    go true e f = record { answers = e; bytes = f }
+    go false e f = record { answers = e; bytes = f }

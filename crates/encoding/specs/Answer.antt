@@ -4,16 +4,24 @@ use mathlib.Core.Bool.{cond}
 use mathlib.Core.List.{List}
 use Prim.Native.Nat.{ℕ}
 use lib.Dec.{leb}
+use lib.ListN.{length}
 use Rattle.flat.specs.Tree.{size, kindsOf, argsOf}
 use Rattle.flat.specs.Reading.{Reading, refused, type, unless}
-use Rattle.flat.specs.Output.{over}
+use Rattle.flat.specs.Output.{over, writtenOf}
 use Rattle.flat.specs.declared.error.Error.the-variants.{OutputTooShort}
-use Rattle.encoding.specs.Encoding.{encoding, encodedSize, countIn, sizeFits}
+use Rattle.encoding.specs.Encoding.{encoding, encodedSize, countIn, argsIn, sizeFits, decoding}
+use Rattle.flat.specs.declared.Written.{Written}
 use Rattle.encoding.specs.declared.Encoded.{Encoded}
 
 -- the number of nodes that bytes of the right length hold, 0 of any others
 unfoldable pub nodesIn : ℕ → ℕ → List ℕ → ℕ
 nodesIn w nodes s = cond (sizeFits w nodes s) (countIn s) 0
+
+-- What `open` comes to: its answer, and the lent arguments, xs before the call and xs′ after it. They are read before they are checked, so bytes of the right
+-- length leave theirs even where they are refused.
+pub record Opens (w nodes deep : ℕ) (s xs xs′ : List ℕ) (answer : Written) : Type 0 where
+  pub answers : answer ≡ writtenOf (decoding w nodes deep s)
+  pub args : xs′ ≡ cond (sizeFits w nodes s) (over (argsIn w s) xs) xs
 
 -- 8: the output, of m bytes, is shorter than the result, where there is one
 unfoldable pub fittingBytes : ℕ → ℕ → Reading → Reading
@@ -34,3 +42,8 @@ bytesOver w (type t) out = over (encoding w (kindsOf t) (argsOf t)) out
 pub record Encodes (w : ℕ) (r : Reading) (out out′ : List ℕ) (answer : Encoded) : Type 0 where
   pub answers : answer ≡ encodedOf w r
   pub bytes : out′ ≡ bytesOver w r out
+
+-- What `put` comes to, of two arrays that need not be a type: their bytes, or 8 where these don't fit.
+pub record Puts (w : ℕ) (ks xs out out′ : List ℕ) (answer : Encoded) : Type 0 where
+  pub answers : answer ≡ cond (leb (encodedSize w (length ks)) (length out)) (Encoded.Bytes (encodedSize w (length ks))) (Encoded.Refused OutputTooShort)
+  pub bytes : out′ ≡ cond (leb (encodedSize w (length ks)) (length out)) (over (encoding w ks xs) out) out

@@ -7,7 +7,7 @@ ghost use lib.ListN.{length};
 ghost use Rattle.flat.specs.Reading.{reading, checkedOf};
 ghost use Rattle.flat.specs.Output.{over, fitting, Writes};
 ghost use Rattle.encoding.specs.Encoding.{argsIn, decoding};
-ghost use Rattle.encoding.specs.Answer.{nodesIn, fittingBytes, Encodes};
+ghost use Rattle.encoding.specs.Answer.{nodesIn, fittingBytes, Opens, Encodes, Puts};
 use flat::Checked;
 use flat::Flat;
 use flat::Written;
@@ -19,8 +19,8 @@ pub struct Encoding {}
 impl Encoding {
     pub const ARGUMENT_BYTES: usize = 8;
 
-    // A type of so few nodes is checked with a small array: a large one takes longer to clear than to use.
-    const FEW: usize = 24;
+    // The arguments of a type of so few nodes are read to a small array: a large one takes longer to clear than to use.
+    pub const FEW: usize = 24;
 }
 
 // What encoding answers: the number of bytes written.
@@ -118,6 +118,49 @@ pub fn decode(encoded: &[u8], kinds: &mut [u8], args: &mut [u64]) -> Written
     }
 }
 
+// Checks an encoded type and reads its arguments to the front of args: refusals 1 to 5. Its kinds stay where they are, `&encoded[2..2 + n]`.
+pub fn open(encoded: &[u8], args: &mut [u64]) -> Written
+    requires { do
+      nodes ← ⟦Flat::MAX_NODES⟧
+      w ← ⟦Encoding::ARGUMENT_BYTES⟧
+      ⌜ nodesIn w nodes (now encoded) ≤ length (now args) ⌝ }
+    ensures { λ r. do
+      nodes ← ⟦Flat::MAX_NODES⟧ .entry
+      deep ← ⟦Flat::MAX_DEPTH⟧ .entry
+      w ← ⟦Encoding::ARGUMENT_BYTES⟧ .entry
+      ⌜ Opens w nodes deep (now (encoded .entry)) (now (args .entry)) (now (args .exit)) r ⌝ }
+{
+    let n = node_count(encoded);
+    if n == 0 {
+        return Written::Refused(Error::Length);
+    }
+    match check_with(encoded, n, args) {
+        Checked::Valid => Written::Nodes(n),
+        Checked::Refused(e) => Written::Refused(e),
+    }
+}
+
+// Encodes two arrays to the front of out, unless it is too short: refusal 8. They are not checked.
+pub fn put(kinds: &[u8], args: &[u64], out: &mut [u8]) -> Encoded
+    requires { do
+      nodes ← ⟦Flat::MAX_NODES⟧
+      ⌜ (length (now kinds) ≡ length (now args)) × (length (now kinds) ≤ nodes) ⌝ }
+    ensures { λ r. do
+      w ← ⟦Encoding::ARGUMENT_BYTES⟧ .entry
+      ⌜ Puts w (now (kinds .entry)) (now (args .entry)) (now (out .entry)) (now (out .exit)) r ⌝ }
+{
+    let n = kinds.len();
+    let size = 2 + (Encoding::ARGUMENT_BYTES + 1) * n;
+    if out.len() < size {
+        return Encoded::Refused(Error::OutputTooShort);
+    }
+    let m = 2 + n;
+    bytes::put_count(out, n);
+    bytes::copy(kinds, &mut out[2..]);
+    bytes::write_args(args, &mut out[m..]);
+    Encoded::Bytes(size)
+}
+
 // Encodes a flat type to the front of out: refusals 1 to 5, then 8.
 pub fn encode(kinds: &[u8], args: &[u64], out: &mut [u8]) -> Encoded
     ensures { λ r. do
@@ -127,18 +170,7 @@ pub fn encode(kinds: &[u8], args: &[u64], out: &mut [u8]) -> Encoded
       ⌜ Encodes w (fittingBytes w (length (now (out .entry))) (reading nodes deep (now (kinds .entry)) (now (args .entry)))) (now (out .entry)) (now (out .exit)) r ⌝ }
 {
     match flat::check(kinds, args) {
+        Checked::Valid => put(kinds, args, out),
         Checked::Refused(e) => Encoded::Refused(e),
-        Checked::Valid => {
-            let n = kinds.len();
-            let size = 2 + (Encoding::ARGUMENT_BYTES + 1) * n;
-            if out.len() < size {
-                return Encoded::Refused(Error::OutputTooShort);
-            }
-            let m = 2 + n;
-            bytes::put_count(out, n);
-            bytes::copy(kinds, &mut out[2..]);
-            bytes::write_args(args, &mut out[m..]);
-            Encoded::Bytes(size)
-        }
     }
 }

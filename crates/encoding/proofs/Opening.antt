@@ -1,0 +1,82 @@
+-- What `open` comes to, and what its answer tells: the kinds that stand in the bytes and the arguments that were read are the flat form of the tree, so that a
+-- walk may start. Assumes nothing.
+use mathlib.Core.Path.{_≡_, refl, sym, ap, ap₂, _∙_}
+use mathlib.Core.List.{List}
+use Prim.Native.Nat.{ℕ, _+_, _-_, _≤_}
+use native.Mathlib.Omega.{arith}
+use lib.ListN.{length, take, drop, length-take}
+use lib.Seq.{take-at}
+use Rattle.flat.specs.Tree.{DataType, size, kindsOf, argsOf}
+use Rattle.flat.specs.Reading.{Reading, refused, type, reading, checkedOf}
+use Rattle.flat.specs.Output.{over, writtenOf}
+use Rattle.flat.specs.Walk.{Valid, typeAt}
+use Rattle.flat.specs.declared.Checked.{Checked}
+use Rattle.flat.specs.declared.Written.{Written}
+use Rattle.flat.specs.declared.error.Error.{Error}
+use Rattle.flat.specs.declared.error.Error.the-variants.{Length}
+use Rattle.flat.proofs.Meaning.{holds, stands, checked-refused}
+use Rattle.flat.proofs.Sizes.{length-kinds}
+use Rattle.encoding.specs.Encoding.{countIn, kindsIn, argsIn, decoding}
+use Rattle.encoding.specs.Answer.{nodesIn, Opens}
+use Rattle.encoding.proofs.Answers.{Sized, sized, size-fits, kinds-part, kinds-length, args-length, decoding-sized, nodes-none, decoding-none, encoded-form, decoded-fits}
+
+-- ---- what it comes to
+pub opens-none : {w nodes deep n : ℕ} {s xs : List ℕ} → n ≡ nodesIn w nodes s → n ≡ 0 → Opens w nodes deep s xs xs (Written.Refused Length)
+opens-none {w} {nodes} {deep} {n} {s} e h = record { answers = ap writtenOf (sym (decoding-none w nodes deep s e h)); args = rw (nodes-none w nodes s e h) }
+
+module _ {w nodes deep n : ℕ} {s xs xs′ : List ℕ} {a : Checked} (z : Sized w nodes n s) (h : a ≡ checkedOf (decoding w nodes deep s)) (x : xs′ ≡ over (argsIn w s) xs) where
+  pub opens-type : a ≡ Checked.Valid → Opens w nodes deep s xs xs′ (Written.Nodes n)
+  opens-type v = let f = encoded-form v h (z .count) in record { answers = ap Written.Nodes (sym (f .tree-size)) ∙ ap writtenOf (sym (f .reads)); args = rw (size-fits z) x }
+
+  pub opens-refused : {e : Error} → a ≡ Checked.Refused e → Opens w nodes deep s xs xs′ (Written.Refused e)
+  opens-refused {e} v = record { answers = ap writtenOf (sym (checked-refused (decoding w nodes deep s) e (sym v ∙ h))); args = rw (size-fits z) x }
+
+-- ---- what it tells
+
+-- the answer of a call that writes a type, or reads one
+pub written-type : (r : Reading) {n : ℕ} → Written.Nodes n ≡ writtenOf r → (t : DataType) × (r ≡ type t) × (size t ≡ n)
+written-type (refused e) q = absurd (let z : _≡_ {A = ℕ} 0 1 = cc in omega arith)
+written-type (type t) q = (t, refl, cc)
+
+pub written-refused : (r : Reading) {e : Error} → Written.Refused e ≡ writtenOf r → r ≡ refused e
+written-refused (refused d) {e} q = let y : d ≡ e = cc in ap refused y
+written-refused (type t) q = absurd (let z : _≡_ {A = ℕ} 0 1 = cc in omega arith)
+
+-- The bytes s are a type of n nodes. Its kinds stand in s, its arguments at the front of xs.
+pub record Opened (w nodes deep n : ℕ) (s xs : List ℕ) : Type 0 where
+  pub sized : Sized w nodes n s
+  pub room : n ≤ length xs
+  pub tree : DataType
+  pub reads : decoding w nodes deep s ≡ type tree
+  pub tree-size : size tree ≡ n
+  pub kinds : take (2 + n - 2) (drop 2 s) ≡ kindsOf tree
+  pub args : take n xs ≡ argsOf tree
+  pub valid : Valid (take (2 + n - 2) (drop 2 s)) (take n xs)
+  pub type-at : typeAt (take (2 + n - 2) (drop 2 s)) (take n xs) ≡ tree
+
+module _ {w nodes deep : ℕ} {s xs xs′ : List ℕ} {a : Written} (o : Opens w nodes deep s xs xs′ a) where
+  pub opened : {n : ℕ} → a ≡ Written.Nodes n → Opened w nodes deep n s xs′
+  opened {n} q =
+      let r = written-type (decoding w nodes deep s) (sym q ∙ o .answers) in
+      let t = r .0 in
+      let fits = decoded-fits w nodes deep s t (r .1) in
+      let reads = sym (decoding-sized (sized w nodes s fits) deep) ∙ r .1 in
+      let h = holds nodes deep (kindsIn s) (argsIn w s) t reads in
+      let count : countIn s ≡ n = sym (kinds-length (sized w nodes s fits)) ∙ ap length (h .kinds) ∙ length-kinds t ∙ r .2 in
+      let z : Sized w nodes n s = rw count at (sized w nodes s fits) in
+      let front : take n xs′ ≡ argsIn w s = rw (rw fits at (o .args)) (take-at (argsIn w s) _ n (args-length z)) in
+      let v = stands nodes deep _ _ t (ap₂ (reading nodes deep) (kinds-part z) front ∙ reads) in
+      record {
+        sized = z;
+        room = omega (arith, length-take n xs′, ap length front ∙ args-length z);
+        tree = t;
+        reads = r .1;
+        tree-size = r .2;
+        kinds = kinds-part z ∙ h .kinds;
+        args = front ∙ h .args;
+        valid = v .0;
+        type-at = v .1;
+      }
+
+  pub unopened : {e : Error} → a ≡ Written.Refused e → decoding w nodes deep s ≡ refused e
+  unopened q = written-refused (decoding w nodes deep s) (sym q ∙ o .answers)
