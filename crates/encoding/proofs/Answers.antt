@@ -10,9 +10,9 @@ use native.Mathlib.Omega.{arith}
 use borrow.Author.Tests.{lt-ltb, le-leb, eq-eqb, ltb-true, leb-true, eqb-true}
 use borrow.Rule.Slice.PartAt.{part-to-end}
 use lib.Dec.{leb}
-use lib.ListN.{length, take, drop, length-drop}
-use lib.Seq.{length-take-le, take-at}
-use Rattle.flat.specs.Tree.{DataType, size, kindsOf, argsOf}
+use lib.ListN.{length, getD, take, drop, length-drop}
+use lib.Seq.{length-take-le, take-at, getD-take, getD-drop}
+use Rattle.flat.specs.Tree.{DataType, leaf, list, array, struct, size, headKind, kindsOf, argsOf}
 use Rattle.flat.specs.Reading.{Reading, refused, type, unless, reading, checkedOf}
 use Rattle.flat.specs.declared.Checked.{Checked}
 use Rattle.flat.specs.declared.Checked.the-variants.{Valid}
@@ -78,6 +78,10 @@ nodes-some {w} {nodes} {n} {s} e h = go (sizeFits w nodes s) refl e
     go true f e = rw e (sized w nodes s f)
     go false f e = absurd (h e)
 
+pub nodes-sized : {w nodes n : ℕ} {s : List ℕ} → Sized w nodes n s → nodesIn w nodes s ≡ n
+unfolding nodesIn
+nodes-sized z = rw (size-fits z) (sym (z .count))
+
 -- where it is 0
 pub nodes-none : (w nodes : ℕ) (s : List ℕ) {n : ℕ} → n ≡ nodesIn w nodes s → n ≡ 0 → sizeFits w nodes s ≡ false
 unfolding nodesIn
@@ -128,13 +132,33 @@ decoded-fits w nodes deep s t e = go (sizeFits w nodes s) e
     go true e = refl
     go false e = absurd (let z : _≡_ {A = ℕ} 0 1 = cc in omega arith)
 
+pub type-form : {w nodes deep : ℕ} {s : List ℕ} (t : DataType) → decoding w nodes deep s ≡ type t → EncodedForm w nodes deep (size t) s
+type-form {w} {nodes} {deep} {s} t e =
+    let z = sized w nodes s (decoded-fits w nodes deep s t e) in
+    let h = holds nodes deep (kindsIn s) (argsIn w s) t (sym (decoding-sized z deep) ∙ e) in
+    let n : countIn s ≡ size t = sym (kinds-length z) ∙ ap length (h .kinds) ∙ length-kinds t in
+    record { sized = rw n at z; tree = t; reads = e; kinds = h .kinds; args = h .args; tree-size = refl }
+
 pub encoded-form : {w nodes deep n : ℕ} {s : List ℕ} {a : Checked} → a ≡ Valid → a ≡ checkedOf (decoding w nodes deep s) → n ≡ countIn s → EncodedForm w nodes deep n s
 encoded-form {w} {nodes} {deep} {n} {s} v e c =
     let r = checked-type (decoding w nodes deep s) (sym v ∙ e) in
-    let t = r .0 in
-    let z : Sized w nodes n s = rw c (sized w nodes s (decoded-fits w nodes deep s t (r .1))) in
-    let h = holds nodes deep (kindsIn s) (argsIn w s) t (sym (decoding-sized z deep) ∙ r .1) in
-    record { sized = z; tree = t; reads = r .1; kinds = h .kinds; args = h .args; tree-size = sym (length-kinds t) ∙ ap length (sym (h .kinds)) ∙ kinds-length z }
+    let f : EncodedForm w nodes deep (size (r .0)) s = type-form (r .0) (r .1) in
+    rw (f .sized .count ∙ sym c) at f
+
+first-kind : (t : DataType) → headKind t ≡ getD (kindsOf t) 0 0
+unfolding kindsOf headKind
+first-kind (leaf k a) = refl
+first-kind (list t) = refl
+first-kind (array w t) = refl
+first-kind (struct fs) = refl
+
+-- the part of s that holds the kinds, and the root's
+module _ {w nodes deep n : ℕ} {s : List ℕ} (f : EncodedForm w nodes deep n s) where
+  pub form-kinds : take (2 + n - 2) (drop 2 s) ≡ kindsOf (f .tree)
+  form-kinds = kinds-part (f .sized) ∙ f .kinds
+
+  pub form-root : headKind (f .tree) ≡ getD s 2 0
+  form-root = first-kind (f .tree) ∙ ap (λ (l : List ℕ). getD l 0 0) (sym form-kinds) ∙ getD-take (2 + n - 2) (drop 2 s) 0 0 (omega (arith, f .sized .some)) ∙ getD-drop 2 s 0 0
 
 -- ---- what `decode` and `encode` come to
 

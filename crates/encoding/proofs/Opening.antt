@@ -14,11 +14,10 @@ use Rattle.flat.specs.declared.Checked.{Checked}
 use Rattle.flat.specs.declared.Written.{Written}
 use Rattle.flat.specs.declared.error.Error.{Error}
 use Rattle.flat.specs.declared.error.Error.the-variants.{Length}
-use Rattle.flat.proofs.Meaning.{holds, stands, checked-refused}
-use Rattle.flat.proofs.Sizes.{length-kinds}
-use Rattle.encoding.specs.Encoding.{countIn, kindsIn, argsIn, decoding}
+use Rattle.flat.proofs.Meaning.{stands, checked-refused}
+use Rattle.encoding.specs.Encoding.{argsIn, decoding}
 use Rattle.encoding.specs.Answer.{nodesIn, Opens}
-use Rattle.encoding.proofs.Answers.{Sized, sized, size-fits, kinds-part, kinds-length, args-length, decoding-sized, nodes-none, decoding-none, encoded-form, decoded-fits}
+use Rattle.encoding.proofs.Answers.{Sized, size-fits, kinds-part, args-length, decoding-sized, nodes-none, decoding-none, EncodedForm, type-form, encoded-form, form-kinds}
 
 -- ---- what it comes to
 pub opens-none : {w nodes deep n : ℕ} {s xs : List ℕ} → n ≡ nodesIn w nodes s → n ≡ 0 → Opens w nodes deep s xs xs (Written.Refused Length)
@@ -42,41 +41,29 @@ pub written-refused : (r : Reading) {e : Error} → Written.Refused e ≡ writte
 written-refused (refused d) {e} q = let y : d ≡ e = cc in ap refused y
 written-refused (type t) q = absurd (let z : _≡_ {A = ℕ} 0 1 = cc in omega arith)
 
+pub written-form : {w nodes deep n : ℕ} {s : List ℕ} {a : Written} → a ≡ Written.Nodes n → a ≡ writtenOf (decoding w nodes deep s) → EncodedForm w nodes deep n s
+written-form {w} {nodes} {deep} {n} {s} q e =
+    let r = written-type (decoding w nodes deep s) (sym q ∙ e) in
+    let f : EncodedForm w nodes deep (size (r .0)) s = type-form (r .0) (r .1) in
+    rw (r .2) at f
+
 -- The bytes s are a type of n nodes. Its kinds stand in s, its arguments at the front of xs.
 pub record Opened (w nodes deep n : ℕ) (s xs : List ℕ) : Type 0 where
-  pub sized : Sized w nodes n s
+  pub form : EncodedForm w nodes deep n s
   pub room : n ≤ length xs
-  pub tree : DataType
-  pub reads : decoding w nodes deep s ≡ type tree
-  pub tree-size : size tree ≡ n
-  pub kinds : take (2 + n - 2) (drop 2 s) ≡ kindsOf tree
-  pub args : take n xs ≡ argsOf tree
+  pub kinds : take (2 + n - 2) (drop 2 s) ≡ kindsOf (form .tree)
+  pub args : take n xs ≡ argsOf (form .tree)
   pub valid : Valid (take (2 + n - 2) (drop 2 s)) (take n xs)
-  pub type-at : typeAt (take (2 + n - 2) (drop 2 s)) (take n xs) ≡ tree
+  pub type-at : typeAt (take (2 + n - 2) (drop 2 s)) (take n xs) ≡ form .tree
 
 module _ {w nodes deep : ℕ} {s xs xs′ : List ℕ} {a : Written} (o : Opens w nodes deep s xs xs′ a) where
   pub opened : {n : ℕ} → a ≡ Written.Nodes n → Opened w nodes deep n s xs′
   opened {n} q =
-      let r = written-type (decoding w nodes deep s) (sym q ∙ o .answers) in
-      let t = r .0 in
-      let fits = decoded-fits w nodes deep s t (r .1) in
-      let reads = sym (decoding-sized (sized w nodes s fits) deep) ∙ r .1 in
-      let h = holds nodes deep (kindsIn s) (argsIn w s) t reads in
-      let count : countIn s ≡ n = sym (kinds-length (sized w nodes s fits)) ∙ ap length (h .kinds) ∙ length-kinds t ∙ r .2 in
-      let z : Sized w nodes n s = rw count at (sized w nodes s fits) in
-      let front : take n xs′ ≡ argsIn w s = rw (rw fits at (o .args)) (take-at (argsIn w s) _ n (args-length z)) in
-      let v = stands nodes deep _ _ t (ap₂ (reading nodes deep) (kinds-part z) front ∙ reads) in
-      record {
-        sized = z;
-        room = omega (arith, length-take n xs′, ap length front ∙ args-length z);
-        tree = t;
-        reads = r .1;
-        tree-size = r .2;
-        kinds = kinds-part z ∙ h .kinds;
-        args = front ∙ h .args;
-        valid = v .0;
-        type-at = v .1;
-      }
+      let f : EncodedForm w nodes deep n s = written-form q (o .answers) in
+      let z = f .sized in
+      let front : take n xs′ ≡ argsIn w s = rw (rw (size-fits z) at (o .args)) (take-at (argsIn w s) _ n (args-length z)) in
+      let v = stands nodes deep _ _ (f .tree) (ap₂ (reading nodes deep) (kinds-part z) front ∙ sym (decoding-sized z deep) ∙ f .reads) in
+      record { form = f; room = omega (arith, length-take n xs′, ap length front ∙ args-length z); kinds = form-kinds f; args = front ∙ f .args; valid = v .0; type-at = v .1 }
 
   pub unopened : {e : Error} → a ≡ Written.Refused e → decoding w nodes deep s ≡ refused e
   unopened q = written-refused (decoding w nodes deep s) (sym q ∙ o .answers)
