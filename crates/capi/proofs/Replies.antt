@@ -1,9 +1,10 @@
 -- What the answers of the proved functions come to as replies. Assumes nothing.
 use mathlib.Core.Path.{_≡_, sym, ap, _∙_}
+use mathlib.Core.Bool.{Bool}
 use mathlib.Core.List.{List}
 use Prim.Native.Nat.{ℕ}
 use native.Mathlib.Omega.{arith}
-use Rattle.flat.specs.Tree.{DataType, size}
+use Rattle.flat.specs.Tree.{DataType, size, headKind}
 use Rattle.flat.specs.Reading.{Reading, refused, type, checkedOf}
 use Rattle.flat.specs.declared.error.Error.{Error}
 use Rattle.flat.specs.declared.Checked.{Checked}
@@ -13,7 +14,10 @@ use Rattle.encoding.specs.Answer.{encodedOf, Encodes}
 use Rattle.flat.specs.declared.Written.{Written}
 use Rattle.flat.specs.Output.{writtenOf, Writes}
 use Rattle.encoding.specs.declared.Encoded.{Encoded}
-use Rattle.capi.specs.Reply.{replyOf, checkReply, DecodeReply, EncodeReply}
+use Rattle.datatypes.specs.Predicate.{root}
+use Rattle.datatypes.specs.Answer.{yesNo, answerOf, rootOf}
+use Rattle.datatypes.specs.declared.answer.Root.{Root}
+use Rattle.capi.specs.Reply.{replyOf, checkReply, answerReply, DecodeReply, EncodeReply}
 use Rattle.capi.specs.declared.Reply.{Reply}
 
 -- a refusal's reply is the same of every call
@@ -58,3 +62,16 @@ module _ {w : ℕ} {r : Reading} {out out′ : List ℕ} {d : Encoded} (f : Enco
       go : (r : Reading) → Encoded.Refused e ≡ encodedOf w r → r ≡ refused e
       go (refused d) q = let y : d ≡ e = cc in ap refused y
       go (type t) q = absurd (let z : _≡_ {A = ℕ} 0 1 = cc in omega arith)
+
+-- ---- the predicates
+pub answer-refused : (p : DataType → Bool) {r : Reading} {e : Error} {a : Reply} → r ≡ refused e → a ≡ checkReply (refused e) → a ≡ answerReply (answerOf p r)
+answer-refused p q h = h ∙ ap (λ (r : Reading). answerReply (answerOf p r)) (sym q)
+
+-- of the root's kind k, by what the function of that kind says
+pub root-reply : (p : ℕ → Bool) (r : Reading) {k : ℕ} {x : Root} {b : Bool} {a : Reply} → x ≡ Root.Kind k → x ≡ rootOf r → b ≡ p k → a ≡ answerReply (yesNo b) → a ≡ answerReply (answerOf (root p) r)
+root-reply p (refused e) q h f g = absurd (let z : _≡_ {A = ℕ} 0 1 = cc in omega arith)
+root-reply p (type t) {k} q h f g = let y : k ≡ headKind t = cc in g ∙ ap (λ (b : Bool). answerReply (yesNo b)) (f ∙ ap p y)
+
+pub root-refused : (p : ℕ → Bool) (r : Reading) {e : Error} {x : Root} {a : Reply} → x ≡ Root.Refused e → x ≡ rootOf r → a ≡ checkReply (refused e) → a ≡ answerReply (answerOf (root p) r)
+root-refused p (refused d) {e} q h g = let y : d ≡ e = cc in answer-refused (root p) (ap refused y) g
+root-refused p (type t) q h g = absurd (let z : _≡_ {A = ℕ} 0 1 = cc in omega arith)

@@ -8,6 +8,8 @@ use Rattle.flat.specs.Reading.{Reading, refused, type}
 use Rattle.flat.specs.Output.{kindsOver, argsOver}
 use Rattle.encoding.specs.Encoding.{encodedSize}
 use Rattle.encoding.specs.Answer.{bytesOver}
+use Rattle.datatypes.specs.Answer.{answerNumber, answerValue}
+use Rattle.datatypes.specs.declared.answer.Answer.{Answer}
 use Rattle.capi.specs.declared.Reply.{Reply}
 
 -- a refusal's number with value 0, or 0 with what the call says of the type
@@ -18,6 +20,10 @@ replyOf value (type t) = record { number = 0; value = value t }
 -- `lz_check` says no more than that there is a type
 abbrev pub checkReply : Reading → Reply
 checkReply = replyOf (λ t. 0)
+
+-- yes or no
+abbrev pub answerReply : Answer → Reply
+answerReply a = record { number = answerNumber a; value = answerValue a }
 
 -- What `lz_decode` comes to: the number of nodes, and the two lent arrays, ks and xs before the call and ks′ and xs′ after it.
 pub record DecodeReply (r : Reading) (ks xs ks′ xs′ : List ℕ) (reply : Reply) : Type 0 where

@@ -1,4 +1,6 @@
-// The C entry points. Each is one call of a proved function, whose answer is given as two numbers.
+// The C entry points. Each is a call of a proved function on an encoded type, whose answer is given as two numbers.
+mod predicate;
+
 ghost use mathlib.Core.Path.{_≡_};
 ghost use lib.ListN.{length};
 ghost use Rattle.flat.specs.Reading.{reading, refused};

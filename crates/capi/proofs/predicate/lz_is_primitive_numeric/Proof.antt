@@ -1,0 +1,16 @@
+-- `lz_is_primitive_numeric` meets its contract. Assumes nothing.
+use borrow.Author.Needs.{needs}
+use Rattle.encoding.specs.Encoding.{decoding}
+use Rattle.datatypes.specs.Predicate.{isPrimitiveNumeric}
+use Rattle.capi.proofs.Replies.{root-reply, root-refused}
+use Rattle.capi.proofs.predicate.lz_is_primitive_numeric.Statement.{statement}
+use Rattle.capi.proofs.predicate.lz_is_primitive_numeric.Tie as tie
+
+returns : tie.Need-returns
+returns c = let at = c .before .before .before in root-reply isPrimitiveNumeric (decoding _ _ _ _) (at .k .given .1) (at .before .before .root-kind .ensures) (c .before .is-primitive-numeric .ensures) (c .yes-no .ensures)
+
+returns-2 : tie.Need-returns-2
+returns-2 c = let at = c .before .before in root-refused isPrimitiveNumeric (decoding _ _ _ _) (at .e .given .1) (at .before .before .root-kind .ensures) (c .refusal .ensures)
+
+pub lz-is-primitive-numeric-spec : {M : Type 1} → statement M
+lz-is-primitive-numeric-spec = tie.close (tie.spec (λ c κs. search needs) (λ c. search needs) (λ c κs. search needs) (λ c κs. search needs) (λ c. search needs) (λ c κs. search needs) returns returns-2)

@@ -1,0 +1,16 @@
+-- `lz_is_string` meets its contract. Assumes nothing.
+use borrow.Author.Needs.{needs}
+use Rattle.encoding.specs.Encoding.{decoding}
+use Rattle.datatypes.specs.Predicate.{isString}
+use Rattle.capi.proofs.Replies.{root-reply, root-refused}
+use Rattle.capi.proofs.predicate.lz_is_string.Statement.{statement}
+use Rattle.capi.proofs.predicate.lz_is_string.Tie as tie
+
+returns : tie.Need-returns
+returns c = let at = c .before .before .before in root-reply isString (decoding _ _ _ _) (at .k .given .1) (at .before .before .root-kind .ensures) (c .before .is-string .ensures) (c .yes-no .ensures)
+
+returns-2 : tie.Need-returns-2
+returns-2 c = let at = c .before .before in root-refused isString (decoding _ _ _ _) (at .e .given .1) (at .before .before .root-kind .ensures) (c .refusal .ensures)
+
+pub lz-is-string-spec : {M : Type 1} → statement M
+lz-is-string-spec = tie.close (tie.spec (λ c κs. search needs) (λ c. search needs) (λ c κs. search needs) (λ c κs. search needs) (λ c. search needs) (λ c κs. search needs) returns returns-2)

@@ -1,0 +1,200 @@
+// The predicates of a type, on an encoded one.
+ghost use mathlib.Core.Path.{_≡_};
+ghost use Rattle.flat.specs.Output.{writtenOf};
+ghost use Rattle.encoding.specs.Encoding.{decoding};
+ghost use Rattle.datatypes.specs.Predicate.{root, isTemporal, isFloat, isSignedInteger, isUnsignedInteger, isInteger, isPrimitiveNumeric, isPrimitive, isNested, isString, isUnknown};
+ghost use Rattle.datatypes.specs.Recursive.{isKnown, isLogical, containsListRecursive, containsUnknown};
+ghost use Rattle.datatypes.specs.Answer.{answerOf, yesNo, rootOf};
+ghost use Rattle.capi.specs.Reply.{answerReply};
+use crate::Reply;
+use crate::refusal;
+use datatypes::answer::Root;
+use datatypes::kind;
+use encoding::Encoding;
+use flat::Checked;
+use flat::Flat;
+use flat::Written;
+
+// The kind of the root, which stands right after the count.
+fn root_kind(encoded: &[u8]) -> Root
+    ensures { λ r. do
+      nodes ← ⟦Flat::MAX_NODES⟧ .entry
+      deep ← ⟦Flat::MAX_DEPTH⟧ .entry
+      w ← ⟦Encoding::ARGUMENT_BYTES⟧ .entry
+      ⌜ r ≡ rootOf (decoding w nodes deep (now (encoded .entry))) ⌝ }
+{
+    match encoding::check(encoded) {
+        Checked::Valid => Root::Kind(encoded[2]),
+        Checked::Refused(e) => Root::Refused(e),
+    }
+}
+
+// The number of nodes, and so of the kinds that stand after the count.
+fn nodes(encoded: &[u8]) -> Written
+    ensures { λ r. do
+      nodes ← ⟦Flat::MAX_NODES⟧ .entry
+      deep ← ⟦Flat::MAX_DEPTH⟧ .entry
+      w ← ⟦Encoding::ARGUMENT_BYTES⟧ .entry
+      ⌜ r ≡ writtenOf (decoding w nodes deep (now (encoded .entry))) ⌝ }
+{
+    match encoding::check(encoded) {
+        Checked::Valid => Written::Nodes(encoding::node_count(encoded)),
+        Checked::Refused(e) => Written::Refused(e),
+    }
+}
+
+fn yes_no(b: bool) -> Reply
+    ensures { λ r. ⌜ r ≡ answerReply (yesNo b) ⌝ }
+{
+    let value = if b { 1 } else { 0 };
+    Reply {
+        number: 0,
+        value,
+    }
+}
+
+// Whether it is a List, an Array or a Struct.
+#[no_mangle]
+pub extern "C" fn lz_is_nested(encoded: &[u8]) -> Reply
+    ensures { λ r. do
+      nodes ← ⟦Flat::MAX_NODES⟧ .entry
+      deep ← ⟦Flat::MAX_DEPTH⟧ .entry
+      w ← ⟦Encoding::ARGUMENT_BYTES⟧ .entry
+      ⌜ r ≡ answerReply (answerOf (root isNested) (decoding w nodes deep (now (encoded .entry)))) ⌝ }
+{
+    match root_kind(encoded) {
+        Root::Kind(k) => yes_no(kind::is_nested(k)),
+        Root::Refused(e) => refusal(e),
+    }
+}
+
+// Whether it is neither nested nor logical.
+#[no_mangle]
+pub extern "C" fn lz_is_primitive(encoded: &[u8]) -> Reply
+    ensures { λ r. do
+      nodes ← ⟦Flat::MAX_NODES⟧ .entry
+      deep ← ⟦Flat::MAX_DEPTH⟧ .entry
+      w ← ⟦Encoding::ARGUMENT_BYTES⟧ .entry
+      ⌜ r ≡ answerReply (answerOf (root isPrimitive) (decoding w nodes deep (now (encoded .entry)))) ⌝ }
+{
+    match root_kind(encoded) {
+        Root::Kind(k) => yes_no(kind::is_primitive(k)),
+        Root::Refused(e) => refusal(e),
+    }
+}
+
+// Whether it is a float or an integer; a Decimal is neither.
+#[no_mangle]
+pub extern "C" fn lz_is_primitive_numeric(encoded: &[u8]) -> Reply
+    ensures { λ r. do
+      nodes ← ⟦Flat::MAX_NODES⟧ .entry
+      deep ← ⟦Flat::MAX_DEPTH⟧ .entry
+      w ← ⟦Encoding::ARGUMENT_BYTES⟧ .entry
+      ⌜ r ≡ answerReply (answerOf (root isPrimitiveNumeric) (decoding w nodes deep (now (encoded .entry)))) ⌝ }
+{
+    match root_kind(encoded) {
+        Root::Kind(k) => yes_no(kind::is_primitive_numeric(k)),
+        Root::Refused(e) => refusal(e),
+    }
+}
+
+#[no_mangle]
+pub extern "C" fn lz_is_temporal(encoded: &[u8]) -> Reply
+    ensures { λ r. do
+      nodes ← ⟦Flat::MAX_NODES⟧ .entry
+      deep ← ⟦Flat::MAX_DEPTH⟧ .entry
+      w ← ⟦Encoding::ARGUMENT_BYTES⟧ .entry
+      ⌜ r ≡ answerReply (answerOf (root isTemporal) (decoding w nodes deep (now (encoded .entry)))) ⌝ }
+{
+    match root_kind(encoded) {
+        Root::Kind(k) => yes_no(kind::is_temporal(k)),
+        Root::Refused(e) => refusal(e),
+    }
+}
+
+// `Unknown(Float)` is one.
+#[no_mangle]
+pub extern "C" fn lz_is_float(encoded: &[u8]) -> Reply
+    ensures { λ r. do
+      nodes ← ⟦Flat::MAX_NODES⟧ .entry
+      deep ← ⟦Flat::MAX_DEPTH⟧ .entry
+      w ← ⟦Encoding::ARGUMENT_BYTES⟧ .entry
+      ⌜ r ≡ answerReply (answerOf (root isFloat) (decoding w nodes deep (now (encoded .entry)))) ⌝ }
+{
+    match root_kind(encoded) {
+        Root::Kind(k) => yes_no(kind::is_float(k)),
+        Root::Refused(e) => refusal(e),
+    }
+}
+
+// `Unknown(Int(_))` is one.
+#[no_mangle]
+pub extern "C" fn lz_is_integer(encoded: &[u8]) -> Reply
+    ensures { λ r. do
+      nodes ← ⟦Flat::MAX_NODES⟧ .entry
+      deep ← ⟦Flat::MAX_DEPTH⟧ .entry
+      w ← ⟦Encoding::ARGUMENT_BYTES⟧ .entry
+      ⌜ r ≡ answerReply (answerOf (root isInteger) (decoding w nodes deep (now (encoded .entry)))) ⌝ }
+{
+    match root_kind(encoded) {
+        Root::Kind(k) => yes_no(kind::is_integer(k)),
+        Root::Refused(e) => refusal(e),
+    }
+}
+
+#[no_mangle]
+pub extern "C" fn lz_is_signed_integer(encoded: &[u8]) -> Reply
+    ensures { λ r. do
+      nodes ← ⟦Flat::MAX_NODES⟧ .entry
+      deep ← ⟦Flat::MAX_DEPTH⟧ .entry
+      w ← ⟦Encoding::ARGUMENT_BYTES⟧ .entry
+      ⌜ r ≡ answerReply (answerOf (root isSignedInteger) (decoding w nodes deep (now (encoded .entry)))) ⌝ }
+{
+    match root_kind(encoded) {
+        Root::Kind(k) => yes_no(kind::is_signed_integer(k)),
+        Root::Refused(e) => refusal(e),
+    }
+}
+
+#[no_mangle]
+pub extern "C" fn lz_is_unsigned_integer(encoded: &[u8]) -> Reply
+    ensures { λ r. do
+      nodes ← ⟦Flat::MAX_NODES⟧ .entry
+      deep ← ⟦Flat::MAX_DEPTH⟧ .entry
+      w ← ⟦Encoding::ARGUMENT_BYTES⟧ .entry
+      ⌜ r ≡ answerReply (answerOf (root isUnsignedInteger) (decoding w nodes deep (now (encoded .entry)))) ⌝ }
+{
+    match root_kind(encoded) {
+        Root::Kind(k) => yes_no(kind::is_unsigned_integer(k)),
+        Root::Refused(e) => refusal(e),
+    }
+}
+
+// `Unknown(Str)` is one.
+#[no_mangle]
+pub extern "C" fn lz_is_string(encoded: &[u8]) -> Reply
+    ensures { λ r. do
+      nodes ← ⟦Flat::MAX_NODES⟧ .entry
+      deep ← ⟦Flat::MAX_DEPTH⟧ .entry
+      w ← ⟦Encoding::ARGUMENT_BYTES⟧ .entry
+      ⌜ r ≡ answerReply (answerOf (root isString) (decoding w nodes deep (now (encoded .entry)))) ⌝ }
+{
+    match root_kind(encoded) {
+        Root::Kind(k) => yes_no(kind::is_string(k)),
+        Root::Refused(e) => refusal(e),
+    }
+}
+
+#[no_mangle]
+pub extern "C" fn lz_is_unknown(encoded: &[u8]) -> Reply
+    ensures { λ r. do
+      nodes ← ⟦Flat::MAX_NODES⟧ .entry
+      deep ← ⟦Flat::MAX_DEPTH⟧ .entry
+      w ← ⟦Encoding::ARGUMENT_BYTES⟧ .entry
+      ⌜ r ≡ answerReply (answerOf (root isUnknown) (decoding w nodes deep (now (encoded .entry)))) ⌝ }
+{
+    match root_kind(encoded) {
+        Root::Kind(k) => yes_no(kind::is_unknown(k)),
+        Root::Refused(e) => refusal(e),
+    }
+}
