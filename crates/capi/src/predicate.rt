@@ -47,10 +47,7 @@ fn yes_no(b: bool) -> Reply
     ensures { λ r. ⌜ r ≡ answerReply (yesNo b) ⌝ }
 {
     let value = if b { 1 } else { 0 };
-    Reply {
-        number: 0,
-        value,
-    }
+    Reply { number: 0, value }
 }
 
 // Whether it is a List, an Array or a Struct.

@@ -4,7 +4,7 @@ pub mod ReadBack
 pub mod Positions
 pub mod Walks
 pub mod Meaning
-mod Rules
+pub mod Rules
 mod Scans
 mod Spans
 mod Checks
