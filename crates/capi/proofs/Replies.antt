@@ -1,22 +1,29 @@
 -- What the answers of the proved functions come to as replies. Assumes nothing.
-use mathlib.Core.Path.{_≡_, sym, ap, _∙_}
-use mathlib.Core.Bool.{Bool}
+use mathlib.Core.Path.{_≡_, refl, sym, ap, _∙_}
+use mathlib.Core.Bool.{Bool, not}
 use mathlib.Core.List.{List}
-use Prim.Native.Nat.{ℕ}
+use Prim.Native.Nat.{ℕ, _+_, _-_}
 use native.Mathlib.Omega.{arith}
-use Rattle.flat.specs.Tree.{DataType, size, headKind}
-use Rattle.flat.specs.Reading.{Reading, refused, type, checkedOf}
+use lib.ListN.{take, drop}
+use Rattle.flat.specs.Tree.{DataType, Fields, size}
+use Rattle.flat.specs.Reading.{Reading, refused, type, reading, checkedOf}
 use Rattle.flat.specs.declared.error.Error.{Error}
 use Rattle.flat.specs.declared.Checked.{Checked}
 use Rattle.flat.proofs.Meaning.{checked-type, checked-refused}
-use Rattle.encoding.specs.Encoding.{encodedSize}
+use Rattle.encoding.specs.Encoding.{encodedSize, kindsIn, argsIn, decoding}
 use Rattle.encoding.specs.Answer.{encodedOf, Encodes}
 use Rattle.flat.specs.declared.Written.{Written}
 use Rattle.flat.specs.Output.{writtenOf, Writes}
 use Rattle.encoding.specs.declared.Encoded.{Encoded}
+use Rattle.encoding.proofs.Opening.{written-type, written-refused}
+use Rattle.encoding.proofs.Answers.{kinds-part, decoding-sized, EncodedForm}
 use Rattle.datatypes.specs.Predicate.{root}
+use Rattle.datatypes.specs.Scan.{anyOf}
 use Rattle.datatypes.specs.Answer.{yesNo, answerOf, rootOf}
 use Rattle.datatypes.specs.declared.answer.Root.{Root}
+use Rattle.datatypes.proofs.Trees.{Nodewise}
+use Rattle.datatypes.proofs.Answers.{by-root, by-scan, unless-scan}
+use Rattle.datatypes.proofs.Answers as answers
 use Rattle.capi.specs.Reply.{replyOf, checkReply, answerReply, DecodeReply, EncodeReply}
 use Rattle.capi.specs.declared.Reply.{Reply}
 
@@ -34,18 +41,12 @@ check-refused r e q h = of-refusal (λ t. 0) h (checked-refused r e q)
 -- ---- lz_decode
 module _ {r : Reading} {ks xs ks′ xs′ : List ℕ} {d : Written} (f : Writes r ks xs ks′ xs′ d) where
   pub decode-nodes : {n : ℕ} → d ≡ Written.Nodes n → DecodeReply r ks xs ks′ xs′ (record { number = 0; value = n })
-  decode-nodes {n} q = record { replies = go r (sym q ∙ f .answers); kinds = f .kinds; args = f .args }
-    where
-      go : (r : Reading) → Written.Nodes n ≡ writtenOf r → record { number = 0; value = n } ≡ replyOf size r
-      go (refused e) q = absurd (let z : _≡_ {A = ℕ} 0 1 = cc in omega arith)
-      go (type t) q = let y : n ≡ size t = cc in λ i. record { number = 0; value = y i }
+  decode-nodes {n} q =
+      let t = written-type r (sym q ∙ f .answers) in
+      record { replies = (λ i. record { number = 0; value = sym (t .2) i }) ∙ ap (replyOf size) (sym (t .1)); kinds = f .kinds; args = f .args }
 
   pub decode-refused : {e : Error} {a : Reply} → d ≡ Written.Refused e → a ≡ checkReply (refused e) → DecodeReply r ks xs ks′ xs′ a
-  decode-refused {e} q h = record { replies = of-refusal size h (go r (sym q ∙ f .answers)); kinds = f .kinds; args = f .args }
-    where
-      go : (r : Reading) → Written.Refused e ≡ writtenOf r → r ≡ refused e
-      go (refused d) q = let y : d ≡ e = cc in ap refused y
-      go (type t) q = absurd (let z : _≡_ {A = ℕ} 0 1 = cc in omega arith)
+  decode-refused q h = record { replies = of-refusal size h (written-refused r (sym q ∙ f .answers)); kinds = f .kinds; args = f .args }
 
 -- ---- lz_encode
 module _ {w : ℕ} {r : Reading} {out out′ : List ℕ} {d : Encoded} (f : Encodes w r out out′ d) where
@@ -67,11 +68,27 @@ module _ {w : ℕ} {r : Reading} {out out′ : List ℕ} {d : Encoded} (f : Enco
 pub answer-refused : (p : DataType → Bool) {r : Reading} {e : Error} {a : Reply} → r ≡ refused e → a ≡ checkReply (refused e) → a ≡ answerReply (answerOf p r)
 answer-refused p q h = h ∙ ap (λ (r : Reading). answerReply (answerOf p r)) (sym q)
 
--- of the root's kind k, by what the function of that kind says
-pub root-reply : (p : ℕ → Bool) (r : Reading) {k : ℕ} {x : Root} {b : Bool} {a : Reply} → x ≡ Root.Kind k → x ≡ rootOf r → b ≡ p k → a ≡ answerReply (yesNo b) → a ≡ answerReply (answerOf (root p) r)
-root-reply p (refused e) q h f g = absurd (let z : _≡_ {A = ℕ} 0 1 = cc in omega arith)
-root-reply p (type t) {k} q h f g = let y : k ≡ headKind t = cc in g ∙ ap (λ (b : Bool). answerReply (yesNo b)) (f ∙ ap p y)
+pub answer-unwritten : (p : DataType → Bool) (r : Reading) {e : Error} {d : Written} {a : Reply} → d ≡ Written.Refused e → d ≡ writtenOf r → a ≡ checkReply (refused e) → a ≡ answerReply (answerOf p r)
+answer-unwritten p r q f h = answer-refused p (written-refused r (sym q ∙ f)) h
 
-pub root-refused : (p : ℕ → Bool) (r : Reading) {e : Error} {x : Root} {a : Reply} → x ≡ Root.Refused e → x ≡ rootOf r → a ≡ checkReply (refused e) → a ≡ answerReply (answerOf (root p) r)
-root-refused p (refused d) {e} q h g = let y : d ≡ e = cc in answer-refused (root p) (ap refused y) g
-root-refused p (type t) q h g = absurd (let z : _≡_ {A = ℕ} 0 1 = cc in omega arith)
+-- of the root's kind, by what the function of that kind says
+module _ (p : ℕ → Bool) (r : Reading) {x : Root} (h : x ≡ rootOf r) where
+  pub root-reply : {k : ℕ} {b : Bool} {a : Reply} → x ≡ Root.Kind k → b ≡ p k → a ≡ answerReply (yesNo b) → a ≡ answerReply (answerOf (root p) r)
+  root-reply q f g = g ∙ ap answerReply (by-root r p (sym q ∙ h) f refl)
+
+  pub root-refused : {e : Error} {a : Reply} → x ≡ Root.Refused e → a ≡ checkReply (refused e) → a ≡ answerReply (answerOf (root p) r)
+  root-refused q g = g ∙ ap answerReply (answers.root-refused r (root p) (sym q ∙ h))
+
+-- by a scan of the kinds that stand in the bytes
+module _ {w nodes deep n : ℕ} {s : List ℕ} (f : EncodedForm w nodes deep n s) where
+  valid : Checked.Valid ≡ checkedOf (reading nodes deep (kindsIn s) (argsIn w s))
+  valid = ap checkedOf (sym (f .reads) ∙ decoding-sized (f .sized) deep)
+
+  answered : (p : DataType → Bool) {a : Reply} → a ≡ answerReply (answerOf p (reading nodes deep (kindsIn s) (argsIn w s))) → a ≡ answerReply (answerOf p (decoding w nodes deep s))
+  answered p h = h ∙ ap (λ (r : Reading). answerReply (answerOf p r)) (sym (decoding-sized (f .sized) deep))
+
+  pub scan-reply : {p : ℕ → Bool} {q : DataType → Bool} {g : Fields → Bool} → Nodewise p q g → {b : Bool} {a : Reply} → b ≡ anyOf p (take (2 + n - 2) (drop 2 s)) → a ≡ answerReply (yesNo b) → a ≡ answerReply (answerOf q (decoding w nodes deep s))
+  scan-reply {p} {q} law e h = answered q (h ∙ ap answerReply (by-scan nodes deep (kindsIn s) (argsIn w s) valid law (e ∙ ap (anyOf p) (kinds-part (f .sized))) refl))
+
+  pub unless-reply : (q : DataType → Bool) {p : ℕ → Bool} {g : Fields → Bool} → Nodewise p (λ t. not (q t)) g → {b : Bool} {a : Reply} → b ≡ anyOf p (take (2 + n - 2) (drop 2 s)) → a ≡ answerReply (yesNo (not b)) → a ≡ answerReply (answerOf q (decoding w nodes deep s))
+  unless-reply q {p} law e h = answered q (h ∙ ap answerReply (unless-scan nodes deep (kindsIn s) (argsIn w s) valid q law (e ∙ ap (anyOf p) (kinds-part (f .sized))) refl))

@@ -10,6 +10,7 @@ use crate::Reply;
 use crate::refusal;
 use datatypes::answer::Root;
 use datatypes::kind;
+use datatypes::scan;
 use encoding::Encoding;
 use flat::Checked;
 use flat::Flat;
@@ -193,5 +194,63 @@ pub extern "C" fn lz_is_unknown(encoded: &[u8]) -> Reply
     match root_kind(encoded) {
         Root::Kind(k) => yes_no(kind::is_unknown(k)),
         Root::Refused(e) => refusal(e),
+    }
+}
+
+// Whether no type in it is unknown.
+#[no_mangle]
+pub extern "C" fn lz_is_known(encoded: &[u8]) -> Reply
+    ensures { λ r. do
+      nodes ← ⟦Flat::MAX_NODES⟧ .entry
+      deep ← ⟦Flat::MAX_DEPTH⟧ .entry
+      w ← ⟦Encoding::ARGUMENT_BYTES⟧ .entry
+      ⌜ r ≡ answerReply (answerOf isKnown (decoding w nodes deep (now (encoded .entry)))) ⌝ }
+{
+    match nodes(encoded) {
+        Written::Nodes(n) => yes_no(!scan::contains_unknown(&encoded[2..2 + n])),
+        Written::Refused(e) => refusal(e),
+    }
+}
+
+// Whether it differs from its physical form.
+#[no_mangle]
+pub extern "C" fn lz_is_logical(encoded: &[u8]) -> Reply
+    ensures { λ r. do
+      nodes ← ⟦Flat::MAX_NODES⟧ .entry
+      deep ← ⟦Flat::MAX_DEPTH⟧ .entry
+      w ← ⟦Encoding::ARGUMENT_BYTES⟧ .entry
+      ⌜ r ≡ answerReply (answerOf isLogical (decoding w nodes deep (now (encoded .entry)))) ⌝ }
+{
+    match nodes(encoded) {
+        Written::Nodes(n) => yes_no(scan::is_logical(&encoded[2..2 + n])),
+        Written::Refused(e) => refusal(e),
+    }
+}
+
+#[no_mangle]
+pub extern "C" fn lz_contains_unknown(encoded: &[u8]) -> Reply
+    ensures { λ r. do
+      nodes ← ⟦Flat::MAX_NODES⟧ .entry
+      deep ← ⟦Flat::MAX_DEPTH⟧ .entry
+      w ← ⟦Encoding::ARGUMENT_BYTES⟧ .entry
+      ⌜ r ≡ answerReply (answerOf containsUnknown (decoding w nodes deep (now (encoded .entry)))) ⌝ }
+{
+    match nodes(encoded) {
+        Written::Nodes(n) => yes_no(scan::contains_unknown(&encoded[2..2 + n])),
+        Written::Refused(e) => refusal(e),
+    }
+}
+
+#[no_mangle]
+pub extern "C" fn lz_contains_list_recursive(encoded: &[u8]) -> Reply
+    ensures { λ r. do
+      nodes ← ⟦Flat::MAX_NODES⟧ .entry
+      deep ← ⟦Flat::MAX_DEPTH⟧ .entry
+      w ← ⟦Encoding::ARGUMENT_BYTES⟧ .entry
+      ⌜ r ≡ answerReply (answerOf containsListRecursive (decoding w nodes deep (now (encoded .entry)))) ⌝ }
+{
+    match nodes(encoded) {
+        Written::Nodes(n) => yes_no(scan::contains_list(&encoded[2..2 + n])),
+        Written::Refused(e) => refusal(e),
     }
 }

@@ -2,4 +2,4 @@
 pub mod Runs
 mod Scans
 pub mod Trees
-mod Answers
+pub mod Answers

@@ -6,7 +6,7 @@ use Prim.Native.Nat.{ℕ, _+_, _-_, _≤_}
 use native.Mathlib.Omega.{arith}
 use lib.ListN.{length, take, drop, length-take}
 use lib.Seq.{take-at}
-use Rattle.flat.specs.Tree.{DataType, size, kindsOf, argsOf}
+use Rattle.flat.specs.Tree.{DataType, size}
 use Rattle.flat.specs.Reading.{Reading, refused, type, reading, checkedOf}
 use Rattle.flat.specs.Output.{over, writtenOf}
 use Rattle.flat.specs.Walk.{Valid, typeAt}
@@ -14,10 +14,10 @@ use Rattle.flat.specs.declared.Checked.{Checked}
 use Rattle.flat.specs.declared.Written.{Written}
 use Rattle.flat.specs.declared.error.Error.{Error}
 use Rattle.flat.specs.declared.error.Error.the-variants.{Length}
-use Rattle.flat.proofs.Meaning.{stands, checked-refused}
+use Rattle.flat.proofs.Meaning.{Holds, holds, stands, checked-refused}
 use Rattle.encoding.specs.Encoding.{argsIn, decoding}
 use Rattle.encoding.specs.Answer.{nodesIn, Opens}
-use Rattle.encoding.proofs.Answers.{Sized, size-fits, kinds-part, args-length, decoding-sized, nodes-none, decoding-none, EncodedForm, type-form, encoded-form, form-kinds}
+use Rattle.encoding.proofs.Answers.{Sized, size-fits, kinds-part, args-length, decoding-sized, nodes-none, decoding-none, EncodedForm, type-form, encoded-form}
 
 -- ---- what it comes to
 pub opens-none : {w nodes deep n : ℕ} {s xs : List ℕ} → n ≡ nodesIn w nodes s → n ≡ 0 → Opens w nodes deep s xs xs (Written.Refused Length)
@@ -51,8 +51,7 @@ written-form {w} {nodes} {deep} {n} {s} q e =
 pub record Opened (w nodes deep n : ℕ) (s xs : List ℕ) : Type 0 where
   pub form : EncodedForm w nodes deep n s
   pub room : n ≤ length xs
-  pub kinds : take (2 + n - 2) (drop 2 s) ≡ kindsOf (form .tree)
-  pub args : take n xs ≡ argsOf (form .tree)
+  pub holds : Holds nodes deep (take (2 + n - 2) (drop 2 s)) (take n xs) (form .tree)
   pub valid : Valid (take (2 + n - 2) (drop 2 s)) (take n xs)
   pub type-at : typeAt (take (2 + n - 2) (drop 2 s)) (take n xs) ≡ form .tree
 
@@ -62,8 +61,9 @@ module _ {w nodes deep : ℕ} {s xs xs′ : List ℕ} {a : Written} (o : Opens w
       let f : EncodedForm w nodes deep n s = written-form q (o .answers) in
       let z = f .sized in
       let front : take n xs′ ≡ argsIn w s = rw (rw (size-fits z) at (o .args)) (take-at (argsIn w s) _ n (args-length z)) in
-      let v = stands nodes deep _ _ (f .tree) (ap₂ (reading nodes deep) (kinds-part z) front ∙ sym (decoding-sized z deep) ∙ f .reads) in
-      record { form = f; room = omega (arith, length-take n xs′, ap length front ∙ args-length z); kinds = form-kinds f; args = front ∙ f .args; valid = v .0; type-at = v .1 }
+      let reads = ap₂ (reading nodes deep) (kinds-part z) front ∙ sym (decoding-sized z deep) ∙ f .reads in
+      let v = stands nodes deep _ _ (f .tree) reads in
+      record { form = f; room = omega (arith, length-take n xs′, ap length front ∙ args-length z); holds = holds nodes deep _ _ (f .tree) reads; valid = v .0; type-at = v .1 }
 
   pub unopened : {e : Error} → a ≡ Written.Refused e → decoding w nodes deep s ≡ refused e
   unopened q = written-refused (decoding w nodes deep s) (sym q ∙ o .answers)

@@ -1,0 +1,31 @@
+-- `lz_is_known` meets its contract. Assumes nothing.
+use borrow.Author.Needs.{needs}
+use native.Mathlib.Omega.{arith}
+use mathlib.Core.Path.{_≡_}
+use lib.ListN.{length}
+use Rattle.encoding.specs.Encoding.{encodedSize, decoding}
+use Rattle.datatypes.specs.Recursive.{isKnown}
+use Rattle.datatypes.proofs.Trees.{not-known}
+use Rattle.encoding.proofs.Opening.{written-form}
+use Rattle.capi.proofs.Replies.{unless-reply, answer-unwritten}
+use Rattle.capi.proofs.predicate.lz_is_known.Statement.{statement}
+use Rattle.capi.proofs.predicate.lz_is_known.Tie as tie
+
+right-size : (c : tie.After-known-told) → length (c .before .before .before .before .before .args .encoded .now) ≡ encodedSize 8 (c .before .n .given .0 .0)
+right-size c = written-form (c .before .n .given .1) (c .before .before .before .nodes .ensures) .sized .size
+
+returns : tie.Need-returns
+returns c = let at = c .before .before .before in unless-reply (written-form (at .before .n .given .1) (at .before .before .before .nodes .ensures)) isKnown not-known (c .before .contains-unknown .ensures) (c .yes-no .ensures)
+
+returns-2 : tie.Need-returns-2
+returns-2 c = answer-unwritten isKnown (decoding _ _ _ _) (c .before .before .e .given .1) (c .before .before .before .before .nodes .ensures) (c .refusal .ensures)
+
+pub lz-is-known-spec : {M : Type 1} → statement M
+lz-is-known-spec =
+    tie.close
+    (tie.spec
+    (λ c κs. search needs) (λ c. search needs)
+    (λ c. omega (arith, right-size c)) (λ c. search needs) (λ c. search needs) (λ c. omega (arith, right-size c))
+    (λ c κs. search needs) (λ c κs. search needs) (λ c. search needs) (λ c κs. search needs)
+    returns
+    returns-2)
