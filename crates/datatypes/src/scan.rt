@@ -5,7 +5,7 @@ ghost use Rattle.datatypes.specs.Scan.{between, anyOf, isListKind, isLog
 use flat::kind::Kind;
 
 // Whether a kind from low to high is among them.
-fn any_between(kinds: &[u8], low: u8, high: u8) -> bool
+pub fn any_between(kinds: &[u8], low: u8, high: u8) -> bool
     ensures { λ r. ⌜ r ≡ anyOf (between low high) (now (kinds .entry)) ⌝ }
 {
     let mut i = 0;
@@ -28,7 +28,7 @@ pub fn contains_unknown(kinds: &[u8]) -> bool
 }
 
 pub fn contains_list(kinds: &[u8]) -> bool
-    ensures { λ r. ⌜ r ≡ anyOf (isListKind) (now (kinds .entry)) ⌝ }
+    ensures { λ r. ⌜ r ≡ anyOf isListKind (now (kinds .entry)) ⌝ }
 {
     any_between(kinds, Kind::LIST, Kind::LIST)
 }

@@ -16,11 +16,12 @@ use Rattle.flat.specs.Tree.{DataType, leaf, list, array, struct, size, headKind
 use Rattle.flat.specs.Reading.{Reading, refused, type, unless, reading, checkedOf}
 use Rattle.flat.specs.declared.Checked.{Checked}
 use Rattle.flat.specs.declared.Checked.the-variants.{Valid}
-use Rattle.flat.specs.Output.{over, kindsOver, argsOver, Writes}
+use Rattle.flat.specs.Output.{over, Writes}
 use Rattle.flat.specs.declared.error.Error.{Error}
 use Rattle.flat.specs.declared.error.Error.the-variants.{Length, OutputTooShort}
 use Rattle.flat.proofs.Sizes.{length-kinds, length-args}
 use Rattle.flat.proofs.Meaning.{holds, checked-type}
+use Rattle.flat.proofs.Outputs.{writes-type}
 use Rattle.encoding.specs.Encoding.{argsFrom, encoding, encodedSize, countIn, kindsIn, argsIn, sizeFits, decoding}
 use Rattle.encoding.specs.Answer.{nodesIn, fittingBytes, bytesOver, Encodes, Puts}
 use Rattle.flat.specs.declared.Written.{Written}
@@ -81,6 +82,15 @@ nodes-some {w} {nodes} {n} {s} e h = go (sizeFits w nodes s) refl e
 pub nodes-sized : {w nodes n : ℕ} {s : List ℕ} → Sized w nodes n s → nodesIn w nodes s ≡ n
 unfolding nodesIn
 nodes-sized z = rw (size-fits z) (sym (z .count))
+
+-- in any case
+pub nodes-few : (w nodes : ℕ) (s : List ℕ) → nodesIn w nodes s ≤ nodes
+unfolding nodesIn
+nodes-few w nodes s = go (sizeFits w nodes s) refl
+  where
+    go : (b : Bool) → sizeFits w nodes s ≡ b → cond b (countIn s) 0 ≤ nodes
+    go true f = sized w nodes s f .few
+    go false f = omega arith
 
 -- where it is 0
 pub nodes-none : (w nodes : ℕ) (s : List ℕ) {n : ℕ} → n ≡ nodesIn w nodes s → n ≡ 0 → sizeFits w nodes s ≡ false
@@ -162,17 +172,10 @@ module _ {w nodes deep n : ℕ} {s : List ℕ} (f : EncodedForm w nodes deep n s
 
 -- ---- what `decode` and `encode` come to
 
-pub decodes-refused : {r : Reading} {e : Error} {ks xs : List ℕ} → r ≡ refused e → Writes r ks xs ks xs (Written.Refused e)
-unfolding kindsOver argsOver
-decodes-refused h = rw h (record { answers = refl; kinds = refl; args = refl })
-
 -- the two parts of s, over the front of the two arrays
 pub decodes-type : {w nodes deep n : ℕ} {s : List ℕ} {r : Reading} {ks xs ks′ xs′ : List ℕ} (f : EncodedForm w nodes deep n s) → r ≡ type (f .tree)
     → ks′ ≡ over (take (2 + n - 2) (drop 2 s)) ks → xs′ ≡ argsFrom w n (take (length s - (2 + n)) (drop (2 + n) s)) ++ drop n xs → Writes r ks xs ks′ xs′ (Written.Nodes n)
-unfolding kindsOver argsOver
-decodes-type f h k a =
-    let z = f .sized in
-    rw h (record { answers = ap Written.Nodes (sym (f .tree-size)); kinds = rw (← f .kinds, ← kinds-part z) k; args = rw (← f .args, args-length z, ← args-part z) a })
+decodes-type f h k a = let z = f .sized in writes-type h (sym (f .tree-size)) (rw (← f .kinds, ← kinds-part z) k) (rw (← f .args, args-length z, ← args-part z) a)
 
 pub encodes-refused : {w : ℕ} {r : Reading} {e : Error} {out : List ℕ} → r ≡ refused e → Encodes w r out out (Encoded.Refused e)
 unfolding bytesOver

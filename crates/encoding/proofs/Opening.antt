@@ -16,18 +16,21 @@ use Rattle.flat.specs.declared.error.Error.{Error}
 use Rattle.flat.specs.declared.error.Error.the-variants.{Length}
 use Rattle.flat.proofs.Meaning.{Holds, holds, stands, checked-refused}
 use Rattle.encoding.specs.Encoding.{argsIn, decoding}
-use Rattle.encoding.specs.Answer.{nodesIn, Opens}
+use Rattle.encoding.specs.Answer.{nodesIn, argsOpened, Opens}
 use Rattle.encoding.proofs.Answers.{Sized, size-fits, kinds-part, args-length, decoding-sized, nodes-none, decoding-none, EncodedForm, type-form, encoded-form}
 
 -- ---- what it comes to
 pub opens-none : {w nodes deep n : ℕ} {s xs : List ℕ} → n ≡ nodesIn w nodes s → n ≡ 0 → Opens w nodes deep s xs xs (Written.Refused Length)
+unfolding argsOpened
 opens-none {w} {nodes} {deep} {n} {s} e h = record { answers = ap writtenOf (sym (decoding-none w nodes deep s e h)); args = rw (nodes-none w nodes s e h) }
 
 module _ {w nodes deep n : ℕ} {s xs xs′ : List ℕ} {a : Checked} (z : Sized w nodes n s) (h : a ≡ checkedOf (decoding w nodes deep s)) (x : xs′ ≡ over (argsIn w s) xs) where
   pub opens-type : a ≡ Checked.Valid → Opens w nodes deep s xs xs′ (Written.Nodes n)
+  unfolding argsOpened
   opens-type v = let f = encoded-form v h (z .count) in record { answers = ap Written.Nodes (sym (f .tree-size)) ∙ ap writtenOf (sym (f .reads)); args = rw (size-fits z) x }
 
   pub opens-refused : {e : Error} → a ≡ Checked.Refused e → Opens w nodes deep s xs xs′ (Written.Refused e)
+  unfolding argsOpened
   opens-refused {e} v = record { answers = ap writtenOf (sym (checked-refused (decoding w nodes deep s) e (sym v ∙ h))); args = rw (size-fits z) x }
 
 -- ---- what it tells
@@ -57,6 +60,7 @@ pub record Opened (w nodes deep n : ℕ) (s xs : List ℕ) : Type 0 where
 
 module _ {w nodes deep : ℕ} {s xs xs′ : List ℕ} {a : Written} (o : Opens w nodes deep s xs xs′ a) where
   pub opened : {n : ℕ} → a ≡ Written.Nodes n → Opened w nodes deep n s xs′
+  unfolding argsOpened
   opened {n} q =
       let f : EncodedForm w nodes deep n s = written-form q (o .answers) in
       let z = f .sized in

@@ -17,11 +17,14 @@ use Rattle.encoding.specs.declared.Encoded.{Encoded}
 unfoldable pub nodesIn : ℕ → ℕ → List ℕ → ℕ
 nodesIn w nodes s = cond (sizeFits w nodes s) (countIn s) 0
 
--- What `open` comes to: its answer, and the lent arguments, xs before the call and xs′ after it. They are read before they are checked, so bytes of the right
--- length leave theirs even where they are refused.
+-- The lent arguments after `open`. They are read before they are checked, so bytes of the right length leave theirs even where they are refused.
+unfoldable pub argsOpened : ℕ → ℕ → List ℕ → List ℕ → List ℕ
+argsOpened w nodes s xs = cond (sizeFits w nodes s) (over (argsIn w s) xs) xs
+
+-- What `open` comes to: its answer, and the lent arguments, xs before the call and xs′ after it.
 pub record Opens (w nodes deep : ℕ) (s xs xs′ : List ℕ) (answer : Written) : Type 0 where
   pub answers : answer ≡ writtenOf (decoding w nodes deep s)
-  pub args : xs′ ≡ cond (sizeFits w nodes s) (over (argsIn w s) xs) xs
+  pub args : xs′ ≡ argsOpened w nodes s xs
 
 -- 8: the output, of m bytes, is shorter than the result, where there is one
 unfoldable pub fittingBytes : ℕ → ℕ → Reading → Reading

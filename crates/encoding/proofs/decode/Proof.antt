@@ -7,8 +7,9 @@ use lib.ListN.{length, length-drop}
 use borrow.Rule.Slice.PartAt.{part-to-end}
 use Rattle.flat.specs.Output.{fitting}
 use Rattle.flat.proofs.Meaning.{checked-refused}
+use Rattle.flat.proofs.Outputs.{writes-refused}
 use Rattle.encoding.specs.Encoding.{encodedSize, decoding}
-use Rattle.encoding.proofs.Answers.{encoded-form, decodes-refused, decodes-type}
+use Rattle.encoding.proofs.Answers.{encoded-form, decodes-type}
 use Rattle.encoding.proofs.decode.Statement.{statement}
 use Rattle.encoding.proofs.decode.Tie as tie
 
@@ -26,13 +27,13 @@ returns : tie.Need-returns
 unfolding fitting
 returns c =
     let form = encoded-form (c .before .before .enum-told .given .1) (c .before .before .before .before .check .ensures) (c .before .count .ensures .0) in
-    decodes-refused (rw (form .reads, form .tree-size, lt-leb _ _ (c .if1 .taken)))
+    writes-refused (rw (form .reads, form .tree-size, lt-leb _ _ (c .if1 .taken)))
 
 returns-2 : tie.Need-returns-2
 unfolding fitting
 returns-2 c =
     let form = encoded-form (c .before .before .before .enum-told .given .1) (c .before .before .before .before .before .check .ensures) (c .before .before .count .ensures .0) in
-    decodes-refused (rw (form .reads, form .tree-size, le-leb _ _ (c .before .if1 .left), lt-leb _ _ (c .if2 .taken)))
+    writes-refused (rw (form .reads, form .tree-size, le-leb _ _ (c .before .if1 .left), lt-leb _ _ (c .if2 .taken)))
 
 returns-4 : tie.Need-returns-4
 unfolding fitting
@@ -46,7 +47,7 @@ returns-4 c =
 -- where they are none
 returns-3 : tie.Need-returns-3
 unfolding fitting
-returns-3 c = decodes-refused (rw (checked-refused (decoding _ _ _ _) _ (sym (c .before .e .given .1) ∙ c .before .before .before .check .ensures)))
+returns-3 c = writes-refused (rw (checked-refused (decoding _ _ _ _) _ (sym (c .before .e .given .1) ∙ c .before .before .before .check .ensures)))
 
 pub decode-spec : {M : Type 1} → statement M
 decode-spec =
