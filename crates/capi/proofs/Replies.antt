@@ -4,14 +4,14 @@ use mathlib.Core.Bool.{Bool, not}
 use mathlib.Core.List.{List}
 use Prim.Native.Nat.{ℕ, _+_, _-_}
 use native.Mathlib.Omega.{arith}
-use lib.ListN.{take, drop}
+use lib.ListN.{length, take, drop}
 use Rattle.flat.specs.Tree.{DataType, Fields, size}
 use Rattle.flat.specs.Reading.{Reading, refused, type, reading, checkedOf}
 use Rattle.flat.specs.declared.error.Error.{Error}
 use Rattle.flat.specs.declared.Checked.{Checked}
 use Rattle.flat.proofs.Meaning.{checked-type, checked-refused}
 use Rattle.encoding.specs.Encoding.{encodedSize, kindsIn, argsIn, decoding}
-use Rattle.encoding.specs.Answer.{encodedOf, Encodes}
+use Rattle.encoding.specs.Answer.{fittingBytes, encodedOf, bytesOver, Encodes}
 use Rattle.flat.specs.declared.Written.{Written}
 use Rattle.flat.specs.Output.{writtenOf, Writes}
 use Rattle.encoding.specs.declared.Encoded.{Encoded}
@@ -24,7 +24,11 @@ use Rattle.datatypes.specs.declared.answer.Root.{Root}
 use Rattle.datatypes.proofs.Trees.{Nodewise}
 use Rattle.datatypes.proofs.Answers.{by-root, by-scan, unless-scan}
 use Rattle.datatypes.proofs.Answers as answers
-use Rattle.capi.specs.Reply.{replyOf, checkReply, answerReply, DecodeReply, EncodeReply}
+use Rattle.datatypes.specs.TimeUnit.{unitNumber}
+use Rattle.datatypes.specs.declared.time_unit.TimeUnit.{TimeUnit}
+use Rattle.datatypes.specs.declared.time_unit.Unit.{Unit}
+use Rattle.utils.specs.TimeUnits.{getTimeUnits}
+use Rattle.capi.specs.Reply.{replyOf, checkReply, answerReply, bytesReply, unitReply, DecodeReply, EncodeReply}
 use Rattle.capi.specs.declared.Reply.{Reply}
 
 -- a refusal's reply is the same of every call
@@ -48,21 +52,28 @@ module _ {r : Reading} {ks xs ks′ xs′ : List ℕ} {d : Written} (f : Writes 
   pub decode-refused : {e : Error} {a : Reply} → d ≡ Written.Refused e → a ≡ checkReply (refused e) → DecodeReply r ks xs ks′ xs′ a
   decode-refused q h = record { replies = of-refusal size h (written-refused r (sym q ∙ f .answers)); kinds = f .kinds; args = f .args }
 
--- ---- lz_encode
-module _ {w : ℕ} {r : Reading} {out out′ : List ℕ} {d : Encoded} (f : Encodes w r out out′ d) where
-  pub encode-bytes : {n : ℕ} → d ≡ Encoded.Bytes n → EncodeReply w r out out′ (record { number = 0; value = n })
-  encode-bytes {n} q = record { replies = go r (sym q ∙ f .answers); bytes = f .bytes }
-    where
-      go : (r : Reading) → Encoded.Bytes n ≡ encodedOf w r → record { number = 0; value = n } ≡ replyOf (λ t. encodedSize w (size t)) r
-      go (refused e) q = absurd (let z : _≡_ {A = ℕ} 0 1 = cc in omega arith)
-      go (type t) q = let y : n ≡ encodedSize w (size t) = cc in λ i. record { number = 0; value = y i }
+-- ---- the calls that encode a type
+pub encode-reply : {w : ℕ} {r : Reading} {out out′ : List ℕ} {d : Encoded} {a : Reply} → Encodes w r out out′ d → a ≡ bytesReply d → EncodeReply w r out out′ a
+encode-reply {w} {r} f h = record { replies = h ∙ ap bytesReply (f .answers) ∙ go r; bytes = f .bytes }
+  where
+    go : (r : Reading) → bytesReply (encodedOf w r) ≡ replyOf (λ t. encodedSize w (size t)) r
+    go (refused e) = refl
+    go (type t) = refl
 
-  pub encode-refused : {e : Error} {a : Reply} → d ≡ Encoded.Refused e → a ≡ checkReply (refused e) → EncodeReply w r out out′ a
-  encode-refused {e} q h = record { replies = of-refusal (λ t. encodedSize w (size t)) h (go r (sym q ∙ f .answers)); bytes = f .bytes }
-    where
-      go : (r : Reading) → Encoded.Refused e ≡ encodedOf w r → r ≡ refused e
-      go (refused d) q = let y : d ≡ e = cc in ap refused y
-      go (type t) q = absurd (let z : _≡_ {A = ℕ} 0 1 = cc in omega arith)
+pub encode-refused : {w : ℕ} {r : Reading} {out : List ℕ} {e : Error} {a : Reply} → r ≡ refused e → a ≡ checkReply (refused e) → EncodeReply w (fittingBytes w (length out) r) out out a
+unfolding fittingBytes bytesOver
+encode-refused q h = rw q (record { replies = h; bytes = refl })
+
+-- ---- lz_get_time_units
+module _ {x y : Unit} {l : TimeUnit} (p : x ≡ Unit.Of l) where
+  pub unit-reply : {r : TimeUnit} {n : ℕ} → y ≡ Unit.Of r → n ≡ unitNumber (getTimeUnits l r) → record { number = 0; value = n } ≡ unitReply x y
+  unit-reply q h = rw (p, q, h)
+
+  pub right-refused : {e : Error} {a : Reply} → y ≡ Unit.Refused e → a ≡ checkReply (refused e) → a ≡ unitReply x y
+  right-refused q h = rw (p, q) h
+
+pub left-refused : {x : Unit} (y : Unit) {e : Error} {a : Reply} → x ≡ Unit.Refused e → a ≡ checkReply (refused e) → a ≡ unitReply x y
+left-refused y p h = rw p h
 
 -- ---- the predicates
 pub answer-refused : (p : DataType → Bool) {r : Reading} {e : Error} {a : Reply} → r ≡ refused e → a ≡ checkReply (refused e) → a ≡ answerReply (answerOf p r)

@@ -8,8 +8,15 @@ use Rattle.flat.specs.Reading.{Reading, refused, type}
 use Rattle.flat.specs.Output.{kindsOver, argsOver}
 use Rattle.encoding.specs.Encoding.{encodedSize}
 use Rattle.encoding.specs.Answer.{bytesOver}
+use Rattle.encoding.specs.declared.Encoded.{Encoded}
 use Rattle.datatypes.specs.Answer.{answerNumber, answerValue}
 use Rattle.datatypes.specs.declared.answer.Answer.{Answer}
+use Rattle.datatypes.specs.TimeUnit.{unitNumber}
+use Rattle.datatypes.specs.declared.time_unit.Unit.{Unit}
+use Rattle.datatypes_cast.specs.Verdict.{verdictNumber, verdictValue}
+use Rattle.datatypes_cast.specs.declared.Verdict.{Verdict}
+use Rattle.datatypes_cast.specs.declared.dtype.Cast.{Cast}
+use Rattle.utils.specs.TimeUnits.{getTimeUnits}
 use Rattle.capi.specs.declared.Reply.{Reply}
 
 -- a refusal's number with value 0, or 0 with what the call says of the type
@@ -25,13 +32,34 @@ checkReply = replyOf (λ t. 0)
 abbrev pub answerReply : Answer → Reply
 answerReply a = record { number = answerNumber a; value = answerValue a }
 
+-- yes, no or no verdict
+abbrev pub verdictReply : Verdict → Reply
+verdictReply v = record { number = verdictNumber v; value = verdictValue v }
+
+-- the verdict of a cast whose types were checked before
+abbrev pub verdictOf : Cast → Verdict
+verdictOf Cast.No = Verdict.No
+verdictOf (Cast.Yes n m) = Verdict.Yes
+verdictOf Cast.NoVerdict = Verdict.NoVerdict
+
+-- the number of bytes written
+abbrev pub bytesReply : Encoded → Reply
+bytesReply (Encoded.Bytes n) = record { number = 0; value = n }
+bytesReply (Encoded.Refused e) = record { number = numberOf e; value = 0 }
+
+-- the coarser of two units, where both are units
+abbrev pub unitReply : Unit → Unit → Reply
+unitReply (Unit.Refused e) right = record { number = numberOf e; value = 0 }
+unitReply (Unit.Of l) (Unit.Refused e) = record { number = numberOf e; value = 0 }
+unitReply (Unit.Of l) (Unit.Of r) = record { number = 0; value = unitNumber (getTimeUnits l r) }
+
 -- What `lz_decode` comes to: the number of nodes, and the two lent arrays, ks and xs before the call and ks′ and xs′ after it.
 pub record DecodeReply (r : Reading) (ks xs ks′ xs′ : List ℕ) (reply : Reply) : Type 0 where
   pub replies : reply ≡ replyOf size r
   pub kinds : ks′ ≡ kindsOver r ks
   pub args : xs′ ≡ argsOver r xs
 
--- What `lz_encode` comes to: the number of bytes, and the lent bytes, out before the call and out′ after it.
+-- What a call comes to that encodes a type: the number of bytes, and the lent bytes, out before the call and out′ after it.
 pub record EncodeReply (w : ℕ) (r : Reading) (out out′ : List ℕ) (reply : Reply) : Type 0 where
   pub replies : reply ≡ replyOf (λ t. encodedSize w (size t)) r
   pub bytes : out′ ≡ bytesOver w r out

@@ -1,5 +1,9 @@
 // The C entry points. Each is a call of a proved function on an encoded type, whose answer is given as two numbers.
+mod build;
+mod pair;
+mod part;
 mod predicate;
+mod time_unit;
 
 ghost use mathlib.Core.Path.{_≡_};
 ghost use lib.ListN.{length};
@@ -7,7 +11,8 @@ ghost use Rattle.flat.specs.Reading.{reading, refused};
 ghost use Rattle.flat.specs.Output.{fitting};
 ghost use Rattle.encoding.specs.Encoding.{decoding};
 ghost use Rattle.encoding.specs.Answer.{fittingBytes};
-ghost use Rattle.capi.specs.Reply.{checkReply, DecodeReply, EncodeReply};
+ghost use Rattle.datatypes.specs.Answer.{yesNo};
+ghost use Rattle.capi.specs.Reply.{checkReply, answerReply, bytesReply, DecodeReply, EncodeReply};
 use encoding::Encoded;
 use encoding::Encoding;
 use flat::Checked;
@@ -28,6 +33,26 @@ fn refusal(e: Error) -> Reply
     Reply {
         number: e.number(),
         value: 0,
+    }
+}
+
+fn yes_no(b: bool) -> Reply
+    ensures { λ r. ⌜ r ≡ answerReply (yesNo b) ⌝ }
+{
+    let value = if b { 1 } else { 0 };
+    Reply { number: 0, value }
+}
+
+// The number of bytes written.
+fn bytes(e: Encoded) -> Reply
+    ensures { λ r. ⌜ r ≡ bytesReply e ⌝ }
+{
+    match e {
+        Encoded::Bytes(n) => Reply {
+            number: 0,
+            value: n as u64,
+        },
+        Encoded::Refused(e) => refusal(e),
     }
 }
 
@@ -76,11 +101,5 @@ pub extern "C" fn lz_encode(kinds: &[u8], args: &[u64], out: &mut [u8]) -> Reply
       w ← ⟦Encoding::ARGUMENT_BYTES⟧ .entry
       ⌜ EncodeReply w (fittingBytes w (length (now (out .entry))) (reading nodes deep (now (kinds .entry)) (now (args .entry)))) (now (out .entry)) (now (out .exit)) r ⌝ }
 {
-    match encoding::encode(kinds, args, out) {
-        Encoded::Bytes(n) => Reply {
-            number: 0,
-            value: n as u64,
-        },
-        Encoded::Refused(e) => refusal(e),
-    }
+    bytes(encoding::encode(kinds, args, out))
 }

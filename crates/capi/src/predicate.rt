@@ -4,10 +4,11 @@ ghost use Rattle.flat.specs.Output.{writtenOf};
 ghost use Rattle.encoding.specs.Encoding.{decoding};
 ghost use Rattle.datatypes.specs.Predicate.{root, isTemporal, isFloat, isSignedInteger, isUnsignedInteger, isInteger, isPrimitiveNumeric, isPrimitive, isNested, isString, isUnknown};
 ghost use Rattle.datatypes.specs.Recursive.{isKnown, isLogical, containsListRecursive, containsUnknown};
-ghost use Rattle.datatypes.specs.Answer.{answerOf, yesNo, rootOf};
+ghost use Rattle.datatypes.specs.Answer.{answerOf, rootOf};
 ghost use Rattle.capi.specs.Reply.{answerReply};
 use crate::Reply;
 use crate::refusal;
+use crate::yes_no;
 use datatypes::answer::Root;
 use datatypes::kind;
 use datatypes::scan;
@@ -42,13 +43,6 @@ fn nodes(encoded: &[u8]) -> Written
         Checked::Valid => Written::Nodes(encoding::node_count(encoded)),
         Checked::Refused(e) => Written::Refused(e),
     }
-}
-
-fn yes_no(b: bool) -> Reply
-    ensures { λ r. ⌜ r ≡ answerReply (yesNo b) ⌝ }
-{
-    let value = if b { 1 } else { 0 };
-    Reply { number: 0, value }
 }
 
 // Whether it is a List, an Array or a Struct.

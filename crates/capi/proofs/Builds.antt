@@ -1,0 +1,82 @@
+-- What the calls reply that build an encoded type anew. Assumes nothing.
+use mathlib.Core.Path.{_≡_, refl, sym, ap, ap₂, _∙_}
+use mathlib.Core.Bool.{Bool, true, false, not, _&&_}
+use mathlib.Core.List.{List}
+use Prim.Native.Nat.{ℕ, _+_, _-_, _≤_}
+use native.Mathlib.Omega.{arith}
+use lib.ListN.{length, take, drop, length-take}
+use Rattle.flat.specs.Tree.{DataType, size, kindsOf, argsOf}
+use Rattle.flat.specs.Reading.{Reading, refused, type, reading, checkedOf}
+use Rattle.flat.specs.Walk.{typeAt}
+use Rattle.flat.specs.Output.{kindsOver, argsOver}
+use Rattle.flat.specs.declared.Checked.{Checked}
+use Rattle.flat.specs.declared.error.Error.{Error}
+use Rattle.flat.specs.declared.error.Error.the-variants.{Unknown}
+use Rattle.flat.proofs.Sizes.{length-kinds, length-args}
+use Rattle.flat.proofs.Meaning.{passes}
+use Rattle.encoding.specs.Encoding.{decoding}
+use Rattle.encoding.specs.Answer.{argsOpened, Puts}
+use Rattle.encoding.specs.declared.Encoded.{Encoded}
+use Rattle.encoding.proofs.Answers.{puts-type}
+use Rattle.encoding.proofs.Opening.{Opened}
+use Rattle.datatypes.specs.Physical.{physicalLeaf}
+use Rattle.datatypes_build.specs.Build.{materialized, physical}
+use Rattle.datatypes_build.specs.Leaf.{materializedLeaf, mapLeaves, hasAny, BuiltType}
+use Rattle.datatypes_build.proofs.Answers.{physical-type, known-none, known-type, front}
+use Rattle.capi.specs.Reply.{checkReply, bytesReply}
+use Rattle.capi.specs.Lent.{FormReply, BuildReply}
+use Rattle.capi.specs.declared.Reply.{Reply}
+use Rattle.capi.proofs.Replies.{encode-reply, encode-refused}
+
+-- ---- a type t that was built in two arrays
+module _ (t : DataType) {K A K′ A′ : List ℕ} {n : ℕ} (b : BuiltType t K A K′ A′ n) where
+  pub kinds-front : length (take n K′) ≡ n
+  kinds-front = ap length (front t b .1) ∙ length-kinds t ∙ sym (front t b .0)
+
+  pub args-front : length (take n A′) ≡ n
+  args-front = ap length (front t b .2) ∙ length-args t ∙ sym (front t b .0)
+
+  pub form-reply : {w : ℕ} {out out′ : List ℕ} {d : Encoded} {a : Reply} → Puts w (take n K′) (take n A′) out out′ d → a ≡ bytesReply d → FormReply w (type t) K A out K′ A′ out′ a
+  unfolding kindsOver argsOver
+  form-reply p h = record { encodes = encode-reply (puts-type t (front t b .1) (front t b .2) p) h; new-kinds = b .kinds; new-args = b .args }
+
+-- n elements are there
+pub room-of : (n : ℕ) (l : List ℕ) → length (take n l) ≡ n → n ≤ length l
+room-of n l e = omega (arith, length-take n l)
+
+-- ---- a refused call
+pub build-refused : {w nodes : ℕ} {s : List ℕ} {r : Reading} {xs xs′ K A out : List ℕ} {e : Error} {a : Reply} → xs′ ≡ argsOpened w nodes s xs → r ≡ refused e → a ≡ checkReply (refused e) → BuildReply w nodes s r xs K A out xs′ K A out a
+unfolding kindsOver argsOver
+build-refused x q h = record { forms = record { encodes = encode-refused q h; new-kinds = rw q; new-args = rw q }; args = x }
+
+pub physical-refused : {r : Reading} {e : Error} → r ≡ refused e → physical r ≡ refused e
+unfolding physical
+physical-refused q = rw q
+
+pub materialized-refused : (allow : Bool) {r : Reading} {e : Error} → r ≡ refused e → materialized allow r ≡ refused e
+unfolding materialized
+materialized-refused allow q = rw q
+
+-- ---- an opened type
+module _ {w nodes deep n : ℕ} {s xs : List ℕ} (o : Opened w nodes deep n s xs) where
+  reads : reading nodes deep (take (2 + n - 2) (drop 2 s)) (take n xs) ≡ type (o .form .tree)
+  reads = ap₂ (reading nodes deep) (o .holds .kinds) (o .holds .args) ∙ passes nodes deep (o .form .tree) (o .holds .is-type)
+
+  valid : Checked.Valid ≡ checkedOf (reading nodes deep (take (2 + n - 2) (drop 2 s)) (take n xs))
+  valid = ap checkedOf (sym reads)
+
+  same : decoding w nodes deep s ≡ reading nodes deep (take (2 + n - 2) (drop 2 s)) (take n xs)
+  same = o .form .reads ∙ sym reads
+
+  pub type-size : size (typeAt (take (2 + n - 2) (drop 2 s)) (take n xs)) ≡ n
+  type-size = ap size (o .type-at) ∙ o .form .tree-size
+
+  pub physical-opened : physical (decoding w nodes deep s) ≡ type (mapLeaves physicalLeaf (typeAt (take (2 + n - 2) (drop 2 s)) (take n xs)))
+  physical-opened = ap physical same ∙ physical-type nodes deep _ _ valid
+
+  module _ (allow : Bool) {b : Bool} (e : b ≡ (hasAny (take (2 + n - 2) (drop 2 s)) && not allow)) where
+    pub materialized-none : b ≡ true → materialized allow (decoding w nodes deep s) ≡ refused Unknown
+    materialized-none h = ap (materialized allow) same ∙ known-none nodes deep _ _ valid allow (sym e ∙ h)
+
+    pub materialized-opened : b ≡ false → materialized allow (decoding w nodes deep s) ≡ type (mapLeaves materializedLeaf (typeAt (take (2 + n - 2) (drop 2 s)) (take n xs)))
+    materialized-opened h = ap (materialized allow) same ∙ known-type nodes deep _ _ valid allow (sym e ∙ h)

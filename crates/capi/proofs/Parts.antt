@@ -1,0 +1,70 @@
+-- What the calls reply that find a part of an encoded type, and its shape. Assumes nothing.
+use mathlib.Core.Path.{_≡_, refl, sym, ap, ap₂, _∙_}
+use mathlib.Core.List.{List}
+use mathlib.Core.Option.{Option, none, some}
+use Prim.Native.Nat.{ℕ, _+_, _-_, _≤_}
+use native.Mathlib.Omega.{arith}
+use lib.ListN.{length, take, drop}
+use Rattle.flat.specs.Tree.{DataType, kindsOf, argsOf}
+use Rattle.flat.specs.Reading.{type}
+use Rattle.flat.proofs.Sizes.{length-kinds, length-args, size-pos}
+use Rattle.flat.proofs.Positions.{rest}
+use Rattle.flat.proofs.Walks.{from, length-from}
+use Rattle.encoding.specs.Encoding.{decoding}
+use Rattle.encoding.specs.Answer.{Puts}
+use Rattle.encoding.specs.declared.Encoded.{Encoded}
+use Rattle.encoding.proofs.Answers.{puts-type}
+use Rattle.encoding.proofs.Opening.{Opened}
+use Rattle.datatypes_inner.specs.Shape.{shape, shapeOf, arraysAt, widthsAt}
+use Rattle.datatypes_inner.proofs.Endings.{Last, Found, Finds, finds-inner, finds-leaf, finds-array-leaf}
+use Rattle.datatypes_inner.proofs.Shapes.{arrays-fit, shape-at}
+use Rattle.capi.specs.Reply.{bytesReply}
+use Rattle.capi.specs.Parts.{partOf, partNodes, partReading, PartReply}
+use Rattle.capi.specs.declared.Reply.{Reply}
+use Rattle.capi.specs.declared.part.Part.{Part}
+use Rattle.capi.proofs.Replies.{encode-reply}
+
+-- the kinds alone tell how many nodes each part has
+finds-part : (p : Part) → Finds (partOf p) (partNodes p)
+finds-part Part.Inner = finds-inner
+finds-part Part.Leaf = finds-leaf
+finds-part Part.ArrayLeaf = finds-array-leaf
+
+-- the last m of n elements
+last-part : {n m at : ℕ} {l whole these : List ℕ} → l ≡ whole → length whole ≡ n → at ≡ n - m → Last m whole these → from at l ≡ these
+last-part {n} {m} {at} {l} {whole} e h i last =
+    let z : at ≡ length whole - m = omega arith in
+    rest l at ∙ ap (drop at) e ∙ ap (λ (j : ℕ). drop j whole) z ∙ last .shows
+
+module _ {w nodes deep n : ℕ} {s xs : List ℕ} (o : Opened w nodes deep n s xs) where
+  module _ (p : Part) {m : ℕ} (e : m ≡ partNodes p (take (2 + n - 2) (drop 2 s))) where
+    part-found : Found (o .form .tree) (partOf p (o .form .tree)) m
+    part-found = rw (e, o .holds .kinds) (finds-part p .finds (o .form .tree) (o .holds .is-type .ruled))
+
+    pub part-within : m ≤ n
+    part-within = omega (arith, part-found .kinds .within, length-kinds (o .form .tree), o .form .tree-size)
+
+    pub part-none : (out : List ℕ) → m ≡ 0 → PartReply w (partReading (partOf p) (decoding w nodes deep s)) out out (record { number = 0; value = 0 })
+    part-none out z = rw (o .form .reads) (go (partOf p (o .form .tree)) part-found)
+      where
+        go : (u : Option DataType) → Found (o .form .tree) u m → PartReply w (partReading (λ t. u) (type (o .form .tree))) out out (record { number = 0; value = 0 })
+        go none f = (refl, refl)
+        go (some u) f = absurd (omega (arith, f .nodes, size-pos u))
+
+    pub part-some : {at : ℕ} {out out′ : List ℕ} {d : Encoded} {a : Reply} → (m ≡ 0 → ⊥) → at ≡ n - m → Puts w (from at (take (2 + n - 2) (drop 2 s))) (from at (take n xs)) out out′ d → a ≡ bytesReply d
+        → PartReply w (partReading (partOf p) (decoding w nodes deep s)) out out′ a
+    part-some {at} {out} {out′} {d} {a} z i f h = rw (o .form .reads) (go (partOf p (o .form .tree)) part-found)
+      where
+        go : (u : Option DataType) → Found (o .form .tree) u m → PartReply w (partReading (λ t. u) (type (o .form .tree))) out out′ a
+        go none g = absurd (z (g .nodes))
+        go (some u) g =
+            let k = length-kinds (o .form .tree) ∙ o .form .tree-size in
+            let x = length-args (o .form .tree) ∙ o .form .tree-size in
+            encode-reply (puts-type u (last-part (o .holds .kinds) k i (g .kinds)) (last-part (o .holds .args) x i (g .args)) f) h
+
+  -- the widths of the Arrays at the front
+  pub arrays-few : arraysAt (take (2 + n - 2) (drop 2 s)) ≤ deep
+  arrays-few = rw (o .holds .kinds) (arrays-fit (o .holds .is-type))
+
+  pub opened-shape : shape deep 0 (widthsAt (take (2 + n - 2) (drop 2 s)) (take n xs)) ≡ shapeOf deep (decoding w nodes deep s)
+  opened-shape = ap (shape deep 0) (ap₂ widthsAt (o .holds .kinds) (o .holds .args)) ∙ shape-at (o .holds .is-type) ∙ ap (shapeOf deep) (sym (o .form .reads))
