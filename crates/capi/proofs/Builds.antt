@@ -7,7 +7,7 @@ use native.Mathlib.Omega.{arith}
 use lib.ListN.{length, take, drop, length-take}
 use Rattle.flat.specs.Tree.{DataType, size, kindsOf, argsOf}
 use Rattle.flat.specs.Reading.{Reading, refused, type, reading, checkedOf}
-use Rattle.flat.specs.Walk.{typeAt}
+use Rattle.flat.specs.Walk.{Valid, typeAt}
 use Rattle.flat.specs.Output.{kindsOver, argsOver}
 use Rattle.flat.specs.declared.Checked.{Checked}
 use Rattle.flat.specs.declared.error.Error.{Error}
@@ -15,16 +15,18 @@ use Rattle.flat.specs.declared.error.Error.the-variants.{Unknown}
 use Rattle.flat.proofs.Sizes.{length-kinds, length-args}
 use Rattle.flat.proofs.Meaning.{passes}
 use Rattle.encoding.specs.Encoding.{decoding}
-use Rattle.encoding.specs.Answer.{argsOpened, Puts}
+use Rattle.encoding.specs.Answer.{nodesIn, argsOpened, Puts}
 use Rattle.encoding.specs.declared.Encoded.{Encoded}
-use Rattle.encoding.proofs.Answers.{puts-type}
+use Rattle.encoding.proofs.Answers.{nodes-sized, puts-type}
 use Rattle.encoding.proofs.Opening.{Opened}
 use Rattle.datatypes.specs.Physical.{physicalLeaf}
 use Rattle.datatypes_build.specs.Build.{materialized, physical}
-use Rattle.datatypes_build.specs.Leaf.{materializedLeaf, mapLeaves, hasAny, BuiltType}
+use Rattle.datatypes_build.specs.Leaf.{materializedLeaf, leafOf, mapLeaves, hasAny, Room, BuiltType}
+use Rattle.datatypes_build.specs.declared.leaf.Form.{Form}
+use Rattle.datatypes_build.proofs.Forms.{size-map}
 use Rattle.datatypes_build.proofs.Answers.{physical-type, known-none, known-type, front}
 use Rattle.capi.specs.Reply.{checkReply, bytesReply}
-use Rattle.capi.specs.Lent.{FormReply, BuildReply}
+use Rattle.capi.specs.Lent.{RoomFor, FormReply, BuildReply}
 use Rattle.capi.specs.declared.Reply.{Reply}
 use Rattle.capi.proofs.Replies.{encode-reply, encode-refused}
 
@@ -39,6 +41,12 @@ module _ (t : DataType) {K A K′ A′ : List ℕ} {n : ℕ} (b : BuiltType t K 
   pub form-reply : {w : ℕ} {out out′ : List ℕ} {d : Encoded} {a : Reply} → Puts w (take n K′) (take n A′) out out′ d → a ≡ bytesReply d → FormReply w (type t) K A out K′ A′ out′ a
   unfolding kindsOver argsOver
   form-reply p h = record { encodes = encode-reply (puts-type t (front t b .1) (front t b .2) p) h; new-kinds = b .kinds; new-args = b .args }
+
+-- so few nodes can be encoded
+pub form-puts : (form : Form) (t : DataType) {K A K′ A′ : List ℕ} {n nodes : ℕ} → BuiltType (mapLeaves (leafOf form) t) K A K′ A′ n → size t ≤ nodes → (length (take n K′) ≡ length (take n A′)) × (length (take n K′) ≤ nodes)
+form-puts form t b h =
+    let u = mapLeaves (leafOf form) t in
+    (kinds-front u b ∙ sym (args-front u b), rw (kinds-front u b, front u b .0, size-map form t) h)
 
 -- n elements are there
 pub room-of : (n : ℕ) (l : List ℕ) → length (take n l) ≡ n → n ≤ length l
@@ -68,8 +76,15 @@ module _ {w nodes deep n : ℕ} {s xs : List ℕ} (o : Opened w nodes deep n s x
   same : decoding w nodes deep s ≡ reading nodes deep (take (2 + n - 2) (drop 2 s)) (take n xs)
   same = o .form .reads ∙ sym reads
 
-  pub type-size : size (typeAt (take (2 + n - 2) (drop 2 s)) (take n xs)) ≡ n
+  type-size : size (typeAt (take (2 + n - 2) (drop 2 s)) (take n xs)) ≡ n
   type-size = ap size (o .type-at) ∙ o .form .tree-size
+
+  -- so it can be built anew
+  pub form-pre : {ys K A : List ℕ} → RoomFor (nodesIn w nodes s) ys K A
+      → Valid (take (2 + n - 2) (drop 2 s)) (take n xs) × (size (typeAt (take (2 + n - 2) (drop 2 s)) (take n xs)) ≤ nodes) × Room (size (typeAt (take (2 + n - 2) (drop 2 s)) (take n xs))) K A
+  form-pre r =
+      let m = nodes-sized (o .form .sized) in
+      (o .valid, rw type-size (o .form .sized .few), record { kinds = rw (type-size, ← m) (r .new-kinds); args = rw (type-size, ← m) (r .new-args) })
 
   pub physical-opened : physical (decoding w nodes deep s) ≡ type (mapLeaves physicalLeaf (typeAt (take (2 + n - 2) (drop 2 s)) (take n xs)))
   physical-opened = ap physical same ∙ physical-type nodes deep _ _ valid

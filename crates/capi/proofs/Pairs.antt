@@ -14,7 +14,7 @@ use Rattle.flat.specs.Walk.{typeAt}
 use Rattle.flat.specs.Output.{writtenOf}
 use Rattle.flat.specs.declared.Written.{Written}
 use Rattle.flat.specs.declared.error.Error.{Error}
-use Rattle.encoding.specs.Encoding.{encodedSize, decoding}
+use Rattle.encoding.specs.Encoding.{decoding}
 use Rattle.encoding.specs.Answer.{nodesIn, argsOpened, Opens}
 use Rattle.encoding.proofs.Opening.{Opened, opened, unopened, written-type}
 use Rattle.datatypes.specs.Cast.{canCastTo}
@@ -55,11 +55,6 @@ pair-types (type t) (type u) {n} {m} h =
     let x : n ≡ size t = cc in
     let y : m ≡ size u = cc in
     (ap Written.Nodes x, ap Written.Nodes y)
-
--- as long as its nodes take, with room for its arguments
-pub record Fits (n : ℕ) (s xs : List ℕ) : Type 0 where
-  pub bytes : length s ≡ encodedSize 8 n
-  pub room : n ≤ length xs
 
 module _ {w nodes deep : ℕ} {s t xs ys xs′ ys′ : List ℕ} {a : Pair} (o : OpensBoth w nodes deep s t xs ys xs′ ys′ a) where
   module _ {n m : ℕ} (q : a ≡ Pair.Nodes n m) where

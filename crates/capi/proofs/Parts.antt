@@ -37,6 +37,15 @@ last-part {n} {m} {at} {l} {whole} e h i last =
     rest l at ∙ ap (drop at) e ∙ ap (λ (j : ℕ). drop j whole) z ∙ last .shows
 
 module _ {w nodes deep n : ℕ} {s xs : List ℕ} (o : Opened w nodes deep n s xs) where
+  -- its two parts are as long as each other
+  pub part-puts : (at : ℕ) → (length (from at (take (2 + n - 2) (drop 2 s))) ≡ length (from at (take n xs))) × (length (from at (take (2 + n - 2) (drop 2 s))) ≤ nodes)
+  part-puts at =
+      let k = length-from at (take (2 + n - 2) (drop 2 s)) in
+      let x = length-from at (take n xs) in
+      let even : length (take (2 + n - 2) (drop 2 s)) ≡ length (take n xs) = o .valid .even in
+      let whole : length (take (2 + n - 2) (drop 2 s)) ≡ n = ap length (o .holds .kinds) ∙ length-kinds (o .form .tree) ∙ o .form .tree-size in
+      (omega arith, omega (arith, o .form .sized .few))
+
   module _ (p : Part) {m : ℕ} (e : m ≡ partNodes p (take (2 + n - 2) (drop 2 s))) where
     part-found : Found (o .form .tree) (partOf p (o .form .tree)) m
     part-found = rw (e, o .holds .kinds) (finds-part p .finds (o .form .tree) (o .holds .is-type .ruled))

@@ -2,9 +2,10 @@
 use mathlib.Core.Path.{_≡_, refl, sym, ap, _∙_}
 use mathlib.Core.Bool.{Bool, not}
 use mathlib.Core.List.{List}
-use Prim.Native.Nat.{ℕ, _+_, _-_}
+use Prim.Native.Nat.{ℕ, _+_, _-_, _≤_}
 use native.Mathlib.Omega.{arith}
 use lib.ListN.{length, take, drop}
+use lib.Seq.{length-take-le}
 use Rattle.flat.specs.Tree.{DataType, Fields, size}
 use Rattle.flat.specs.Reading.{Reading, refused, type, reading, checkedOf}
 use Rattle.flat.specs.declared.error.Error.{Error}
@@ -15,7 +16,7 @@ use Rattle.encoding.specs.Answer.{fittingBytes, encodedOf, bytesOver, Encodes}
 use Rattle.flat.specs.declared.Written.{Written}
 use Rattle.flat.specs.Output.{writtenOf, Writes}
 use Rattle.encoding.specs.declared.Encoded.{Encoded}
-use Rattle.encoding.proofs.Opening.{written-type, written-refused}
+use Rattle.encoding.proofs.Opening.{Opened, written-type, written-refused}
 use Rattle.encoding.proofs.Answers.{kinds-part, decoding-sized, EncodedForm}
 use Rattle.datatypes.specs.Predicate.{root}
 use Rattle.datatypes.specs.Scan.{anyOf}
@@ -34,6 +35,17 @@ use Rattle.capi.specs.declared.Reply.{Reply}
 -- a refusal's reply is the same of every call
 of-refusal : (value : DataType → ℕ) {e : Error} {a : Reply} {r : Reading} → a ≡ checkReply (refused e) → r ≡ refused e → a ≡ replyOf value r
 of-refusal value h q = h ∙ ap (replyOf value) (sym q)
+
+-- ---- an opened type: bytes as long as their nodes take, and room for the arguments
+pub record Fits (w n : ℕ) (s xs : List ℕ) : Type 0 where
+  pub bytes : length s ≡ encodedSize w n
+  pub room : n ≤ length xs
+
+pub fits-of : {w nodes deep n : ℕ} {s xs : List ℕ} → Opened w nodes deep n s xs → Fits w n s xs
+fits-of o = record { bytes = o .form .sized .size; room = o .room }
+
+pub args-length : {w n : ℕ} {s xs : List ℕ} → Fits w n s xs → length (take n xs) ≡ n
+args-length {n = n} {xs = xs} f = length-take-le n xs (f .room)
 
 -- ---- lz_check
 pub check-valid : (r : Reading) → Checked.Valid ≡ checkedOf r → record { number = 0; value = 0 } ≡ checkReply r

@@ -1,5 +1,4 @@
 // The calls that build an encoded type anew: in two lent arrays first, whence it is encoded.
-ghost use mathlib.Core.Path.{_≡_};
 ghost use mathlib.Core.Bool.{not};
 ghost use Prim.Native.Nat.{_≤_};
 ghost use lib.Dec.{eqb};
@@ -33,11 +32,9 @@ fn put_form(
     new_args: &mut [u64],
     out: &mut [u8],
 ) -> Reply
-    requires { ⌜ Valid (now kinds) (now args) ⌝ }
     requires { do
       nodes ← ⟦Flat::MAX_NODES⟧
-      ⌜ size (typeAt (now kinds) (now args)) ≤ nodes ⌝ }
-    requires { ⌜ Room (size (typeAt (now kinds) (now args))) (now «new_kinds») (now «new_args») ⌝ }
+      ⌜ Valid (now kinds) (now args) × (size (typeAt (now kinds) (now args)) ≤ nodes) × Room (size (typeAt (now kinds) (now args))) (now «new_kinds») (now «new_args») ⌝ }
     ensures { λ r. do
       w ← ⟦Encoding::ARGUMENT_BYTES⟧ .entry
       ⌜ FormReply w (type (mapLeaves (leafOf form) (typeAt (now (kinds .entry)) (now (args .entry))))) (now («new_kinds» .entry)) (now («new_args» .entry)) (now (out .entry)) (now («new_kinds» .exit)) (now («new_args» .exit)) (now (out .exit)) r ⌝ }

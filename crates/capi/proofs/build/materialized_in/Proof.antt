@@ -1,102 +1,39 @@
+-- `capi::build::materialized_in` meets its contract. Assumes nothing.
 use borrow.Author.Needs.{needs}
+use native.Mathlib.Omega.{arith}
+use mathlib.Core.Path.{sym}
+use Rattle.encoding.proofs.Opening.{opened, unopened}
+use Rattle.capi.proofs.Replies.{Fits, fits-of, args-length}
+use Rattle.capi.proofs.Builds.{build-refused, materialized-refused, form-pre, materialized-none, materialized-opened}
 use Rattle.capi.proofs.build.materialized_in.Statement.{statement}
 use Rattle.capi.proofs.build.materialized_in.Tie as tie
-use Rattle.capi.proofs.build.materialized_in.Reads as reads
-use Rattle.capi.proofs.build.materialized_in.Lts as lts
-use Rattle.capi.proofs.build.put_form.Reads as put-form-reads
-use Rattle.capi.proofs.refusal.Reads as refusal-reads
-use Rattle.datatypes_build.proofs.any_refused.Reads as any-refused-reads
-use Rattle.encoding.proofs.open.Reads as open-reads
 
-open-requires : tie.Need-open-requires
-open-requires c κs = search needs
-
-enum-known-n : tie.Need-enum-known-n
-enum-known-n c = search needs
-
-add-kinds : tie.Need-add-kinds
-add-kinds c = ?
-
-sub-kinds : tie.Need-sub-kinds
-sub-kinds c = search needs
-
-part-kinds-start : tie.Need-part-kinds-start
-part-kinds-start c = search needs
-
-part-kinds-end : tie.Need-part-kinds-end
-part-kinds-end c = ?
-
-any-refused-requires : tie.Need-any-refused-requires
-any-refused-requires c κs = search needs
-
-refusal-requires : tie.Need-refusal-requires
-refusal-requires c κs = search needs
-
-same-length : tie.Need-same-length
-same-length c = search needs
+-- the bytes are as long as their nodes take, and there is room for the arguments
+fits : (c : tie.After-known-told) → Fits 8 (c .before .n .given .0 .0) (c .before .before .before .before .before .before .before .before .before .before .before .before .args .encoded .now) (c .before .before .before .before .before .«open» .last .1 .0)
+fits c = fits-of (opened (c .before .before .before .before .before .«open» .ensures) (c .before .n .given .1))
 
 returns : tie.Need-returns
-returns c = ?
-
-slice-reshare-prefix-put-form : tie.Need-slice-reshare-prefix-put-form
-slice-reshare-prefix-put-form c = ?
-
-slice-aggregate-put-form : tie.Need-slice-aggregate-put-form
-slice-aggregate-put-form c = ?
+returns c = let o = opened (c .before .before .before .before .before .before .before .before .before .«open» .ensures) (c .before .before .before .before .before .n .given .1) in build-refused (c .before .before .before .before .before .before .before .before .before .«open» .ensures .args) (materialized-none o _ (c .before .before .any-refused .ensures) (c .before .if1 .taken)) (c .refusal .ensures)
 
 put-form-requires : tie.Need-put-form-requires
-put-form-requires c κs = ?
-
-enum-known-e : tie.Need-enum-known-e
-enum-known-e c = search needs
-
-refusal-requires-2 : tie.Need-refusal-requires-2
-refusal-requires-2 c κs = search needs
-
-same-length-2 : tie.Need-same-length-2
-same-length-2 c = search needs
-
-same-length-3 : tie.Need-same-length-3
-same-length-3 c = search needs
-
-same-length-4 : tie.Need-same-length-4
-same-length-4 c = search needs
-
-same-length-5 : tie.Need-same-length-5
-same-length-5 c = search needs
+put-form-requires c κs = let o = opened (c .before .before .before .before .before .before .before .before .before .before .before .before .«open» .ensures) (c .before .before .before .before .before .before .before .before .n .given .1) in form-pre o (c .before .before .before .before .before .before .before .before .before .before .before .before .before .before .before .before .before .before .before .pre)
 
 returns-2 : tie.Need-returns-2
-returns-2 c = ?
-
-same-length-6 : tie.Need-same-length-6
-same-length-6 c = search needs
+returns-2 c = let o = opened (c .before .before .before .before .before .before .before .before .before .before .before .before .before .before .before .before .before .before .before .«open» .ensures) (c .before .before .before .before .before .before .before .before .before .before .before .before .before .before .before .n .given .1) in record { forms = rw (materialized-opened o _ (c .before .before .before .before .before .before .before .before .before .before .before .before .any-refused .ensures) (c .before .before .before .before .before .before .before .before .before .before .before .if1 .left)) (c .before .before .before .before .before .before .put-form .ensures); args = c .before .before .before .before .before .before .before .before .before .before .before .before .before .before .before .before .before .before .before .«open» .ensures .args }
 
 returns-3 : tie.Need-returns-3
-returns-3 c = ?
+returns-3 c = build-refused (c .before .before .before .before .before .before .«open» .ensures .args) (materialized-refused _ (unopened (c .before .before .before .before .before .before .«open» .ensures) (c .before .before .e .given .1))) (c .refusal2 .ensures)
 
 pub materialized-in-spec : {M : Type 1} → statement M
 materialized-in-spec =
     tie.close
     (tie.spec
-    open-requires
-    enum-known-n
-    add-kinds
-    sub-kinds
-    part-kinds-start
-    part-kinds-end
-    any-refused-requires
-    refusal-requires
-    same-length
+    (λ c κs. search needs) (λ c. search needs) (λ c. omega (arith, fits c)) (λ c. search needs) (λ c. search needs) (λ c. omega (arith, fits c)) (λ c κs. search needs)
+    (λ c κs. search needs) (λ c. search needs)
     returns
-    slice-reshare-prefix-put-form
-    slice-aggregate-put-form
+    (λ c. fits (c .before .before .before) .room) (λ c. sym (args-length (fits (c .before .before .before .before))))
     put-form-requires
-    enum-known-e
-    refusal-requires-2
-    same-length-2
-    same-length-3
-    same-length-4
-    same-length-5
+    (λ c. search needs) (λ c κs. search needs) (λ c. search needs) (λ c. search needs) (λ c. search needs) (λ c. search needs)
     returns-2
-    same-length-6
+    (λ c. search needs)
     returns-3)

@@ -1,85 +1,34 @@
+-- `capi::build::physical_in` meets its contract. Assumes nothing.
 use borrow.Author.Needs.{needs}
+use native.Mathlib.Omega.{arith}
+use mathlib.Core.Path.{sym}
+use Rattle.encoding.proofs.Opening.{opened, unopened}
+use Rattle.capi.proofs.Replies.{Fits, fits-of, args-length}
+use Rattle.capi.proofs.Builds.{build-refused, physical-refused, form-pre, physical-opened}
 use Rattle.capi.proofs.build.physical_in.Statement.{statement}
 use Rattle.capi.proofs.build.physical_in.Tie as tie
-use Rattle.capi.proofs.build.physical_in.Reads as reads
-use Rattle.capi.proofs.build.physical_in.Lts as lts
-use Rattle.capi.proofs.build.put_form.Reads as put-form-reads
-use Rattle.capi.proofs.refusal.Reads as refusal-reads
-use Rattle.encoding.proofs.open.Reads as open-reads
 
-open-requires : tie.Need-open-requires
-open-requires c κs = search needs
-
-enum-known-n : tie.Need-enum-known-n
-enum-known-n c = search needs
-
-add-put-form : tie.Need-add-put-form
-add-put-form c = ?
-
-sub-put-form : tie.Need-sub-put-form
-sub-put-form c = search needs
-
-part-put-form-start : tie.Need-part-put-form-start
-part-put-form-start c = search needs
-
-part-put-form-end : tie.Need-part-put-form-end
-part-put-form-end c = ?
-
-slice-reshare-prefix-put-form : tie.Need-slice-reshare-prefix-put-form
-slice-reshare-prefix-put-form c = ?
-
-slice-aggregate-put-form : tie.Need-slice-aggregate-put-form
-slice-aggregate-put-form c = ?
+-- the bytes are as long as their nodes take, and there is room for the arguments
+fits : (c : tie.After-known-told) → Fits 8 (c .before .n .given .0 .0) (c .before .before .before .before .before .before .before .before .before .before .before .before .args .encoded .now) (c .before .before .before .before .before .«open» .last .1 .0)
+fits c = fits-of (opened (c .before .before .before .before .before .«open» .ensures) (c .before .n .given .1))
 
 put-form-requires : tie.Need-put-form-requires
-put-form-requires c κs = ?
-
-enum-known-e : tie.Need-enum-known-e
-enum-known-e c = search needs
-
-refusal-requires : tie.Need-refusal-requires
-refusal-requires c κs = search needs
-
-same-length : tie.Need-same-length
-same-length c = search needs
-
-same-length-2 : tie.Need-same-length-2
-same-length-2 c = search needs
-
-same-length-3 : tie.Need-same-length-3
-same-length-3 c = search needs
-
-same-length-4 : tie.Need-same-length-4
-same-length-4 c = search needs
+put-form-requires c κs = let o = opened (c .before .before .before .before .before .before .before .before .before .before .«open» .ensures) (c .before .before .before .before .before .before .n .given .1) in form-pre o (c .before .before .before .before .before .before .before .before .before .before .before .before .before .before .before .before .before .pre)
 
 returns : tie.Need-returns
-returns c = ?
-
-same-length-5 : tie.Need-same-length-5
-same-length-5 c = search needs
+returns c = let o = opened (c .before .before .before .before .before .before .before .before .before .before .before .before .before .before .before .before .before .«open» .ensures) (c .before .before .before .before .before .before .before .before .before .before .before .before .before .n .given .1) in record { forms = rw (physical-opened o) (c .before .before .before .before .before .before .put-form .ensures); args = c .before .before .before .before .before .before .before .before .before .before .before .before .before .before .before .before .before .«open» .ensures .args }
 
 returns-2 : tie.Need-returns-2
-returns-2 c = ?
+returns-2 c = build-refused (c .before .before .before .before .before .before .«open» .ensures .args) (physical-refused (unopened (c .before .before .before .before .before .before .«open» .ensures) (c .before .before .e .given .1))) (c .refusal .ensures)
 
 pub physical-in-spec : {M : Type 1} → statement M
 physical-in-spec =
     tie.close
     (tie.spec
-    open-requires
-    enum-known-n
-    add-put-form
-    sub-put-form
-    part-put-form-start
-    part-put-form-end
-    slice-reshare-prefix-put-form
-    slice-aggregate-put-form
+    (λ c κs. search needs) (λ c. search needs) (λ c. omega (arith, fits c)) (λ c. search needs) (λ c. search needs) (λ c. omega (arith, fits c)) (λ c. fits (c .before) .room)
+    (λ c. sym (args-length (fits (c .before .before))))
     put-form-requires
-    enum-known-e
-    refusal-requires
-    same-length
-    same-length-2
-    same-length-3
-    same-length-4
+    (λ c. search needs) (λ c κs. search needs) (λ c. search needs) (λ c. search needs) (λ c. search needs) (λ c. search needs)
     returns
-    same-length-5
+    (λ c. search needs)
     returns-2)

@@ -2,20 +2,20 @@
 use borrow.Author.Needs.{needs}
 use native.Mathlib.Omega.{arith}
 use mathlib.Core.Path.{refl, sym}
-use lib.Seq.{length-take-le}
+use Rattle.capi.proofs.Replies.{Fits, fits-of, args-length}
 use Rattle.datatypes.specs.Recursive.{containsDtypeRecursive}
 use Rattle.datatypes.specs.Answer.{answersOf}
 use Rattle.capi.specs.Reply.{answerReply}
-use Rattle.capi.proofs.Pairs.{Fits, left-opened, right-opened, contains-reply, pair-refused}
+use Rattle.capi.proofs.Pairs.{left-opened, right-opened, contains-reply, pair-refused}
 use Rattle.capi.proofs.pair.contains_dtype_recursive_in.Statement.{statement}
 use Rattle.capi.proofs.pair.contains_dtype_recursive_in.Tie as tie
 
 -- both as long as their nodes take, with room for their arguments
-left-fits : (c : tie.After-known-told) → Fits (c .before .n .given .0 .0) (c .before .before .before .before .before .before .before .before .before .before .before .before .before .before .args .left .now) (c .before .before .before .before .before .before .before .open-both .last .1 .1 .0)
-left-fits c = let o = left-opened (c .before .before .before .before .before .before .before .open-both .ensures) (c .before .n .given .1) in record { bytes = o .form .sized .size; room = o .room }
+left-fits : (c : tie.After-known-told) → Fits 8 (c .before .n .given .0 .0) (c .before .before .before .before .before .before .before .before .before .before .before .before .before .before .args .left .now) (c .before .before .before .before .before .before .before .open-both .last .1 .1 .0)
+left-fits c = fits-of (left-opened (c .before .before .before .before .before .before .before .open-both .ensures) (c .before .n .given .1))
 
-right-fits : (c : tie.After-known-told) → Fits (c .before .n .given .0 .1 .0) (c .before .before .before .before .before .before .before .before .before .before .before .before .before .before .args .right .now) (c .before .before .before .before .before .before .before .open-both .last .1 .1 .1 .0)
-right-fits c = let o = right-opened (c .before .before .before .before .before .before .before .open-both .ensures) (c .before .n .given .1) in record { bytes = o .form .sized .size; room = o .room }
+right-fits : (c : tie.After-known-told) → Fits 8 (c .before .n .given .0 .1 .0) (c .before .before .before .before .before .before .before .before .before .before .before .before .before .before .args .right .now) (c .before .before .before .before .before .before .before .open-both .last .1 .1 .1 .0)
+right-fits c = fits-of (right-opened (c .before .before .before .before .before .before .before .open-both .ensures) (c .before .n .given .1))
 
 occurs-requires : tie.Need-occurs-requires
 occurs-requires c κs = let o = c .before .before .before .before .before .before .before .before .before .before .before .open-both .ensures in let q = c .before .before .before .before .before .n .given .1 in (left-opened o q .valid .even, right-opened o q .valid .even)
@@ -31,9 +31,9 @@ contains-dtype-recursive-in-spec =
     tie.close
     (tie.spec
     (λ c κs. search needs) (λ c. search needs) (λ c. omega (arith, left-fits c)) (λ c. search needs) (λ c. search needs) (λ c. omega (arith, left-fits c))
-    (λ c. left-fits (c .before) .room) (λ c. sym (length-take-le _ _ (left-fits (c .before .before) .room))) (λ c. omega (arith, right-fits (c .before .before))) (λ c. search needs)
+    (λ c. left-fits (c .before) .room) (λ c. sym (args-length (left-fits (c .before .before)))) (λ c. omega (arith, right-fits (c .before .before))) (λ c. search needs)
     (λ c. search needs) (λ c. omega (arith, right-fits (c .before .before))) (λ c. right-fits (c .before .before .before) .room)
-    (λ c. sym (length-take-le _ _ (right-fits (c .before .before .before .before) .room)))
+    (λ c. sym (args-length (right-fits (c .before .before .before .before))))
     occurs-requires
     (λ c κs. search needs) (λ c. search needs) (λ c κs. search needs) (λ c. search needs) (λ c. search needs)
     returns

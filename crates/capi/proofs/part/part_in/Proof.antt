@@ -1,127 +1,42 @@
+-- `capi::part::part_in` meets its contract. Assumes nothing.
 use borrow.Author.Needs.{needs}
+use native.Mathlib.Omega.{arith}
+use mathlib.Core.Path.{refl, sym, ap, _∙_}
+use Rattle.encoding.proofs.Opening.{opened, unopened}
+use Rattle.capi.proofs.Replies.{Fits, fits-of, args-length, encode-refused}
+use Rattle.capi.proofs.Parts.{part-within, part-puts, part-none, part-some}
 use Rattle.capi.proofs.part.part_in.Statement.{statement}
 use Rattle.capi.proofs.part.part_in.Tie as tie
-use Rattle.capi.proofs.part.part_in.Reads as reads
-use Rattle.capi.proofs.part.part_in.Lts as lts
-use Rattle.capi.proofs.bytes.Reads as bytes-reads
-use Rattle.capi.proofs.part.part_nodes.Reads as part-nodes-reads
-use Rattle.capi.proofs.refusal.Reads as refusal-reads
-use Rattle.encoding.proofs.open.Reads as open-reads
-use Rattle.encoding.proofs.put.Reads as put-reads
 
-open-requires : tie.Need-open-requires
-open-requires c κs = search needs
-
-enum-known-n : tie.Need-enum-known-n
-enum-known-n c = search needs
-
-add-kinds : tie.Need-add-kinds
-add-kinds c = search needs
-
-sub-kinds : tie.Need-sub-kinds
-sub-kinds c = search needs
-
-part-kinds-start : tie.Need-part-kinds-start
-part-kinds-start c = search needs
-
-part-kinds-end : tie.Need-part-kinds-end
-part-kinds-end c = search needs
-
-slice-reshare-prefix-values : tie.Need-slice-reshare-prefix-values
-slice-reshare-prefix-values c = search needs
-
-slice-aggregate-values : tie.Need-slice-aggregate-values
-slice-aggregate-values c = search needs
-
-part-nodes-requires : tie.Need-part-nodes-requires
-part-nodes-requires c κs = search needs
-
-same-length : tie.Need-same-length
-same-length c = search needs
+-- the bytes are as long as their nodes take, and there is room for the arguments
+fits : (c : tie.After-known-told) → Fits 8 (c .before .n .given .0 .0) (c .before .before .before .before .before .before .before .before .before .before .args .encoded .now) (c .before .before .before .before .before .«open» .last .1 .0)
+fits c = fits-of (opened (c .before .before .before .before .before .«open» .ensures) (c .before .n .given .1))
 
 returns : tie.Need-returns
-returns c = search needs
-
-sub-at : tie.Need-sub-at
-sub-at c = search needs
-
-sub-put : tie.Need-sub-put
-sub-put c = search needs
-
-part-put-start : tie.Need-part-put-start
-part-put-start c = search needs
-
-part-put-end : tie.Need-part-put-end
-part-put-end c = search needs
-
-mul-put : tie.Need-mul-put
-mul-put c = search needs
-
-sub-put-2 : tie.Need-sub-put-2
-sub-put-2 c = search needs
-
-part-put-start-2 : tie.Need-part-put-start-2
-part-put-start-2 c = search needs
-
-part-put-end-2 : tie.Need-part-put-end-2
-part-put-end-2 c = search needs
+returns c = let o = opened (c .before .before .before .before .before .before .before .before .before .«open» .ensures) (c .before .before .before .before .before .n .given .1) in (part-none o (c .before .before .before .before .before .before .before .before .before .before .before .before .before .before .args .part) (c .before .part-nodes .ensures) (c .before .before .before .before .before .before .before .before .before .before .before .before .before .before .args .out .now) (c .if1 .taken), c .before .before .before .before .before .before .before .before .before .«open» .ensures .args)
 
 put-requires : tie.Need-put-requires
-put-requires c κs = search needs
-
-bytes-requires : tie.Need-bytes-requires
-bytes-requires c κs = search needs
-
-enum-known-e : tie.Need-enum-known-e
-enum-known-e c = search needs
-
-refusal-requires : tie.Need-refusal-requires
-refusal-requires c κs = search needs
-
-same-length-2 : tie.Need-same-length-2
-same-length-2 c = search needs
-
-same-length-3 : tie.Need-same-length-3
-same-length-3 c = search needs
+put-requires c κs = let o = opened (c .before .before .before .before .before .before .before .before .before .before .before .before .«open» .ensures) (c .before .before .before .before .before .before .before .before .n .given .1) in part-puts o _
 
 returns-2 : tie.Need-returns-2
-returns-2 c = search needs
-
-same-length-4 : tie.Need-same-length-4
-same-length-4 c = search needs
+returns-2 c = let o = opened (c .before .before .before .before .before .before .before .before .before .before .before .before .before .before .before .before .«open» .ensures) (c .before .before .before .before .before .before .before .before .before .before .before .before .n .given .1) in (part-some o (c .before .before .before .before .before .before .before .before .before .before .before .before .before .before .before .before .before .before .before .before .before .args .part) (c .before .before .before .before .before .before .before .before .part-nodes .ensures) (c .before .before .before .before .before .before .before .if1 .left) refl (c .before .before .before .put .ensures) (c .bytes .ensures), c .before .before .before .before .before .before .before .before .before .before .before .before .before .before .before .before .«open» .ensures .args)
 
 returns-3 : tie.Need-returns-3
-returns-3 c = search needs
+returns-3 c = (rw (unopened (c .before .before .before .before .before .before .«open» .ensures) (c .before .before .e .given .1)) (encode-refused refl (c .refusal .ensures)), c .before .before .before .before .before .before .«open» .ensures .args)
 
 pub part-in-spec : {M : Type 1} → statement M
 part-in-spec =
     tie.close
     (tie.spec
-    open-requires
-    enum-known-n
-    add-kinds
-    sub-kinds
-    part-kinds-start
-    part-kinds-end
-    slice-reshare-prefix-values
-    slice-aggregate-values
-    part-nodes-requires
-    same-length
+    (λ c κs. search needs) (λ c. search needs) (λ c. omega (arith, fits c)) (λ c. search needs) (λ c. search needs) (λ c. omega (arith, fits c)) (λ c. fits (c .before) .room)
+    (λ c. sym (args-length (fits (c .before .before)))) (λ c κs. search needs) (λ c. search needs)
     returns
-    sub-at
-    sub-put
-    part-put-start
-    part-put-end
-    mul-put
-    sub-put-2
-    part-put-start-2
-    part-put-end-2
+    (λ c. let o = opened (c .before .before .before .before .before .before .before .before .before .«open» .ensures) (c .before .before .before .before .before .n .given .1) in part-within o (c .before .before .before .before .before .before .before .before .before .before .before .before .before .before .args .part) (c .before .part-nodes .ensures))
+    (λ c. search needs) (λ c. search needs) (λ c. search needs) (λ c. omega (arith, fits (c .before .before .before .before .before)))
+    (λ c. omega (arith, args-length (fits (c .before .before .before .before .before)))) (λ c. omega (arith, args-length (fits (c .before .before .before .before .before))))
+    (λ c. search needs)
     put-requires
-    bytes-requires
-    enum-known-e
-    refusal-requires
-    same-length-2
-    same-length-3
+    (λ c κs. search needs) (λ c. search needs) (λ c κs. search needs) (λ c. search needs) (λ c. search needs)
     returns-2
-    same-length-4
+    (λ c. search needs)
     returns-3)

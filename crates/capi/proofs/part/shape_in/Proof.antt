@@ -1,73 +1,35 @@
+-- `capi::part::shape_in` meets its contract. Assumes nothing.
 use borrow.Author.Needs.{needs}
+use native.Mathlib.Omega.{arith}
+use mathlib.Core.Path.{sym, ap, _∙_}
+use Rattle.encoding.proofs.Opening.{opened, unopened}
+use Rattle.datatypes_inner.specs.Shape.{shapeOf}
+use Rattle.capi.proofs.Replies.{Fits, fits-of, args-length}
+use Rattle.capi.proofs.Parts.{arrays-few, opened-shape}
 use Rattle.capi.proofs.part.shape_in.Statement.{statement}
 use Rattle.capi.proofs.part.shape_in.Tie as tie
-use Rattle.capi.proofs.part.shape_in.Reads as reads
-use Rattle.capi.proofs.part.shape_in.Lts as lts
-use Rattle.datatypes_inner.proofs.Shape.refused.Reads as refused-reads
-use Rattle.datatypes_inner.proofs.array_shape.Reads as array-shape-reads
-use Rattle.encoding.proofs.open.Reads as open-reads
 
-open-requires : tie.Need-open-requires
-open-requires c κs = search needs
-
-enum-known-n : tie.Need-enum-known-n
-enum-known-n c = search needs
-
-add-array-shape : tie.Need-add-array-shape
-add-array-shape c = ?
-
-sub-array-shape : tie.Need-sub-array-shape
-sub-array-shape c = search needs
-
-part-array-shape-start : tie.Need-part-array-shape-start
-part-array-shape-start c = search needs
-
-part-array-shape-end : tie.Need-part-array-shape-end
-part-array-shape-end c = ?
-
-slice-reshare-prefix-array-shape : tie.Need-slice-reshare-prefix-array-shape
-slice-reshare-prefix-array-shape c = ?
-
-slice-aggregate-array-shape : tie.Need-slice-aggregate-array-shape
-slice-aggregate-array-shape c = ?
+-- the bytes are as long as their nodes take, and there is room for the arguments
+fits : (c : tie.After-known-told) → Fits 8 (c .before .n .given .0 .0) (c .before .before .before .before .before .before .before .before .before .args .encoded .now) (c .before .before .before .before .before .«open» .last .1 .0)
+fits c = fits-of (opened (c .before .before .before .before .before .«open» .ensures) (c .before .n .given .1))
 
 array-shape-requires : tie.Need-array-shape-requires
-array-shape-requires c κs = ?
-
-enum-known-e : tie.Need-enum-known-e
-enum-known-e c = search needs
-
-refused-requires : tie.Need-refused-requires
-refused-requires c κs = search needs
-
-same-length : tie.Need-same-length
-same-length c = search needs
+array-shape-requires c κs = let o = opened (c .before .before .before .before .before .before .before .«open» .ensures) (c .before .before .before .n .given .1) in (o .valid .even, arrays-few o)
 
 returns : tie.Need-returns
-returns c = ?
-
-same-length-2 : tie.Need-same-length-2
-same-length-2 c = search needs
+returns c = let o = opened (c .before .before .before .before .before .before .before .before .«open» .ensures) (c .before .before .before .before .n .given .1) in (c .array-shape .ensures ∙ opened-shape o, c .before .before .before .before .before .before .before .before .«open» .ensures .args)
 
 returns-2 : tie.Need-returns-2
-returns-2 c = ?
+returns-2 c = (c .refused .ensures ∙ ap (shapeOf _) (sym (unopened (c .before .before .before .before .before .before .«open» .ensures) (c .before .before .e .given .1))), c .before .before .before .before .before .before .«open» .ensures .args)
 
 pub shape-in-spec : {M : Type 1} → statement M
 shape-in-spec =
     tie.close
     (tie.spec
-    open-requires
-    enum-known-n
-    add-array-shape
-    sub-array-shape
-    part-array-shape-start
-    part-array-shape-end
-    slice-reshare-prefix-array-shape
-    slice-aggregate-array-shape
+    (λ c κs. search needs) (λ c. search needs) (λ c. omega (arith, fits c)) (λ c. search needs) (λ c. search needs) (λ c. omega (arith, fits c)) (λ c. fits (c .before) .room)
+    (λ c. sym (args-length (fits (c .before .before))))
     array-shape-requires
-    enum-known-e
-    refused-requires
-    same-length
+    (λ c. search needs) (λ c κs. search needs) (λ c. search needs)
     returns
-    same-length-2
+    (λ c. search needs)
     returns-2)
