@@ -7,7 +7,7 @@ use Prim.Native.Nat.{ℕ, _+_, _-_, _≤_}
 use native.Mathlib.Omega.{arith}
 use borrow.Author.Tests.{leb-true}
 use lib.Dec.{leb}
-use lib.ListN.{length, take, drop}
+use lib.ListN.{take, drop}
 use Rattle.flat.specs.Tree.{DataType, size}
 use Rattle.flat.specs.Reading.{Reading, refused, type}
 use Rattle.flat.specs.Walk.{typeAt}
@@ -15,7 +15,7 @@ use Rattle.flat.specs.Output.{writtenOf}
 use Rattle.flat.specs.declared.Written.{Written}
 use Rattle.flat.specs.declared.error.Error.{Error}
 use Rattle.encoding.specs.Encoding.{decoding}
-use Rattle.encoding.specs.Answer.{nodesIn, argsOpened, Opens}
+use Rattle.encoding.specs.Answer.{Opens}
 use Rattle.encoding.proofs.Opening.{Opened, opened, unopened, written-type}
 use Rattle.datatypes.specs.Cast.{canCastTo}
 use Rattle.datatypes.specs.Equality.{equal}

@@ -5,7 +5,7 @@ use mathlib.Core.Option.{Option, none, some}
 use Prim.Native.Nat.{ℕ, _+_, _-_, _≤_}
 use native.Mathlib.Omega.{arith}
 use lib.ListN.{length, take, drop}
-use Rattle.flat.specs.Tree.{DataType, kindsOf, argsOf}
+use Rattle.flat.specs.Tree.{DataType}
 use Rattle.flat.specs.Reading.{type}
 use Rattle.flat.proofs.Sizes.{length-kinds, length-args, size-pos}
 use Rattle.flat.proofs.Positions.{rest}

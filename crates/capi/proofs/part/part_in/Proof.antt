@@ -1,7 +1,7 @@
 -- `capi::part::part_in` meets its contract. Assumes nothing.
 use borrow.Author.Needs.{needs}
 use native.Mathlib.Omega.{arith}
-use mathlib.Core.Path.{refl, sym, ap, _∙_}
+use mathlib.Core.Path.{refl, sym}
 use Rattle.encoding.proofs.Opening.{opened, unopened}
 use Rattle.capi.proofs.Replies.{Fits, fits-of, args-length, encode-refused}
 use Rattle.capi.proofs.Parts.{part-within, part-puts, part-none, part-some}
