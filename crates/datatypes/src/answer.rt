@@ -1,4 +1,9 @@
 // The answers of the calls that say yes or no.
+ghost use mathlib.Core.Path.{_≡_};
+ghost use Rattle.flat.specs.Reading.{reading};
+ghost use Rattle.datatypes.specs.Answer.{yesNo, answerNumber, answerValue, rootOf};
+use flat::Checked;
+use flat::Flat;
 use flat::error::Error;
 
 pub enum Answer {
@@ -7,8 +12,50 @@ pub enum Answer {
     Refused(Error),
 }
 
+impl Answer {
+    // Document 01's number.
+    pub fn number(self) -> u64
+        ensures { λ r. ⌜ r ≡ answerNumber self ⌝ }
+    {
+        match self {
+            Answer::No => 0,
+            Answer::Yes => 0,
+            Answer::Refused(e) => e.number(),
+        }
+    }
+
+    // The value beside the number.
+    pub fn value(self) -> u64
+        ensures { λ r. ⌜ r ≡ answerValue self ⌝ }
+    {
+        match self {
+            Answer::No => 0,
+            Answer::Yes => 1,
+            Answer::Refused(_) => 0,
+        }
+    }
+}
+
+pub fn yes_no(b: bool) -> Answer
+    ensures { λ r. ⌜ r ≡ yesNo b ⌝ }
+{
+    if b { Answer::Yes } else { Answer::No }
+}
+
 // The kind of a type's root.
 pub enum Root {
     Kind(u8),
     Refused(Error),
+}
+
+pub fn root_kind(kinds: &[u8], args: &[u64]) -> Root
+    ensures { λ r. do
+      nodes ← ⟦Flat::MAX_NODES⟧ .entry
+      deep ← ⟦Flat::MAX_DEPTH⟧ .entry
+      ⌜ r ≡ rootOf (reading nodes deep (now (kinds .entry)) (now (args .entry))) ⌝ }
+{
+    match flat::check(kinds, args) {
+        Checked::Valid => Root::Kind(kinds[0]),
+        Checked::Refused(e) => Root::Refused(e),
+    }
 }

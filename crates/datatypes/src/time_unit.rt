@@ -1,4 +1,6 @@
 // Units of time, and their numbers in an argument.
+ghost use mathlib.Core.Path.{_≡_};
+ghost use Rattle.datatypes.specs.TimeUnit.{unitNumber, unitOf};
 use flat::error::Error;
 
 pub enum TimeUnit {
@@ -11,4 +13,27 @@ pub enum TimeUnit {
 pub enum Unit {
     Of(TimeUnit),
     Refused(Error),
+}
+
+impl TimeUnit {
+    pub fn number(self) -> u8
+        ensures { λ r. ⌜ r ≡ unitNumber self ⌝ }
+    {
+        match self {
+            TimeUnit::Nanoseconds => 0,
+            TimeUnit::Microseconds => 1,
+            TimeUnit::Milliseconds => 2,
+        }
+    }
+}
+
+pub fn unit_of(number: u8) -> Unit
+    ensures { λ r. ⌜ r ≡ unitOf number ⌝ }
+{
+    match number {
+        0 => Unit::Of(TimeUnit::Nanoseconds),
+        1 => Unit::Of(TimeUnit::Microseconds),
+        2 => Unit::Of(TimeUnit::Milliseconds),
+        _ => Unit::Refused(Error::Argument),
+    }
 }

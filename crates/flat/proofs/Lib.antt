@@ -4,7 +4,8 @@ pub mod ReadBack
 pub mod Positions
 pub mod Walks
 pub mod Meaning
-mod Rules
+pub mod Outputs
+pub mod Rules
 mod Scans
 mod Spans
 mod Checks

@@ -2,7 +2,7 @@
 pub mod argument;
 pub mod error;
 pub mod kind;
-mod span;
+pub mod span;
 
 ghost use mathlib.Core.Path.{_≡_};
 ghost use mathlib.Core.List.{_∷_, []};

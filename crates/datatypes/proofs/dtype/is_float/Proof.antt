@@ -1,0 +1,22 @@
+-- `datatypes::dtype::is_float` meets its contract. Assumes nothing.
+use borrow.Author.Needs.{needs}
+use mathlib.Core.Path.{sym, _∙_}
+use denote.Ref.{now}
+use Rattle.flat.specs.Reading.{reading}
+use Rattle.datatypes.specs.Predicate.{root, isFloat}
+use Rattle.datatypes.proofs.Answers.{by-root, root-refused}
+use Rattle.datatypes.proofs.dtype.is_float.Statement.{statement}
+use Rattle.datatypes.proofs.dtype.is_float.Tie as tie
+
+returns : tie.Need-returns
+returns c =
+    let s = c .before .before .before .before .before .before .before .before .args in
+    by-root (reading _ _ (now (s .kinds)) (now (s .args))) isFloat (sym (c .before .before .before .k .given .1) ∙ c .before .before .before .before .before .root-kind .ensures) (c .before .is-float .ensures) (c .yes-no .ensures)
+
+returns-2 : tie.Need-returns-2
+returns-2 c =
+    let s = c .before .before .before .before .before .before .args in
+    root-refused (reading _ _ (now (s .kinds)) (now (s .args))) (root isFloat) (sym (c .before .e .given .1) ∙ c .before .before .before .root-kind .ensures)
+
+pub is-float-spec : {M : Type 1} → statement M
+is-float-spec = tie.close (tie.spec (λ c κs. search needs) (λ c. search needs) (λ c κs. search needs) (λ c κs. search needs) (λ c. search needs) returns returns-2)

@@ -1,0 +1,22 @@
+-- `datatypes::dtype::is_unknown` meets its contract. Assumes nothing.
+use borrow.Author.Needs.{needs}
+use mathlib.Core.Path.{sym, _∙_}
+use denote.Ref.{now}
+use Rattle.flat.specs.Reading.{reading}
+use Rattle.datatypes.specs.Predicate.{root, isUnknown}
+use Rattle.datatypes.proofs.Answers.{by-root, root-refused}
+use Rattle.datatypes.proofs.dtype.is_unknown.Statement.{statement}
+use Rattle.datatypes.proofs.dtype.is_unknown.Tie as tie
+
+returns : tie.Need-returns
+returns c =
+    let s = c .before .before .before .before .before .before .before .before .args in
+    by-root (reading _ _ (now (s .kinds)) (now (s .args))) isUnknown (sym (c .before .before .before .k .given .1) ∙ c .before .before .before .before .before .root-kind .ensures) (c .before .is-unknown .ensures) (c .yes-no .ensures)
+
+returns-2 : tie.Need-returns-2
+returns-2 c =
+    let s = c .before .before .before .before .before .before .args in
+    root-refused (reading _ _ (now (s .kinds)) (now (s .args))) (root isUnknown) (sym (c .before .e .given .1) ∙ c .before .before .before .root-kind .ensures)
+
+pub is-unknown-spec : {M : Type 1} → statement M
+is-unknown-spec = tie.close (tie.spec (λ c κs. search needs) (λ c. search needs) (λ c κs. search needs) (λ c κs. search needs) (λ c. search needs) returns returns-2)

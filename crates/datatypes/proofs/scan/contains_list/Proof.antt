@@ -1,0 +1,9 @@
+-- `datatypes::scan::contains_list` meets its contract. Assumes nothing.
+use borrow.Author.Needs.{needs}
+use mathlib.Core.Path.{_∙_}
+use Rattle.datatypes.proofs.Scans.{scan-list}
+use Rattle.datatypes.proofs.scan.contains_list.Statement.{statement}
+use Rattle.datatypes.proofs.scan.contains_list.Tie as tie
+
+pub contains-list-spec : {M : Type 1} → statement M
+contains-list-spec = tie.close (tie.spec (λ c κs. search needs) (λ c. c .any-between .ensures ∙ scan-list _))

@@ -1,0 +1,9 @@
+-- `datatypes::scan::contains_unknown` meets its contract. Assumes nothing.
+use borrow.Author.Needs.{needs}
+use mathlib.Core.Path.{_∙_}
+use Rattle.datatypes.proofs.Scans.{scan-unknown}
+use Rattle.datatypes.proofs.scan.contains_unknown.Statement.{statement}
+use Rattle.datatypes.proofs.scan.contains_unknown.Tie as tie
+
+pub contains-unknown-spec : {M : Type 1} → statement M
+contains-unknown-spec = tie.close (tie.spec (λ c κs. search needs) (λ c. c .any-between .ensures ∙ scan-unknown _))

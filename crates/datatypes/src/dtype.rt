@@ -1,0 +1,187 @@
+// The predicates of a flat type: dtype.rs.
+ghost use mathlib.Core.Path.{_≡_};
+ghost use Rattle.flat.specs.Reading.{reading};
+ghost use Rattle.datatypes.specs.Predicate.{root, isTemporal, isFloat, isSignedInteger, isUnsignedInteger, isInteger, isPrimitiveNumeric, isPrimitive, isNested, isString, isUnknown};
+ghost use Rattle.datatypes.specs.Recursive.{isKnown, isLogical, containsListRecursive, containsUnknown};
+ghost use Rattle.datatypes.specs.Answer.{answerOf};
+use crate::answer::Answer;
+use crate::answer::Root;
+use crate::answer::yes_no;
+use flat::Checked;
+use flat::Flat;
+
+// Whether it is a List, an Array or a Struct.
+pub fn is_nested(kinds: &[u8], args: &[u64]) -> Answer
+    ensures { λ r. do
+      nodes ← ⟦Flat::MAX_NODES⟧ .entry
+      deep ← ⟦Flat::MAX_DEPTH⟧ .entry
+      ⌜ r ≡ answerOf (root isNested) (reading nodes deep (now (kinds .entry)) (now (args .entry))) ⌝ }
+{
+    match crate::answer::root_kind(kinds, args) {
+        Root::Kind(k) => yes_no(crate::kind::is_nested(k)),
+        Root::Refused(e) => Answer::Refused(e),
+    }
+}
+
+// Whether it is neither nested nor logical.
+pub fn is_primitive(kinds: &[u8], args: &[u64]) -> Answer
+    ensures { λ r. do
+      nodes ← ⟦Flat::MAX_NODES⟧ .entry
+      deep ← ⟦Flat::MAX_DEPTH⟧ .entry
+      ⌜ r ≡ answerOf (root isPrimitive) (reading nodes deep (now (kinds .entry)) (now (args .entry))) ⌝ }
+{
+    match crate::answer::root_kind(kinds, args) {
+        Root::Kind(k) => yes_no(crate::kind::is_primitive(k)),
+        Root::Refused(e) => Answer::Refused(e),
+    }
+}
+
+// Whether it is a float or an integer; a Decimal is neither.
+pub fn is_primitive_numeric(kinds: &[u8], args: &[u64]) -> Answer
+    ensures { λ r. do
+      nodes ← ⟦Flat::MAX_NODES⟧ .entry
+      deep ← ⟦Flat::MAX_DEPTH⟧ .entry
+      ⌜ r ≡ answerOf (root isPrimitiveNumeric) (reading nodes deep (now (kinds .entry)) (now (args .entry))) ⌝ }
+{
+    match crate::answer::root_kind(kinds, args) {
+        Root::Kind(k) => yes_no(crate::kind::is_primitive_numeric(k)),
+        Root::Refused(e) => Answer::Refused(e),
+    }
+}
+
+pub fn is_temporal(kinds: &[u8], args: &[u64]) -> Answer
+    ensures { λ r. do
+      nodes ← ⟦Flat::MAX_NODES⟧ .entry
+      deep ← ⟦Flat::MAX_DEPTH⟧ .entry
+      ⌜ r ≡ answerOf (root isTemporal) (reading nodes deep (now (kinds .entry)) (now (args .entry))) ⌝ }
+{
+    match crate::answer::root_kind(kinds, args) {
+        Root::Kind(k) => yes_no(crate::kind::is_temporal(k)),
+        Root::Refused(e) => Answer::Refused(e),
+    }
+}
+
+// `Unknown(Float)` is one.
+pub fn is_float(kinds: &[u8], args: &[u64]) -> Answer
+    ensures { λ r. do
+      nodes ← ⟦Flat::MAX_NODES⟧ .entry
+      deep ← ⟦Flat::MAX_DEPTH⟧ .entry
+      ⌜ r ≡ answerOf (root isFloat) (reading nodes deep (now (kinds .entry)) (now (args .entry))) ⌝ }
+{
+    match crate::answer::root_kind(kinds, args) {
+        Root::Kind(k) => yes_no(crate::kind::is_float(k)),
+        Root::Refused(e) => Answer::Refused(e),
+    }
+}
+
+// `Unknown(Int(_))` is one.
+pub fn is_integer(kinds: &[u8], args: &[u64]) -> Answer
+    ensures { λ r. do
+      nodes ← ⟦Flat::MAX_NODES⟧ .entry
+      deep ← ⟦Flat::MAX_DEPTH⟧ .entry
+      ⌜ r ≡ answerOf (root isInteger) (reading nodes deep (now (kinds .entry)) (now (args .entry))) ⌝ }
+{
+    match crate::answer::root_kind(kinds, args) {
+        Root::Kind(k) => yes_no(crate::kind::is_integer(k)),
+        Root::Refused(e) => Answer::Refused(e),
+    }
+}
+
+pub fn is_signed_integer(kinds: &[u8], args: &[u64]) -> Answer
+    ensures { λ r. do
+      nodes ← ⟦Flat::MAX_NODES⟧ .entry
+      deep ← ⟦Flat::MAX_DEPTH⟧ .entry
+      ⌜ r ≡ answerOf (root isSignedInteger) (reading nodes deep (now (kinds .entry)) (now (args .entry))) ⌝ }
+{
+    match crate::answer::root_kind(kinds, args) {
+        Root::Kind(k) => yes_no(crate::kind::is_signed_integer(k)),
+        Root::Refused(e) => Answer::Refused(e),
+    }
+}
+
+pub fn is_unsigned_integer(kinds: &[u8], args: &[u64]) -> Answer
+    ensures { λ r. do
+      nodes ← ⟦Flat::MAX_NODES⟧ .entry
+      deep ← ⟦Flat::MAX_DEPTH⟧ .entry
+      ⌜ r ≡ answerOf (root isUnsignedInteger) (reading nodes deep (now (kinds .entry)) (now (args .entry))) ⌝ }
+{
+    match crate::answer::root_kind(kinds, args) {
+        Root::Kind(k) => yes_no(crate::kind::is_unsigned_integer(k)),
+        Root::Refused(e) => Answer::Refused(e),
+    }
+}
+
+// `Unknown(Str)` is one.
+pub fn is_string(kinds: &[u8], args: &[u64]) -> Answer
+    ensures { λ r. do
+      nodes ← ⟦Flat::MAX_NODES⟧ .entry
+      deep ← ⟦Flat::MAX_DEPTH⟧ .entry
+      ⌜ r ≡ answerOf (root isString) (reading nodes deep (now (kinds .entry)) (now (args .entry))) ⌝ }
+{
+    match crate::answer::root_kind(kinds, args) {
+        Root::Kind(k) => yes_no(crate::kind::is_string(k)),
+        Root::Refused(e) => Answer::Refused(e),
+    }
+}
+
+pub fn is_unknown(kinds: &[u8], args: &[u64]) -> Answer
+    ensures { λ r. do
+      nodes ← ⟦Flat::MAX_NODES⟧ .entry
+      deep ← ⟦Flat::MAX_DEPTH⟧ .entry
+      ⌜ r ≡ answerOf (root isUnknown) (reading nodes deep (now (kinds .entry)) (now (args .entry))) ⌝ }
+{
+    match crate::answer::root_kind(kinds, args) {
+        Root::Kind(k) => yes_no(crate::kind::is_unknown(k)),
+        Root::Refused(e) => Answer::Refused(e),
+    }
+}
+
+// Whether no type in it is unknown.
+pub fn is_known(kinds: &[u8], args: &[u64]) -> Answer
+    ensures { λ r. do
+      nodes ← ⟦Flat::MAX_NODES⟧ .entry
+      deep ← ⟦Flat::MAX_DEPTH⟧ .entry
+      ⌜ r ≡ answerOf isKnown (reading nodes deep (now (kinds .entry)) (now (args .entry))) ⌝ }
+{
+    match flat::check(kinds, args) {
+        Checked::Valid => yes_no(!crate::scan::contains_unknown(kinds)),
+        Checked::Refused(e) => Answer::Refused(e),
+    }
+}
+
+pub fn contains_unknown(kinds: &[u8], args: &[u64]) -> Answer
+    ensures { λ r. do
+      nodes ← ⟦Flat::MAX_NODES⟧ .entry
+      deep ← ⟦Flat::MAX_DEPTH⟧ .entry
+      ⌜ r ≡ answerOf containsUnknown (reading nodes deep (now (kinds .entry)) (now (args .entry))) ⌝ }
+{
+    match flat::check(kinds, args) {
+        Checked::Valid => yes_no(crate::scan::contains_unknown(kinds)),
+        Checked::Refused(e) => Answer::Refused(e),
+    }
+}
+
+pub fn contains_list_recursive(kinds: &[u8], args: &[u64]) -> Answer
+    ensures { λ r. do
+      nodes ← ⟦Flat::MAX_NODES⟧ .entry
+      deep ← ⟦Flat::MAX_DEPTH⟧ .entry
+      ⌜ r ≡ answerOf containsListRecursive (reading nodes deep (now (kinds .entry)) (now (args .entry))) ⌝ }
+{
+    match flat::check(kinds, args) {
+        Checked::Valid => yes_no(crate::scan::contains_list(kinds)),
+        Checked::Refused(e) => Answer::Refused(e),
+    }
+}
+
+// Whether it differs from its physical form.
+pub fn is_logical(kinds: &[u8], args: &[u64]) -> Answer
+    ensures { λ r. do
+      nodes ← ⟦Flat::MAX_NODES⟧ .entry
+      deep ← ⟦Flat::MAX_DEPTH⟧ .entry
+      ⌜ r ≡ answerOf isLogical (reading nodes deep (now (kinds .entry)) (now (args .entry))) ⌝ }
+{
+    match flat::check(kinds, args) {
+        Checked::Valid => yes_no(crate::scan::is_logical(kinds)),
+        Checked::Refused(e) => Answer::Refused(e),
+    }
+}

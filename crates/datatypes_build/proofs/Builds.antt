@@ -1,0 +1,196 @@
+-- The cases of the walk that builds a type: a node stored, and what stands under it written after it. Assumes nothing.
+use mathlib.Core.Path.{_≡_, refl, sym, ap, ap₂, subst, _∙_}
+use mathlib.Core.List.{List, [], _∷_, _++_, append-nil, append-assoc}
+use Prim.Native.Nat.{ℕ, suc, _+_, _-_, _≤_, _<_}
+use native.Mathlib.Omega.{arith}
+use native.Mathlib.Nat.{zero-add, add-zero}
+use native.Mathlib.Numerals.{add-one}
+use lib.ListN.{length, getD, take, drop, set, length-append, length-drop, length-set, take-append-drop, drop-of-length-le}
+use lib.Seq.{length-take-le, take-all, take-at, drop-at, drop-drop, drop-length, drop-set-lt, take-suc-set, getD-drop}
+use borrow.Rule.Slice.PartMut.{putMid, same-len-mid}
+use Rattle.flat.specs.Kind
+use Rattle.flat.specs.Tree.{DataType, leaf, struct, Fields, empty, field, size, sizes, count, kindsOf, kindsOfs, argsOf, argsOfs, headKind}
+use Rattle.flat.specs.Walk.{Valid, ValidRun, typeAt, runAt}
+use Rattle.flat.specs.Output.{over}
+use Rattle.flat.proofs.Sizes.{length-kinds, length-kindss, length-args, length-argss}
+use Rattle.flat.proofs.Positions.{rest}
+use Rattle.flat.proofs.Walks.{from, length-from, Unary, is-list, is-array, type-leaf, type-one, one-nodes, type-struct, struct-nodes, struct-count, run-end, run-field, field-nodes, field-valid, others-valid}
+use Rattle.datatypes_build.specs.Leaf.{leafOf, mapLeaves, mapFields, keptArg, Room, Built, BuiltType, BuiltFields}
+use Rattle.datatypes_build.specs.declared.leaf.Form.{Form}
+use Rattle.datatypes_build.proofs.Leaves.{leaf-is}
+use Rattle.datatypes_build.proofs.Forms.{size-map, sizes-map, count-map}
+
+-- the answer is the type's own number of nodes
+pub built-size : (form : Form) (t : DataType) {K A K′ A′ : List ℕ} {r : ℕ} → BuiltType (mapLeaves (leafOf form) t) K A K′ A′ r → r ≡ size t
+built-size form t w = w .nodes ∙ length-kinds (mapLeaves (leafOf form) t) ∙ size-map form t
+
+pub built-sizes : (form : Form) (fs : Fields) {K A K′ A′ : List ℕ} {r : ℕ} → BuiltFields (mapFields (leafOf form) fs) K A K′ A′ r → r ≡ sizes fs
+built-sizes form fs w = w .nodes ∙ length-kindss (mapFields (leafOf form) fs) ∙ sizes-map form fs
+
+-- ---- of lists alone
+
+-- a slice whose part after the first j elements is back, with L in it
+abbrev pub back : ℕ → List ℕ → List ℕ → List ℕ
+back j out L = putMid j (length out - j) out L
+
+-- out, once P is written from the place `at` on
+abbrev pub toBe : ℕ → List ℕ → List ℕ → List ℕ
+toBe at P out = take at out ++ over P (drop at out)
+
+-- y stored at a place, and P written into the part after it
+module _ (out : List ℕ) (at y : ℕ) (P L : List ℕ) (h : at < length out) (e : L ≡ over P (from (at + 1) (set out at y))) where
+  front : take (at + 1) (set out at y) ≡ take at out ++ (y ∷ [])
+  front = ap (λ (i : ℕ). take i (set out at y)) (add-one at) ∙ take-suc-set out at y h
+
+  part : L ≡ P ++ drop (at + 1 + length P) out
+  part = e ∙ ap (over P) (rest (set out at y) (at + 1) ∙ drop-set-lt (at + 1) out at y (omega arith)) ∙ ap (λ (l : List ℕ). P ++ l) (drop-drop (length P) (at + 1) out)
+
+  written : back (at + 1) (set out at y) L ≡ ((take at out ++ (y ∷ [])) ++ P) ++ drop (at + 1 + length P) out
+  written =
+      ap (λ (l : List ℕ). take (at + 1) (set out at y) ++ (L ++ l)) (drop-of-length-le (drop (at + 1) (set out at y)) {i = length (set out at y) - (at + 1)} (simp length-drop (omega arith)))
+      ∙ rw (append-nil, front) (ap (λ (l : List ℕ). (take at out ++ (y ∷ [])) ++ l) part ∙ sym (append-assoc (take at out ++ (y ∷ [])) P (drop (at + 1 + length P) out)))
+
+  -- then Q comes next
+  pub next : (Q : List ℕ) (n : ℕ) → n ≡ length P → toBe (at + 1 + n) Q (back (at + 1) (set out at y) L) ≡ toBe at (y ∷ (P ++ Q)) out
+  next Q n i =
+      let F : List ℕ = (take at out ++ (y ∷ [])) ++ P in
+      let D : List ℕ = drop (at + 1 + length P) out in
+      let l : length F ≡ at + 1 + n = rw (length-append, length-append) (omega (arith, length-take-le at out (omega arith))) in
+      let r : drop (length Q) D ≡ drop (suc (length (P ++ Q))) (drop at out) =
+      drop-drop (length Q) (at + 1 + length P) out ∙ ap (λ (i : ℕ). drop i out) (let z : at + 1 + length P + length Q ≡ at + suc (length (P ++ Q)) = omega (arith, length-append P Q) in z) ∙ sym (drop-drop (suc (length (P ++ Q))) at out) in
+      ap (toBe (at + 1 + n) Q) written
+      ∙ ap₂ _++_ (take-at F D (at + 1 + n) l) (ap (over Q) (drop-at F D (at + 1 + n) l))
+      ∙ rw (r, append-assoc (take at out ++ (y ∷ [])) P, append-assoc (take at out) (y ∷ []), append-assoc P Q)
+
+-- ---- the node walk
+
+-- how long a part is, once the first element was stored
+part-set : (out : List ℕ) (at y j : ℕ) → length (from j (set out at y)) ≡ length out - j
+part-set out at y j = length-from j (set out at y) ∙ simp length-set
+
+over-one : (out : List ℕ) → 0 < length out → (y : ℕ) → set out 0 y ≡ over (y ∷ []) out
+over-one [] h y = absurd (omega arith)
+over-one (o ∷ os) h y = refl
+
+-- y at the front, and P written after it
+over-front : (y : ℕ) (P out : List ℕ) → 0 < length out → (L : List ℕ) → L ≡ over P (from 1 (set out 0 y)) → back 1 (set out 0 y) L ≡ over (y ∷ P) out
+over-front y P out h L e = sym (take-append-drop (1 + length P) (back 1 (set out 0 y) L)) ∙ next out 0 y P L h e [] (length P) refl ∙ ap (λ (l : List ℕ). over (y ∷ l) out) (append-nil P)
+
+-- y and z stored, and a child's kinds P and arguments Q written after them
+after-node : (y z : ℕ) (P Q K A L M : List ℕ) (n : ℕ) → 0 < length K → 0 < length A → Built P Q (from 1 (set K 0 y)) (from 1 (set A 0 z)) L M n → Built (y ∷ P) (z ∷ Q) K A (back 1 (set K 0 y) L) (back 1 (set A 0 z) M) (n + 1)
+after-node y z P Q K A L M n h g w =
+    record { nodes = add-one n ∙ ap suc (w .nodes); kinds = over-front y P K h L (w .kinds); args = over-front z Q A g M (w .args) }
+
+unary-map : (rule : ℕ → ℕ → DataType) {k a : ℕ} {f : DataType → DataType} → Unary k a f → (t : DataType) → (kindsOf (mapLeaves rule (f t)) ≡ k ∷ kindsOf (mapLeaves rule t)) × (argsOf (mapLeaves rule (f t)) ≡ a ∷ argsOf (mapLeaves rule t))
+unfolding kindsOf argsOf mapLeaves
+unary-map rule is-list t = (refl, refl)
+unary-map rule is-array t = (refl, refl)
+
+module _ (form : Form) {ks xs : List ℕ} (v : Valid ks xs) {K A : List ℕ} (o : Room (size (typeAt ks xs)) K A) where
+  pub leaf-built : getD ks 0 0 < Kind.List → (y z : ℕ) → y ≡ headKind (leafOf form (getD ks 0 0) (getD xs 0 0)) → z ≡ keptArg (getD ks 0 0) y (getD xs 0 0) → BuiltType (mapLeaves (leafOf form) (typeAt ks xs)) K A (set K 0 y) (set A 0 z) 1
+  unfolding kindsOf argsOf mapLeaves
+  leaf-built l y z p q =
+      let e : leafOf form (getD ks 0 0) (getD xs 0 0) ≡ leaf y z = leaf-is (getD ks 0 0) (getD xs 0 0) form ∙ rw (← p, ← q) in
+      rw (type-leaf ks xs v l, e) record { nodes = refl; kinds = over-one K (omega arith) y; args = over-one A (omega arith) z }
+
+  module _ (l : Kind.List ≤ getD ks 0 0) (s : getD ks 0 0 ≡ Kind.Struct → ⊥) where
+    pub one-room : Room (size (typeAt (from 1 ks) (from 1 xs))) (from 1 (set K 0 (getD ks 0 0))) (from 1 (set A 0 (getD xs 0 0)))
+    one-room = let n = one-nodes ks xs v l s in record { kinds = omega (arith, part-set K 0 (getD ks 0 0) 1); args = omega (arith, part-set A 0 (getD xs 0 0) 1) }
+
+    pub one-built : (L M : List ℕ) (n : ℕ) → BuiltType (mapLeaves (leafOf form) (typeAt (from 1 ks) (from 1 xs))) (from 1 (set K 0 (getD ks 0 0))) (from 1 (set A 0 (getD xs 0 0))) L M n → BuiltType (mapLeaves (leafOf form) (typeAt ks xs)) K A (back 1 (set K 0 (getD ks 0 0)) L) (back 1 (set A 0 (getD xs 0 0)) M) (n + 1)
+    one-built L M n w =
+        let f = type-one ks xs v l s in
+        let u = unary-map (leafOf form) (f .1) (typeAt (from 1 ks) (from 1 xs)) in
+        rw (f .2, u .0, u .1) (after-node _ _ _ _ K A L M n (omega arith) (omega arith) w)
+
+  module _ (s : getD ks 0 0 ≡ Kind.Struct) where
+    pub struct-room : Room (sizes (runAt (getD xs 0 0) (from 1 ks) (from 1 xs))) (from 1 (set K 0 (getD ks 0 0))) (from 1 (set A 0 (getD xs 0 0)))
+    struct-room = let n = struct-nodes ks xs v s in record { kinds = omega (arith, part-set K 0 (getD ks 0 0) 1); args = omega (arith, part-set A 0 (getD xs 0 0) 1) }
+
+    pub struct-built : (L M : List ℕ) (n : ℕ) → BuiltFields (mapFields (leafOf form) (runAt (getD xs 0 0) (from 1 ks) (from 1 xs))) (from 1 (set K 0 (getD ks 0 0))) (from 1 (set A 0 (getD xs 0 0))) L M n → BuiltType (mapLeaves (leafOf form) (typeAt ks xs)) K A (back 1 (set K 0 (getD ks 0 0)) L) (back 1 (set A 0 (getD xs 0 0)) M) (n + 1)
+    unfolding kindsOf argsOf mapLeaves
+    struct-built L M n w =
+        let c : count (mapFields (leafOf form) (runAt (getD xs 0 0) (from 1 ks) (from 1 xs))) ≡ getD xs 0 0 = count-map (leafOf form) _ ∙ struct-count ks xs v s in
+        rw (type-struct ks xs v s, c, ← s) (after-node _ _ _ _ K A L M n (omega arith) (omega arith) w)
+
+-- ---- the field walk
+
+-- parts of parts
+from-from : (i j k : ℕ) (l : List ℕ) → k ≡ j + i → from i (from j l) ≡ from k l
+from-from i j k l e = rest (from j l) i ∙ ap (drop i) (rest l j) ∙ drop-drop i j l ∙ ap (λ (n : ℕ). drop n l) (sym e) ∙ sym (rest l k)
+
+from-first : (j : ℕ) (l : List ℕ) → getD (from j l) 0 0 ≡ getD l j 0
+from-first j l = ap (λ (d : List ℕ). getD d 0 0) (rest l j) ∙ getD-drop j l 0 0 ∙ ap (λ (i : ℕ). getD l i 0) (add-zero j)
+
+from-zero : (l : List ℕ) → from 0 l ≡ l
+from-zero l = rest l 0
+
+-- Of the m fields at the front, `left` are left, from the place `at` on: what the two arrays held at first will be, is what they hold with those written
+-- from there on.
+pub record Along (form : Form) (m : ℕ) (ks xs K₀ A₀ : List ℕ) (at left : ℕ) (K A : List ℕ) : Type 0 where
+  pub others : ValidRun left (from at ks) (from at xs)
+  pub nodes : sizes (runAt m ks xs) ≡ at + sizes (runAt left (from at ks) (from at xs))
+  pub kinds : over (kindsOfs (mapFields (leafOf form) (runAt m ks xs))) K₀ ≡ toBe at (kindsOfs (mapFields (leafOf form) (runAt left (from at ks) (from at xs)))) K
+  pub args : over (argsOfs (mapFields (leafOf form) (runAt m ks xs))) A₀ ≡ toBe at (argsOfs (mapFields (leafOf form) (runAt left (from at ks) (from at xs)))) A
+
+pub start : {form : Form} {m : ℕ} {ks xs K A : List ℕ} → ValidRun m ks xs → Along form m ks xs K A 0 m K A
+start {form} {m} {ks} {xs} {K} {A} v =
+    record {
+      others = rw (from-zero ks, from-zero xs) v;
+      nodes = rw (from-zero ks, from-zero xs) (sym (zero-add _));
+      kinds = rw (from-zero ks, from-zero xs);
+      args = rw (from-zero ks, from-zero xs);
+    }
+
+module _ {form : Form} {m : ℕ} {ks xs K₀ A₀ : List ℕ} {at left : ℕ} {K A : List ℕ} (a : Along form m ks xs K₀ A₀ at left K A) where
+  pub fields-built : left ≡ 0 → BuiltFields (mapFields (leafOf form) (runAt m ks xs)) K₀ A₀ K A at
+  unfolding kindsOf argsOf mapLeaves size
+  fields-built z =
+      let e = run-end left (from at ks) (from at xs) z in
+      record {
+        nodes = sym (length-kindss (mapFields (leafOf form) (runAt m ks xs)) ∙ sizes-map form (runAt m ks xs) ∙ a .nodes ∙ rw e (add-zero at));
+        kinds = sym (a .kinds ∙ rw e (take-append-drop at K));
+        args = sym (a .args ∙ rw e (take-append-drop at A));
+      }
+
+  module _ (p : left ≡ 0 → ⊥) where
+    pub next-valid : Valid (from (at + 1) ks) (from (at + 1) xs)
+    next-valid = rw (from-from 1 at (at + 1) ks refl, from-from 1 at (at + 1) xs refl) at (field-valid left (from at ks) (from at xs) (a .others) p)
+
+    module _ (n : ℕ) (e : n ≡ size (typeAt (from (at + 1) ks) (from (at + 1) xs))) where
+      past : (l : List ℕ) → from (n + 1) (from at l) ≡ from (at + 1 + n) l
+      past l = from-from (n + 1) at (at + 1 + n) l (omega arith)
+
+      here : n ≡ size (typeAt (from 1 (from at ks)) (from 1 (from at xs)))
+      here = rw (from-from 1 at (at + 1) ks refl, from-from 1 at (at + 1) xs refl) e
+
+      pub next-run : ValidRun (left - 1) (from (at + 1 + n) ks) (from (at + 1 + n) xs)
+      next-run = rw (past ks, past xs) at (others-valid left (from at ks) (from at xs) (a .others) p n here)
+
+      next-field : runAt left (from at ks) (from at xs) ≡ field (getD xs at 0) (typeAt (from (at + 1) ks) (from (at + 1) xs)) (runAt (left - 1) (from (at + 1 + n) ks) (from (at + 1 + n) xs))
+      next-field = run-field left (from at ks) (from at xs) (a .others) p n here ∙ rw (from-first at xs, from-from 1 at (at + 1) ks refl, from-from 1 at (at + 1) xs refl, past ks, past xs)
+
+      pub next-nodes : sizes (runAt m ks xs) ≡ at + 1 + n + sizes (runAt (left - 1) (from (at + 1 + n) ks) (from (at + 1 + n) xs))
+      next-nodes = a .nodes ∙ rw (field-nodes left (from at ks) (from at xs) (a .others) p n here, past ks, past xs) (omega arith)
+
+    module _ (o : Room (sizes (runAt m ks xs)) K₀ A₀) (lk : length K ≡ length K₀) (la : length A ≡ length A₀) where
+      pub next-room : Room (size (typeAt (from (at + 1) ks) (from (at + 1) xs))) (from (at + 1) (set K at Kind.Field)) (from (at + 1) (set A at (getD xs at 0)))
+      next-room =
+          let n = next-nodes (size (typeAt (from (at + 1) ks) (from (at + 1) xs))) refl in
+          record { kinds = omega (arith, part-set K at Kind.Field (at + 1)); args = omega (arith, part-set A at (getD xs at 0) (at + 1)) }
+
+      -- a field is done
+      pub field-done : (L M : List ℕ) (n : ℕ) → BuiltType (mapLeaves (leafOf form) (typeAt (from (at + 1) ks) (from (at + 1) xs))) (from (at + 1) (set K at Kind.Field)) (from (at + 1) (set A at (getD xs at 0))) L M n → Along form m ks xs K₀ A₀ (at + 1 + n) (left - 1) (back (at + 1) (set K at Kind.Field) L) (back (at + 1) (set A at (getD xs at 0)) M)
+      unfolding kindsOf argsOf mapLeaves
+      field-done L M n w =
+          let t : DataType = typeAt (from (at + 1) ks) (from (at + 1) xs) in
+          let e = built-size form t w in
+          let g : Fields = runAt (left - 1) (from (at + 1 + n) ks) (from (at + 1 + n) xs) in
+          let f = next-field n e in
+          let i = next-nodes n e in
+          record {
+            others = next-run n e;
+            nodes = next-nodes n e;
+            kinds = a .kinds ∙ ap (λ (h : Fields). toBe at (kindsOfs (mapFields (leafOf form) h)) K) f ∙ sym (next K at Kind.Field (kindsOf (mapLeaves (leafOf form) t)) L (omega arith) (w .kinds) (kindsOfs (mapFields (leafOf form) g)) n (w .nodes));
+            args = a .args ∙ ap (λ (h : Fields). toBe at (argsOfs (mapFields (leafOf form) h)) A) f ∙ sym (next A at (getD xs at 0) (argsOf (mapLeaves (leafOf form) t)) M (omega arith) (w .args) (argsOfs (mapFields (leafOf form) g)) n (e ∙ sym (length-args (mapLeaves (leafOf form) t) ∙ size-map form t)));
+          }

@@ -1,0 +1,156 @@
+-- The rules of the leaves, by bounds on their kinds and arguments. Assumes nothing.
+use mathlib.Core.Path.{_≡_, refl, sym, ap, _∙_}
+use mathlib.Core.Bool.{Bool, true, false, cond, true≢false}
+use mathlib.Core.List.{List, [], _∷_}
+use Prim.Native.Nat.{ℕ, _+_, _-_, _≤_, _<_, _^_}
+use native.Mathlib.Omega.{arith}
+use lib.IntN.{ℤ, pos, negsuc}
+use lib.Dec.{T, eqb}
+use borrow.Author.Tests.{eq-eqb, eqb-true, ne-eqb, lt-ltb, le-ltb, le-leb, lt-leb}
+use Rattle.flat.specs.Kind
+use Rattle.flat.specs.Argument.{argumentFits, ruleOf}
+use Rattle.flat.specs.Tree.{DataType, leaf, headKind, size, depth}
+use Rattle.flat.specs.Reading.{Ruled}
+use Rattle.flat.specs.Walk.{orElse}
+use Rattle.flat.proofs.Rules.{run, in-run}
+use Rattle.datatypes.specs.Match.{among}
+use Rattle.datatypes.specs.Predicate.{isUnknownInt, isSignedInteger}
+use Rattle.datatypes.specs.Integer.{holds}
+use Rattle.datatypes.specs.Materialize.{valueOf, materializeDynInt, materialize}
+use Rattle.datatypes.specs.Physical.{physicalLeaf}
+use Rattle.datatypes_build.specs.Leaf.{physicalKind, materializedLeaf, leafOf, keptArg}
+use Rattle.datatypes_build.specs.declared.leaf.Form.{Form}
+use Rattle.datatypes_build.specs.declared.leaf.Form.the-variants.{Physical, Materialized}
+
+-- a test that antt computes over a run of kinds
+passes : (test : ℕ → Bool) (lo n : ℕ) → T (run test lo n) → (k : ℕ) → lo ≤ k → k < lo + n → test k ≡ true
+passes test lo n t k l h = go (test k) (in-run test lo n t k l h)
+  where
+    go : (b : Bool) → T b → b ≡ true
+    go true t = refl
+    go false t = absurd t
+
+-- ---- the physical form
+pub physical-kind : (k a : ℕ) → headKind (physicalLeaf k a) ≡ physicalKind k
+unfolding physicalKind physicalLeaf headKind
+physical-kind k a = go (eqb k Kind.Date) (among (Kind.Datetime ∷ Kind.Duration ∷ Kind.Time ∷ []) k) (eqb k Kind.Decimal)
+  where
+    go : (b c d : Bool) → headKind (cond b (leaf Kind.Int32 0) (cond c (leaf Kind.Int64 0) (cond d (leaf Kind.Int128 0) (leaf k a)))) ≡ headKind (cond b (leaf Kind.Int32 0) (cond c (leaf Kind.Int64 0) (cond d (leaf Kind.Int128 0) (leaf k 0))))
+    go true c d = refl
+    go false true d = refl
+    go false false true = refl
+    go false false false = refl
+
+pub physical-int64 : (k : ℕ) → Kind.Datetime ≤ k → k ≤ Kind.Time → Kind.Int64 ≡ physicalKind k
+physical-int64 k l h = eqb-true _ _ (passes (λ k. eqb Kind.Int64 (physicalKind k)) Kind.Datetime 3 (unfold physicalKind physicalLeaf headKind among in tt) k l (omega arith))
+
+pub physical-same : (k : ℕ) → (k ≡ Kind.Decimal → ⊥) → (k ≡ Kind.Date → ⊥) → (k ≡ Kind.Datetime → ⊥) → (k ≡ Kind.Duration → ⊥) → (k ≡ Kind.Time → ⊥) → k ≡ physicalKind k
+unfolding physicalKind physicalLeaf headKind among
+physical-same k a b c d e = rw (ne-eqb k Kind.Decimal a, ne-eqb k Kind.Date b, ne-eqb k Kind.Datetime c, ne-eqb k Kind.Duration d, ne-eqb k Kind.Time e)
+
+-- ---- dyn integers: a signed type of w bits holds v and −1 − v where v is below 2 ^ (w - 1)
+module _ (k a : ℕ) where
+  -- of either sign
+  signs : {n : ℕ} → n ≡ materializeDynInt (pos a) → n ≡ materializeDynInt (negsuc a) → n ≡ materializeDynInt (valueOf k a)
+  unfolding valueOf
+  signs {n} p m = go (eqb k Kind.UnknownIntPos)
+    where
+      go : (b : Bool) → n ≡ materializeDynInt (cond b (pos a) (negsuc a))
+      go true = p
+      go false = m
+
+  pub dyn-int32 : a < 2 ^ 31 → Kind.Int32 ≡ materializeDynInt (valueOf k a)
+  unfolding materializeDynInt isSignedInteger among
+  dyn-int32 h = signs (simp (lt-ltb a (2 ^ 31) h)) (simp (le-leb a (2 ^ 31 - 1) (omega arith)))
+
+  pub dyn-int64 : 2 ^ 31 ≤ a → a < 2 ^ 63 → Kind.Int64 ≡ materializeDynInt (valueOf k a)
+  unfolding materializeDynInt isSignedInteger among
+  dyn-int64 l h = signs (simp (le-ltb a (2 ^ 31) l, lt-ltb a (2 ^ 63) h)) (simp (lt-leb a (2 ^ 31 - 1) (omega arith), le-leb a (2 ^ 63 - 1) (omega arith)))
+
+  pub dyn-uint64 : k ≡ Kind.UnknownIntPos → 2 ^ 63 ≤ a → a < 2 ^ 64 → Kind.UInt64 ≡ materializeDynInt (valueOf k a)
+  unfolding materializeDynInt valueOf isSignedInteger among
+  dyn-uint64 e l h = rw e (simp (le-ltb a (2 ^ 31) (omega arith), le-ltb a (2 ^ 63) l, le-leb 0 a (omega arith), lt-ltb a (2 ^ 64) h))
+
+  pub dyn-int128 : (k ≡ Kind.UnknownIntPos → ⊥) → 2 ^ 63 ≤ a → Kind.Int128 ≡ materializeDynInt (valueOf k a)
+  unfolding materializeDynInt valueOf isSignedInteger among
+  dyn-int128 e l = rw (ne-eqb k Kind.UnknownIntPos e) (simp (lt-leb a (2 ^ 31 - 1) (omega arith), lt-leb a (2 ^ 63 - 1) (omega arith)))
+
+-- ---- unknown types
+pub materialized-str : (k a : ℕ) → k ≡ Kind.UnknownStr → Kind.String ≡ headKind (materializedLeaf k a)
+unfolding materializedLeaf materialize isUnknownInt among headKind
+materialized-str k a e = rw e
+
+pub materialized-float : (k a : ℕ) → k ≡ Kind.UnknownFloat → Kind.Float64 ≡ headKind (materializedLeaf k a)
+unfolding materializedLeaf materialize isUnknownInt among headKind
+materialized-float k a e = rw e
+
+pub materialized-int : (k a n : ℕ) → Kind.UnknownIntPos ≤ k → k ≤ Kind.UnknownIntNeg → n ≡ materializeDynInt (valueOf k a) → n ≡ headKind (materializedLeaf k a)
+unfolding materializedLeaf materialize headKind
+materialized-int k a n l h e = rw (passes isUnknownInt Kind.UnknownIntPos 2 (unfold isUnknownInt among in tt) k l (omega arith)) e
+
+pub materialized-same : (k a : ℕ) → (k ≡ Kind.UnknownStr → ⊥) → (k ≡ Kind.UnknownFloat → ⊥) → (k ≡ Kind.UnknownIntPos → ⊥) → (k ≡ Kind.UnknownIntNeg → ⊥) → k ≡ headKind (materializedLeaf k a)
+unfolding materializedLeaf materialize isUnknownInt among headKind
+materialized-same k a s f p n = rw (ne-eqb k Kind.UnknownStr s, ne-eqb k Kind.UnknownFloat f, ne-eqb k Kind.UnknownIntPos p, ne-eqb k Kind.UnknownIntNeg n)
+
+-- ---- what a rule makes of a leaf
+-- of each integer type that a dyn integer becomes
+dyn-each : (P : ℕ → Type 0) → P Kind.Int32 → P Kind.Int64 → P Kind.UInt64 → P Kind.Int128 → (v : ℤ) → P (materializeDynInt v)
+unfolding materializeDynInt
+dyn-each P a b c d v = go (holds Kind.Int32 v) (holds Kind.Int64 v) (holds Kind.UInt64 v)
+  where
+    go : (i j k : Bool) → P (cond i Kind.Int32 (cond j Kind.Int64 (cond k Kind.UInt64 Kind.Int128)))
+    go true j k = a
+    go false true k = b
+    go false false true = c
+    go false false false = d
+
+module _ (k a : ℕ) where
+  -- a leaf: it keeps its argument where it keeps its kind, and else has 0; and it keeps document 01's rules
+  record Leaf (t : DataType) : Type 0 where
+    is : t ≡ leaf (headKind t) (keptArg k (headKind t) a)
+    ruled : Ruled (leaf k a) → Ruled t
+
+  same : Leaf (leaf k a)
+  unfolding headKind keptArg
+  same = record { is = rw (eq-eqb k k refl); ruled = λ r. r }
+
+  -- the new kind is none of those that the test is for, and has the argument 0
+  abbrev Fresh : (ℕ → Bool) → ℕ → Type 0
+  Fresh test new = (test new ≡ false) × Ruled (leaf new 0)
+
+  if-kind : {A : Type 0} (f : A → DataType) (test : ℕ → Bool) (new : ℕ) (x u : A) → f x ≡ leaf new 0 → Fresh test new → Leaf (f u) → Leaf (f (cond (test k) x u))
+  unfolding headKind keptArg
+  if-kind f test new x u e d s = go (test k) refl
+    where
+      go : (b : Bool) → test k ≡ b → Leaf (f (cond b x u))
+      go false t = s
+      go true t =
+          rw e (record { is = rw (ne-eqb new k (λ h. true≢false (sym t ∙ ap test (sym h) ∙ d .0))); ruled = λ r. d .1 })
+
+  a-leaf : (form : Form) → Leaf (leafOf form k a)
+  unfolding physicalLeaf materializedLeaf materialize isUnknownInt among Ruled argumentFits ruleOf
+  a-leaf Physical =
+      if-kind (λ t. t) (λ j. eqb j Kind.Date) Kind.Int32 _ _ refl (refl, (omega arith, refl))
+      (if-kind (λ t. t) (among (Kind.Datetime ∷ Kind.Duration ∷ Kind.Time ∷ [])) Kind.Int64 _ _ refl (refl, (omega arith, refl))
+      (if-kind (λ t. t) (λ j. eqb j Kind.Decimal) Kind.Int128 _ _ refl (refl, (omega arith, refl))
+      same))
+  a-leaf Materialized =
+      if-kind (orElse (leaf k a)) isUnknownInt (materializeDynInt (valueOf k a)) _ _ refl
+      (dyn-each (Fresh isUnknownInt) (refl, (omega arith, refl)) (refl, (omega arith, refl)) (refl, (omega arith, refl)) (refl, (omega arith, refl)) (valueOf k a))
+      (if-kind (orElse (leaf k a)) (λ j. eqb j Kind.UnknownFloat) Kind.Float64 _ _ refl (refl, (omega arith, refl))
+      (if-kind (orElse (leaf k a)) (λ j. eqb j Kind.UnknownStr) Kind.String _ _ refl (refl, (omega arith, refl))
+      same))
+
+  pub leaf-is : (form : Form) → leafOf form k a ≡ leaf (headKind (leafOf form k a)) (keptArg k (headKind (leafOf form k a)) a)
+  leaf-is form = a-leaf form .is
+
+  pub leaf-ruled : (form : Form) → Ruled (leaf k a) → Ruled (leafOf form k a)
+  leaf-ruled form = a-leaf form .ruled
+
+  pub leaf-size : (form : Form) → size (leafOf form k a) ≡ 1
+  unfolding size
+  leaf-size form = ap size (leaf-is form)
+
+  pub leaf-depth : (form : Form) → depth (leafOf form k a) ≡ 0
+  unfolding depth
+  leaf-depth form = ap depth (leaf-is form)

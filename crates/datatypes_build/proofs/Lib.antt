@@ -1,0 +1,5 @@
+-- The laws of the types that are built anew. Those that other crates' proofs cite are `pub`.
+mod Leaves
+pub mod Forms
+mod Builds
+pub mod Answers

@@ -1,0 +1,66 @@
+// What becomes of a leaf in each form that a type is built in.
+ghost use mathlib.Core.Path.{_≡_};
+ghost use Rattle.flat.specs.Tree.{headKind};
+ghost use Rattle.datatypes.specs.Materialize.{valueOf, materializeDynInt};
+ghost use Rattle.datatypes_build.specs.Leaf.{physicalKind, materializedLeaf, leafOf, keptArg};
+use flat::kind::Kind;
+
+pub enum Form {
+    Physical,
+    Materialized,
+}
+
+fn physical_kind(k: u8) -> u8
+    ensures { λ r. ⌜ r ≡ physicalKind k ⌝ }
+{
+    match k {
+        Kind::DECIMAL => Kind::INT128,
+        Kind::DATE => Kind::INT32,
+        Kind::DATETIME..=Kind::TIME => Kind::INT64,
+        _ => k,
+    }
+}
+
+// Of `Unknown(Int(v))`: a signed type that holds v holds −1 − v too, so that the sign counts only past the largest of them.
+fn materialize_dyn_int(kind: u8, arg: u64) -> u8
+    ensures { λ r. ⌜ r ≡ materializeDynInt (valueOf kind arg) ⌝ }
+{
+    if arg < 0x8000_0000 {
+        return Kind::INT32;
+    }
+    if arg < 0x8000_0000_0000_0000 {
+        return Kind::INT64;
+    }
+    if kind == Kind::UNKNOWN_INT_POS {
+        return Kind::UINT64;
+    }
+    Kind::INT128
+}
+
+fn materialized_kind(k: u8, a: u64) -> u8
+    ensures { λ r. ⌜ r ≡ headKind (materializedLeaf k a) ⌝ }
+{
+    match k {
+        Kind::UNKNOWN_STR => Kind::STRING,
+        Kind::UNKNOWN_FLOAT => Kind::FLOAT64,
+        Kind::UNKNOWN_INT_POS..=Kind::UNKNOWN_INT_NEG => materialize_dyn_int(k, a),
+        _ => k,
+    }
+}
+
+// The kind of a leaf in the given form.
+pub fn kind_form(form: Form, k: u8, a: u64) -> u8
+    ensures { λ r. ⌜ r ≡ headKind (leafOf form k a) ⌝ }
+{
+    match form {
+        Form::Physical => physical_kind(k),
+        Form::Materialized => materialized_kind(k, a),
+    }
+}
+
+// Its argument: a leaf whose kind stays keeps it, one whose kind changes has 0.
+pub fn argument_form(k: u8, new: u8, a: u64) -> u64
+    ensures { λ r. ⌜ r ≡ keptArg k new a ⌝ }
+{
+    if new == k { a } else { 0 }
+}

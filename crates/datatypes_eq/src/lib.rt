@@ -1,0 +1,58 @@
+// Equality of flat types, and whether a type contains another: `PartialEq` and `contains_dtype_recursive` of dtype.rs.
+pub mod nodes;
+
+ghost use mathlib.Core.Path.{_≡_};
+ghost use Rattle.flat.specs.Reading.{reading};
+ghost use Rattle.datatypes.specs.Equality.{equal};
+ghost use Rattle.datatypes.specs.Recursive.{containsDtypeRecursive};
+ghost use Rattle.datatypes.specs.Answer.{answersOf};
+use datatypes::answer::Answer;
+use flat::Checked;
+use flat::Flat;
+
+// Whether two types are equal. `Unknown(Int(_))` are, whatever they hold; field names count.
+pub fn equal(left_kinds: &[u8], left_args: &[u64], right_kinds: &[u8], right_args: &[u64]) -> Answer
+    ensures { λ r. do
+      nodes ← ⟦Flat::MAX_NODES⟧ .entry
+      deep ← ⟦Flat::MAX_DEPTH⟧ .entry
+      ⌜ r ≡ answersOf equal (reading nodes deep (now («left_kinds» .entry)) (now («left_args» .entry))) (reading nodes deep (now («right_kinds» .entry)) (now («right_args» .entry))) ⌝ }
+{
+    match flat::check(left_kinds, left_args) {
+        Checked::Valid => {}
+        Checked::Refused(e) => return Answer::Refused(e),
+    }
+    // what equals a valid type node by node is a valid type: an unknown int takes any argument
+    if nodes::alike(left_kinds, left_args, right_kinds, right_args) {
+        return Answer::Yes;
+    }
+    match flat::check(right_kinds, right_args) {
+        Checked::Valid => Answer::No,
+        Checked::Refused(e) => Answer::Refused(e),
+    }
+}
+
+// Whether the left type is the right one, or a type under it is.
+pub fn contains_dtype_recursive(
+    left_kinds: &[u8],
+    left_args: &[u64],
+    right_kinds: &[u8],
+    right_args: &[u64],
+) -> Answer
+    ensures { λ r. do
+      nodes ← ⟦Flat::MAX_NODES⟧ .entry
+      deep ← ⟦Flat::MAX_DEPTH⟧ .entry
+      ⌜ r ≡ answersOf containsDtypeRecursive (reading nodes deep (now («left_kinds» .entry)) (now («left_args» .entry))) (reading nodes deep (now («right_kinds» .entry)) (now («right_args» .entry))) ⌝ }
+{
+    match flat::check(left_kinds, left_args) {
+        Checked::Valid => {}
+        Checked::Refused(e) => return Answer::Refused(e),
+    }
+    match flat::check(right_kinds, right_args) {
+        Checked::Valid => {}
+        Checked::Refused(e) => return Answer::Refused(e),
+    }
+    if nodes::occurs(left_kinds, left_args, right_kinds, right_args) {
+        return Answer::Yes;
+    }
+    Answer::No
+}

@@ -1,0 +1,82 @@
+// Scans over the nodes of two flat types.
+ghost use mathlib.Core.Path.{_≡_};
+ghost use lib.ListN.{length};
+ghost use Rattle.datatypes.specs.Equality.{equalNode};
+ghost use Rattle.datatypes_eq.specs.Nodes.{startsWith, alike, occurs};
+use flat::kind::Kind;
+
+// Whether two nodes are equal: `Unknown(Int(_))` are, whatever they hold.
+fn equal_node(k: u8, a: u64, l: u8, b: u64) -> bool
+    ensures { λ r. ⌜ r ≡ equalNode k a l b ⌝ }
+{
+    if k == l {
+        if a == b {
+            return true;
+        }
+        if k < Kind::UNKNOWN_INT_POS {
+            return false;
+        }
+        return k <= Kind::UNKNOWN_INT_NEG;
+    }
+    if k < Kind::UNKNOWN_INT_POS {
+        return false;
+    }
+    if k > Kind::UNKNOWN_INT_NEG {
+        return false;
+    }
+    if l < Kind::UNKNOWN_INT_POS {
+        return false;
+    }
+    l <= Kind::UNKNOWN_INT_NEG
+}
+
+// Whether the pattern's nodes stand at the front. Of two valid types: whether they are equal, since no type stands at the front of another.
+pub fn starts_with(kinds: &[u8], args: &[u64], pattern_kinds: &[u8], pattern_args: &[u64]) -> bool
+    requires { ⌜ (length (now kinds) ≡ length (now args)) × (length (now «pattern_kinds») ≡ length (now «pattern_args»)) ⌝ }
+    ensures { λ r. ⌜ r ≡ startsWith (now (kinds .entry)) (now (args .entry)) (now («pattern_kinds» .entry)) (now («pattern_args» .entry)) ⌝ }
+{
+    if kinds.len() < pattern_kinds.len() {
+        return false;
+    }
+    let mut i = 0;
+    while i < pattern_kinds.len() {
+        if !equal_node(kinds[i], args[i], pattern_kinds[i], pattern_args[i]) {
+            return false;
+        }
+        i += 1;
+    }
+    true
+}
+
+// Whether the other nodes are as many, and each equal to the node in its place.
+pub fn alike(kinds: &[u8], args: &[u64], other_kinds: &[u8], other_args: &[u64]) -> bool
+    requires { ⌜ length (now kinds) ≡ length (now args) ⌝ }
+    ensures { λ r. ⌜ r ≡ alike (now (kinds .entry)) (now (args .entry)) (now («other_kinds» .entry)) (now («other_args» .entry)) ⌝ }
+{
+    if kinds.len() != other_kinds.len() {
+        return false;
+    }
+    if other_kinds.len() != other_args.len() {
+        return false;
+    }
+    starts_with(kinds, args, other_kinds, other_args)
+}
+
+// Whether the pattern's nodes stand somewhere. Of two valid types: whether the first contains the second, since a type's nodes stand in one piece.
+pub fn occurs(kinds: &[u8], args: &[u64], pattern_kinds: &[u8], pattern_args: &[u64]) -> bool
+    requires { ⌜ (length (now kinds) ≡ length (now args)) × (length (now «pattern_kinds») ≡ length (now «pattern_args»)) ⌝ }
+    ensures { λ r. ⌜ r ≡ occurs (now (kinds .entry)) (now (args .entry)) (now («pattern_kinds» .entry)) (now («pattern_args» .entry)) ⌝ }
+{
+    if kinds.len() < pattern_kinds.len() {
+        return false;
+    }
+    let last = kinds.len() - pattern_kinds.len();
+    let mut at = 0;
+    while at <= last {
+        if starts_with(&kinds[at..], &args[at..], pattern_kinds, pattern_args) {
+            return true;
+        }
+        at += 1;
+    }
+    false
+}

@@ -1,0 +1,4 @@
+-- What the contracts of `datatypes_inner` cite.
+pub mod Nodes
+pub mod Part
+pub mod Shape

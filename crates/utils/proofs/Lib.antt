@@ -1,0 +1,2 @@
+-- What the coarser of two units is.
+mod Coarser

@@ -1,0 +1,2 @@
+-- The rules of utils/mod.rs as definitions.
+pub mod TimeUnits

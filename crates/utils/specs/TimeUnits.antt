@@ -1,0 +1,17 @@
+-- `get_time_units` of utils/mod.rs. Assumes nothing: these are definitions.
+use mathlib.Core.Bool.{Bool, cond, _&&_}
+use lib.Dec.{eqb}
+use Rattle.datatypes.specs.TimeUnit.{unitNumber}
+use Rattle.datatypes.specs.declared.time_unit.TimeUnit.{TimeUnit}
+use Rattle.datatypes.specs.declared.time_unit.TimeUnit.the-variants.{Nanoseconds, Microseconds, Milliseconds}
+
+-- the source's pattern of one unit
+abbrev pub isUnit : TimeUnit → TimeUnit → Bool
+isUnit u v = eqb (unitNumber v) (unitNumber u)
+
+-- the source's three arms, in its order
+unfoldable pub getTimeUnits : TimeUnit → TimeUnit → TimeUnit
+getTimeUnits l r =
+    cond (isUnit Nanoseconds l && isUnit Microseconds r) Microseconds
+    (cond (isUnit Milliseconds r) Milliseconds
+    l)
