@@ -1,24 +1,24 @@
 -- The cases of the walk that builds a type: a node stored, and what stands under it written after it. Assumes nothing.
-use mathlib.Core.Path.{_≡_, refl, sym, ap, ap₂, subst, _∙_}
-use mathlib.Core.List.{List, [], _∷_, _++_, append-nil, append-assoc}
+use mathlib.Core.Path.{_≡_, refl, sym, ap, _∙_}
+use mathlib.Core.List.{List, _∷_}
 use Prim.Native.Nat.{ℕ, suc, _+_, _-_, _≤_, _<_}
 use native.Mathlib.Omega.{arith}
 use native.Mathlib.Nat.{zero-add, add-zero}
 use native.Mathlib.Numerals.{add-one}
-use lib.ListN.{length, getD, take, drop, set, length-append, length-drop, length-set, take-append-drop, drop-of-length-le}
-use lib.Seq.{length-take-le, take-all, take-at, drop-at, drop-drop, drop-length, drop-set-lt, take-suc-set, getD-drop}
-use borrow.Rule.Slice.PartMut.{putMid, same-len-mid}
+use lib.ListN.{length, getD, drop, set, take-append-drop}
+use lib.Seq.{drop-drop, getD-drop}
 use Rattle.flat.specs.Kind
-use Rattle.flat.specs.Tree.{DataType, leaf, struct, Fields, empty, field, size, sizes, count, kindsOf, kindsOfs, argsOf, argsOfs, headKind}
+use Rattle.flat.specs.Tree.{DataType, leaf, Fields, field, size, sizes, count, kindsOf, kindsOfs, argsOf, argsOfs, headKind}
 use Rattle.flat.specs.Walk.{Valid, ValidRun, typeAt, runAt}
 use Rattle.flat.specs.Output.{over}
-use Rattle.flat.proofs.Sizes.{length-kinds, length-kindss, length-args, length-argss}
+use Rattle.flat.proofs.Sizes.{length-kinds, length-kindss, length-args}
 use Rattle.flat.proofs.Positions.{rest}
-use Rattle.flat.proofs.Walks.{from, length-from, Unary, is-list, is-array, type-leaf, type-one, one-nodes, type-struct, struct-nodes, struct-count, run-end, run-field, field-nodes, field-valid, others-valid}
+use Rattle.flat.proofs.Walks.{from, Unary, is-list, is-array, type-leaf, type-one, one-nodes, type-struct, struct-nodes, struct-count, run-end, run-field, field-nodes, field-valid, others-valid}
 use Rattle.datatypes_build.specs.Leaf.{leafOf, mapLeaves, mapFields, keptArg, Room, Built, BuiltType, BuiltFields}
 use Rattle.datatypes_build.specs.declared.leaf.Form.{Form}
 use Rattle.datatypes_build.proofs.Leaves.{leaf-is}
 use Rattle.datatypes_build.proofs.Forms.{size-map, sizes-map, count-map}
+use Rattle.datatypes_build.proofs.Writes.{back, toBe, next, part-set, over-one, over-front}
 
 -- the answer is the type's own number of nodes
 pub built-size : (form : Form) (t : DataType) {K A K′ A′ : List ℕ} {r : ℕ} → BuiltType (mapLeaves (leafOf form) t) K A K′ A′ r → r ≡ size t
@@ -27,54 +27,7 @@ built-size form t w = w .nodes ∙ length-kinds (mapLeaves (leafOf form) t) ∙ 
 pub built-sizes : (form : Form) (fs : Fields) {K A K′ A′ : List ℕ} {r : ℕ} → BuiltFields (mapFields (leafOf form) fs) K A K′ A′ r → r ≡ sizes fs
 built-sizes form fs w = w .nodes ∙ length-kindss (mapFields (leafOf form) fs) ∙ sizes-map form fs
 
--- ---- of lists alone
-
--- a slice whose part after the first j elements is back, with L in it
-abbrev pub back : ℕ → List ℕ → List ℕ → List ℕ
-back j out L = putMid j (length out - j) out L
-
--- out, once P is written from the place `at` on
-abbrev pub toBe : ℕ → List ℕ → List ℕ → List ℕ
-toBe at P out = take at out ++ over P (drop at out)
-
--- y stored at a place, and P written into the part after it
-module _ (out : List ℕ) (at y : ℕ) (P L : List ℕ) (h : at < length out) (e : L ≡ over P (from (at + 1) (set out at y))) where
-  front : take (at + 1) (set out at y) ≡ take at out ++ (y ∷ [])
-  front = ap (λ (i : ℕ). take i (set out at y)) (add-one at) ∙ take-suc-set out at y h
-
-  part : L ≡ P ++ drop (at + 1 + length P) out
-  part = e ∙ ap (over P) (rest (set out at y) (at + 1) ∙ drop-set-lt (at + 1) out at y (omega arith)) ∙ ap (λ (l : List ℕ). P ++ l) (drop-drop (length P) (at + 1) out)
-
-  written : back (at + 1) (set out at y) L ≡ ((take at out ++ (y ∷ [])) ++ P) ++ drop (at + 1 + length P) out
-  written =
-      ap (λ (l : List ℕ). take (at + 1) (set out at y) ++ (L ++ l)) (drop-of-length-le (drop (at + 1) (set out at y)) {i = length (set out at y) - (at + 1)} (simp length-drop (omega arith)))
-      ∙ rw (append-nil, front) (ap (λ (l : List ℕ). (take at out ++ (y ∷ [])) ++ l) part ∙ sym (append-assoc (take at out ++ (y ∷ [])) P (drop (at + 1 + length P) out)))
-
-  -- then Q comes next
-  pub next : (Q : List ℕ) (n : ℕ) → n ≡ length P → toBe (at + 1 + n) Q (back (at + 1) (set out at y) L) ≡ toBe at (y ∷ (P ++ Q)) out
-  next Q n i =
-      let F : List ℕ = (take at out ++ (y ∷ [])) ++ P in
-      let D : List ℕ = drop (at + 1 + length P) out in
-      let l : length F ≡ at + 1 + n = rw (length-append, length-append) (omega (arith, length-take-le at out (omega arith))) in
-      let r : drop (length Q) D ≡ drop (suc (length (P ++ Q))) (drop at out) =
-      drop-drop (length Q) (at + 1 + length P) out ∙ ap (λ (i : ℕ). drop i out) (let z : at + 1 + length P + length Q ≡ at + suc (length (P ++ Q)) = omega (arith, length-append P Q) in z) ∙ sym (drop-drop (suc (length (P ++ Q))) at out) in
-      ap (toBe (at + 1 + n) Q) written
-      ∙ ap₂ _++_ (take-at F D (at + 1 + n) l) (ap (over Q) (drop-at F D (at + 1 + n) l))
-      ∙ rw (r, append-assoc (take at out ++ (y ∷ [])) P, append-assoc (take at out) (y ∷ []), append-assoc P Q)
-
 -- ---- the node walk
-
--- how long a part is, once the first element was stored
-part-set : (out : List ℕ) (at y j : ℕ) → length (from j (set out at y)) ≡ length out - j
-part-set out at y j = length-from j (set out at y) ∙ simp length-set
-
-over-one : (out : List ℕ) → 0 < length out → (y : ℕ) → set out 0 y ≡ over (y ∷ []) out
-over-one [] h y = absurd (omega arith)
-over-one (o ∷ os) h y = refl
-
--- y at the front, and P written after it
-over-front : (y : ℕ) (P out : List ℕ) → 0 < length out → (L : List ℕ) → L ≡ over P (from 1 (set out 0 y)) → back 1 (set out 0 y) L ≡ over (y ∷ P) out
-over-front y P out h L e = sym (take-append-drop (1 + length P) (back 1 (set out 0 y) L)) ∙ next out 0 y P L h e [] (length P) refl ∙ ap (λ (l : List ℕ). over (y ∷ l) out) (append-nil P)
 
 -- y and z stored, and a child's kinds P and arguments Q written after them
 after-node : (y z : ℕ) (P Q K A L M : List ℕ) (n : ℕ) → 0 < length K → 0 < length A → Built P Q (from 1 (set K 0 y)) (from 1 (set A 0 z)) L M n → Built (y ∷ P) (z ∷ Q) K A (back 1 (set K 0 y) L) (back 1 (set A 0 z) M) (n + 1)
@@ -125,8 +78,8 @@ from-first j l = ap (λ (d : List ℕ). getD d 0 0) (rest l j) ∙ getD-drop j l
 from-zero : (l : List ℕ) → from 0 l ≡ l
 from-zero l = rest l 0
 
--- Of the m fields at the front, `left` are left, from the place `at` on: what the two arrays held at first will be, is what they hold with those written
--- from there on.
+-- Of the m fields at the front, `left` are left, from the place `at` on. All of them over what the two arrays held at first comes to those that are left,
+-- from there on, over what the arrays hold now.
 pub record Along (form : Form) (m : ℕ) (ks xs K₀ A₀ : List ℕ) (at left : ℕ) (K A : List ℕ) : Type 0 where
   pub others : ValidRun left (from at ks) (from at xs)
   pub nodes : sizes (runAt m ks xs) ≡ at + sizes (runAt left (from at ks) (from at xs))

@@ -1,18 +1,18 @@
 -- `canCastTo` by the roots of two types: what they decide, and else the arm of their kind. Equal types have yes from their arms too, so that the arms need no
 -- test of equality. Assumes nothing.
-use mathlib.Core.Path.{_≡_, refl, sym, ap, _∙_}
-use mathlib.Core.Bool.{Bool, true, false, cond, _&&_, _||_}
+use mathlib.Core.Path.{_≡_, refl, sym, ap}
+use mathlib.Core.Bool.{Bool, true, false, cond, _&&_}
 use mathlib.Core.Option.{Option, none, some}
-use Prim.Native.Nat.{ℕ, zero, suc, _≤_, _<_}
+use Prim.Native.Nat.{ℕ, suc, _≤_}
 use native.Mathlib.Omega.{arith}
-use lib.Dec.{eqb, leb}
-use borrow.Author.Tests.{le-leb, eq-eqb, ne-eqb, eqb-true}
+use lib.Dec.{eqb}
+use borrow.Author.Tests.{le-leb, eq-eqb, ne-eqb}
 use Rattle.flat.specs.Kind
 use Rattle.flat.specs.Tree.{DataType, leaf, list, array, struct, Fields, empty, field, count, headKind, headArg, size}
 use Rattle.datatypes.specs.Match.{among, ifList, ifArray, ifStruct, isEmpty}
 use Rattle.datatypes.specs.Predicate.{isUnknownInt, isPrimitiveNumeric, isFloat, isInteger, isSignedInteger, isUnsignedInteger}
 use Rattle.datatypes.specs.Equality.{equalNode, equal, equalFields}
-use Rattle.datatypes.specs.Cast.{castsWithBoolean, beforeNested, andThen, canCastTo, fieldsCast}
+use Rattle.datatypes.specs.Cast.{castsWithBoolean, beforeNested, canCastTo, fieldsCast}
 use Rattle.datatypes_cast.specs.Walk.{equalLeaves, earlyOf, decided}
 use Rattle.datatypes_cast.specs.declared.roots.Early.{Early}
 use Rattle.datatypes_cast.specs.declared.roots.Early.the-variants.{Yes, No, Open}

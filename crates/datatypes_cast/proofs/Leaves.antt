@@ -1,8 +1,7 @@
 -- Equality of two leaves, case by case. Assumes nothing.
-use mathlib.Core.Path.{_≡_, refl, sym, ap, _∙_}
+use mathlib.Core.Path.{_≡_, refl, sym}
 use mathlib.Core.Bool.{Bool, true, false, _&&_, _||_}
 use Prim.Native.Nat.{ℕ, _≤_, _<_}
-use lib.Dec.{eqb}
 use borrow.Author.Tests.{le-leb, lt-leb, eq-eqb, ne-eqb}
 use Rattle.flat.specs.Kind
 use Rattle.datatypes.specs.Predicate.{isUnknownInt}

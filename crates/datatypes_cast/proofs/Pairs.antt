@@ -3,7 +3,7 @@ use mathlib.Core.Path.{_≡_, refl, sym, ap, ap₂, _∙_, subst}
 use mathlib.Core.Bool.{Bool, true, false, cond}
 use mathlib.Core.Option.{Option, none, some}
 use mathlib.Core.List.{List}
-use Prim.Native.Nat.{ℕ, zero, suc, _+_, _≤_, _<_}
+use Prim.Native.Nat.{ℕ, suc, _+_, _≤_, _<_}
 use native.Mathlib.Omega.{arith}
 use lib.Dec.{eqb}
 use lib.ListN.{length, getD}
@@ -12,7 +12,6 @@ use Rattle.flat.specs.Kind
 use Rattle.flat.specs.Tree.{DataType, leaf, list, array, struct, Fields, empty, field, count, headKind, headArg, size, sizes}
 use Rattle.flat.specs.Walk.{Valid, ValidRun, typeAt, runAt}
 use Rattle.flat.proofs.Walks.{from, length-from, Unary, is-list, is-array, AtNode, at-leaf, at-one, at-struct, at-node, type-kind, type-arg, type-leaf, type-one, one-valid, unary-size, type-struct, struct-valid, struct-count, run-end}
-use Rattle.datatypes.specs.Match.{isEmpty}
 use Rattle.datatypes.specs.Cast.{canCastTo, fieldsCast}
 use Rattle.datatypes_cast.specs.Walk.{answer, castAnswer, fieldsAnswer, castAfter, Within, earlyOf}
 use Rattle.datatypes_cast.specs.declared.dtype.Cast.{Cast}

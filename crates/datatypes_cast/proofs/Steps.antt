@@ -1,6 +1,6 @@
 -- The walk over the fields of two Structs. Its loop keeps to one equation: the answer for all fields is that for those left, moved on by what lies before
 -- them on either side. Assumes nothing.
-use mathlib.Core.Path.{_≡_, refl, sym, ap, ap₂, _∙_, subst}
+use mathlib.Core.Path.{_≡_, refl, sym, ap, ap₂, _∙_}
 use mathlib.Core.Bool.{Bool, true, false}
 use mathlib.Core.Option.{Option, none, some}
 use mathlib.Core.List.{List}
@@ -8,7 +8,7 @@ use Prim.Native.Nat.{ℕ, suc, _+_, _-_, _≤_, _<_}
 use native.Mathlib.Omega.{arith}
 use lib.ListN.{length, getD, drop}
 use lib.Seq.{drop-drop}
-use Rattle.flat.specs.Tree.{DataType, Fields, empty, field, size, sizes}
+use Rattle.flat.specs.Tree.{DataType, Fields, field, size, sizes}
 use Rattle.flat.specs.Walk.{Valid, ValidRun, typeAt, runAt}
 use Rattle.flat.proofs.Positions.{rest}
 use Rattle.flat.proofs.Walks.{from, length-from, run-end, field-valid, others-valid, run-field}
@@ -61,7 +61,7 @@ first-field name other t u fs gs = go (canCastTo t u) (fieldsCast fs gs)
     go (some true) (some false) = refl
     go (some true) (some true) = ap₂ Yes (let y : suc (size t + sizes fs) ≡ 1 + size t + sizes fs = omega arith in y) (let y : suc (size u + sizes gs) ≡ 1 + size u + sizes gs = omega arith in y)
 
-pub yes-sizes : (q : Option Bool) (n m i j : ℕ) → Yes i j ≡ answer q n m → (i ≡ n) × (j ≡ m)
+yes-sizes : (q : Option Bool) (n m i j : ℕ) → Yes i j ≡ answer q n m → (i ≡ n) × (j ≡ m)
 yes-sizes none n m i j e = absurd (let y : _≡_ {A = ℕ} 0 1 = cc in omega arith)
 yes-sizes (some false) n m i j e = absurd (let y : _≡_ {A = ℕ} 0 1 = cc in omega arith)
 yes-sizes (some true) n m i j e = (cc, cc)
@@ -93,12 +93,12 @@ moved i j n m NoVerdict = refl
 
 pub start : (m : ℕ) (ks xs ls ys : List ℕ) → ValidRun m ks xs → ValidRun m ls ys → Along m ks xs ls ys 0 0 m
 start m ks xs ls ys v w = record {
-    one = rw (all ks, all xs) v;
-    other = rw (all ls, all ys) w;
-    within = omega (arith, v .pos, v .within);
-    within-other = omega (arith, w .pos, w .within);
-    goes-on = rw (all ks, all xs, all ls, all ys) (not-moved (fieldsAnswer (runAt m ks xs) (runAt m ls ys)))
-  }
+  one = rw (all ks, all xs) v;
+  other = rw (all ls, all ys) w;
+  within = omega (arith, v .pos, v .within);
+  within-other = omega (arith, w .pos, w .within);
+  goes-on = rw (all ks, all xs, all ls, all ys) (not-moved (fieldsAnswer (runAt m ks xs) (runAt m ls ys)));
+}
 
 module _ (m : ℕ) (ks xs ls ys : List ℕ) (i j left : ℕ) (al : Along m ks xs ls ys i j left) where
   pub fields-done : left ≡ 0 → Yes i j ≡ fieldsAnswer (runAt m ks xs) (runAt m ls ys)
@@ -141,5 +141,5 @@ module _ (m : ℕ) (ks xs ls ys : List ℕ) (i j left : ℕ) (al : Along m ks xs
             other = w;
             within = omega (arith, ends .0, v .pos, v .within, length-from (i + 1 + n) ks);
             within-other = omega (arith, ends .1, w .pos, w .within, length-from (j + 1 + o) ls);
-            goes-on = ahead (Yes n o) e n o (counts .0) (counts .1) ∙ moved i j n o (answer-from ks xs ls ys (i + 1 + n) (j + 1 + o) (left - 1))
+            goes-on = ahead (Yes n o) e n o (counts .0) (counts .1) ∙ moved i j n o (answer-from ks xs ls ys (i + 1 + n) (j + 1 + o) (left - 1));
           }

@@ -6,7 +6,13 @@ use crate::dtype::Cast;
 use crate::dtype::node_cast;
 
 // The given number of fields at the front of either two arrays, left to right: the first no or no verdict decides. Names don't count.
-pub fn field_cast(from_kinds: &[u8], from_args: &[u64], to_kinds: &[u8], to_args: &[u64], count: u64) -> Cast
+pub fn field_cast(
+    from_kinds: &[u8],
+    from_args: &[u64],
+    to_kinds: &[u8],
+    to_args: &[u64],
+    count: u64,
+) -> Cast
     requires { ⌜ ValidRun count (now «from_kinds») (now «from_args») ⌝ }
     requires { ⌜ ValidRun count (now «to_kinds») (now «to_args») ⌝ }
     ensures { λ r. ⌜ r ≡ fieldsAnswer (runAt count (now («from_kinds» .entry)) (now («from_args» .entry))) (runAt count (now («to_kinds» .entry)) (now («to_args» .entry))) ⌝ }
@@ -17,7 +23,12 @@ pub fn field_cast(from_kinds: &[u8], from_args: &[u64], to_kinds: &[u8], to_args
     while left > 0 {
         let from = i + 1;
         let to = j + 1;
-        match node_cast(&from_kinds[from..], &from_args[from..], &to_kinds[to..], &to_args[to..]) {
+        match node_cast(
+            &from_kinds[from..],
+            &from_args[from..],
+            &to_kinds[to..],
+            &to_args[to..],
+        ) {
             Cast::Yes(n, m) => {
                 i = from + n;
                 j = to + m;

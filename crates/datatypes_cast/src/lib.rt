@@ -1,7 +1,7 @@
 // Which casts make sense: `can_cast_to` of dtype.rs.
 pub mod dtype;
 pub mod field;
-pub mod roots;
+mod roots;
 
 ghost use mathlib.Core.Path.{_≡_};
 ghost use Rattle.flat.specs.Reading.{reading};
@@ -43,7 +43,12 @@ impl Verdict {
 }
 
 // Whether the cast makes sense; NoVerdict where the source is not sure.
-pub fn can_cast_to(from_kinds: &[u8], from_args: &[u64], to_kinds: &[u8], to_args: &[u64]) -> Verdict
+pub fn can_cast_to(
+    from_kinds: &[u8],
+    from_args: &[u64],
+    to_kinds: &[u8],
+    to_args: &[u64],
+) -> Verdict
     ensures { λ r. do
       nodes ← ⟦Flat::MAX_NODES⟧ .entry
       deep ← ⟦Flat::MAX_DEPTH⟧ .entry

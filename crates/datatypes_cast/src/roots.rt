@@ -1,10 +1,7 @@
 // What the roots of two types decide, before the arms of nested types.
 ghost use mathlib.Core.Path.{_≡_};
 ghost use mathlib.Core.Bool.{_&&_};
-ghost use lib.Dec.{leb};
-ghost use Rattle.flat.specs.Kind as K;
 ghost use Rattle.datatypes.specs.Predicate.{isPrimitiveNumeric};
-ghost use Rattle.datatypes.specs.Equality.{equalNode};
 ghost use Rattle.datatypes.specs.Cast.{castsWithBoolean};
 ghost use Rattle.datatypes_cast.specs.Walk.{earlyOf, decided, equalLeaves};
 use datatypes::kind::is_primitive_numeric;
@@ -39,7 +36,11 @@ fn equal_leaves(k: u8, a: u64, l: u8, b: u64) -> bool
 fn both_numeric(k: u8, l: u8) -> bool
     ensures { λ r. ⌜ r ≡ (isPrimitiveNumeric k && isPrimitiveNumeric l) ⌝ }
 {
-    if is_primitive_numeric(k) { is_primitive_numeric(l) } else { false }
+    if is_primitive_numeric(k) {
+        is_primitive_numeric(l)
+    } else {
+        false
+    }
 }
 
 // The arm of Boolean: whether it casts to and from a type of this kind.

@@ -3,7 +3,6 @@ use mathlib.Core.Path.{sym, ap, subst}
 use Prim.Native.Nat.{_^_}
 use native.Mathlib.Omega.{arith}
 use borrow.Author.Needs.{needs}
-use Rattle.datatypes_cast.specs.declared.dtype.Cast.{Cast}
 use Rattle.datatypes_cast.specs.Walk.{castAfter, Within}
 use Rattle.datatypes_cast.proofs.dtype.under.Statement.{statement}
 use Rattle.datatypes_cast.proofs.dtype.under.Tie as tie
