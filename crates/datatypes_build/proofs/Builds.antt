@@ -5,15 +5,14 @@ use Prim.Native.Nat.{ℕ, suc, _+_, _-_, _≤_, _<_}
 use native.Mathlib.Omega.{arith}
 use native.Mathlib.Nat.{zero-add, add-zero}
 use native.Mathlib.Numerals.{add-one}
-use lib.ListN.{length, getD, drop, set, take-append-drop}
-use lib.Seq.{drop-drop, getD-drop}
+use lib.ListN.{length, getD, set, take-append-drop}
 use Rattle.flat.specs.Kind
 use Rattle.flat.specs.Tree.{DataType, leaf, Fields, field, size, sizes, count, kindsOf, kindsOfs, argsOf, argsOfs, headKind}
 use Rattle.flat.specs.Walk.{Valid, ValidRun, typeAt, runAt}
 use Rattle.flat.specs.Output.{over}
 use Rattle.flat.proofs.Sizes.{length-kinds, length-kindss, length-args}
-use Rattle.flat.proofs.Positions.{rest}
-use Rattle.flat.proofs.Walks.{from, Unary, is-list, is-array, type-leaf, type-one, one-nodes, type-struct, struct-nodes, struct-count, run-end, run-field, field-nodes, field-valid, others-valid}
+use Rattle.flat.proofs.Walks.{from, Unary, is-list, is-array, type-leaf, type-one, one-nodes, type-struct, struct-nodes, struct-count, run-end}
+use Rattle.flat.proofs.Onward.{from-zero, next-run, next-field, next-nodes}
 use Rattle.datatypes_build.specs.Leaf.{leafOf, mapLeaves, mapFields, keptArg, Room, Built, BuiltType, BuiltFields}
 use Rattle.datatypes_build.specs.declared.leaf.Form.{Form}
 use Rattle.datatypes_build.proofs.Leaves.{leaf-is}
@@ -68,16 +67,6 @@ module _ (form : Form) {ks xs : List ℕ} (v : Valid ks xs) {K A : List ℕ} (o 
 
 -- ---- the field walk
 
--- parts of parts
-from-from : (i j k : ℕ) (l : List ℕ) → k ≡ j + i → from i (from j l) ≡ from k l
-from-from i j k l e = rest (from j l) i ∙ ap (drop i) (rest l j) ∙ drop-drop i j l ∙ ap (λ (n : ℕ). drop n l) (sym e) ∙ sym (rest l k)
-
-from-first : (j : ℕ) (l : List ℕ) → getD (from j l) 0 0 ≡ getD l j 0
-from-first j l = ap (λ (d : List ℕ). getD d 0 0) (rest l j) ∙ getD-drop j l 0 0 ∙ ap (λ (i : ℕ). getD l i 0) (add-zero j)
-
-from-zero : (l : List ℕ) → from 0 l ≡ l
-from-zero l = rest l 0
-
 -- Of the m fields at the front, `left` are left, from the place `at` on. All of them over what the two arrays held at first comes to those that are left,
 -- from there on, over what the arrays hold now.
 pub record Along (form : Form) (m : ℕ) (ks xs K₀ A₀ : List ℕ) (at left : ℕ) (K A : List ℕ) : Type 0 where
@@ -107,29 +96,14 @@ module _ {form : Form} {m : ℕ} {ks xs K₀ A₀ : List ℕ} {at left : ℕ} {K
       }
 
   module _ (p : left ≡ 0 → ⊥) where
-    pub next-valid : Valid (from (at + 1) ks) (from (at + 1) xs)
-    next-valid = rw (from-from 1 at (at + 1) ks refl, from-from 1 at (at + 1) xs refl) at (field-valid left (from at ks) (from at xs) (a .others) p)
-
-    module _ (n : ℕ) (e : n ≡ size (typeAt (from (at + 1) ks) (from (at + 1) xs))) where
-      past : (l : List ℕ) → from (n + 1) (from at l) ≡ from (at + 1 + n) l
-      past l = from-from (n + 1) at (at + 1 + n) l (omega arith)
-
-      here : n ≡ size (typeAt (from 1 (from at ks)) (from 1 (from at xs)))
-      here = rw (from-from 1 at (at + 1) ks refl, from-from 1 at (at + 1) xs refl) e
-
-      pub next-run : ValidRun (left - 1) (from (at + 1 + n) ks) (from (at + 1 + n) xs)
-      next-run = rw (past ks, past xs) at (others-valid left (from at ks) (from at xs) (a .others) p n here)
-
-      next-field : runAt left (from at ks) (from at xs) ≡ field (getD xs at 0) (typeAt (from (at + 1) ks) (from (at + 1) xs)) (runAt (left - 1) (from (at + 1 + n) ks) (from (at + 1 + n) xs))
-      next-field = run-field left (from at ks) (from at xs) (a .others) p n here ∙ rw (from-first at xs, from-from 1 at (at + 1) ks refl, from-from 1 at (at + 1) xs refl, past ks, past xs)
-
-      pub next-nodes : sizes (runAt m ks xs) ≡ at + 1 + n + sizes (runAt (left - 1) (from (at + 1 + n) ks) (from (at + 1 + n) xs))
-      next-nodes = a .nodes ∙ rw (field-nodes left (from at ks) (from at xs) (a .others) p n here, past ks, past xs) (omega arith)
+    -- how many nodes all fields have, the next of n nodes
+    pub all-nodes : (n : ℕ) → n ≡ size (typeAt (from (at + 1) ks) (from (at + 1) xs)) → sizes (runAt m ks xs) ≡ at + 1 + n + sizes (runAt (left - 1) (from (at + 1 + n) ks) (from (at + 1 + n) xs))
+    all-nodes n e = a .nodes ∙ rw (next-nodes left at ks xs (a .others) p n e) (omega arith)
 
     module _ (o : Room (sizes (runAt m ks xs)) K₀ A₀) (lk : length K ≡ length K₀) (la : length A ≡ length A₀) where
       pub next-room : Room (size (typeAt (from (at + 1) ks) (from (at + 1) xs))) (from (at + 1) (set K at Kind.Field)) (from (at + 1) (set A at (getD xs at 0)))
       next-room =
-          let n = next-nodes (size (typeAt (from (at + 1) ks) (from (at + 1) xs))) refl in
+          let n = all-nodes (size (typeAt (from (at + 1) ks) (from (at + 1) xs))) refl in
           record { kinds = omega (arith, part-set K at Kind.Field (at + 1)); args = omega (arith, part-set A at (getD xs at 0) (at + 1)) }
 
       -- a field is done
@@ -139,11 +113,11 @@ module _ {form : Form} {m : ℕ} {ks xs K₀ A₀ : List ℕ} {at left : ℕ} {K
           let t : DataType = typeAt (from (at + 1) ks) (from (at + 1) xs) in
           let e = built-size form t w in
           let g : Fields = runAt (left - 1) (from (at + 1 + n) ks) (from (at + 1 + n) xs) in
-          let f = next-field n e in
-          let i = next-nodes n e in
+          let f = next-field left at ks xs (a .others) p n e in
+          let i = all-nodes n e in
           record {
-            others = next-run n e;
-            nodes = next-nodes n e;
+            others = next-run left at ks xs (a .others) p n e;
+            nodes = all-nodes n e;
             kinds = a .kinds ∙ ap (λ (h : Fields). toBe at (kindsOfs (mapFields (leafOf form) h)) K) f ∙ sym (next K at Kind.Field (kindsOf (mapLeaves (leafOf form) t)) L (omega arith) (w .kinds) (kindsOfs (mapFields (leafOf form) g)) n (w .nodes));
             args = a .args ∙ ap (λ (h : Fields). toBe at (argsOfs (mapFields (leafOf form) h)) A) f ∙ sym (next A at (getD xs at 0) (argsOf (mapLeaves (leafOf form) t)) M (omega arith) (w .args) (argsOfs (mapFields (leafOf form) g)) n (e ∙ sym (length-args (mapLeaves (leafOf form) t) ∙ size-map form t)));
           }
