@@ -1,6 +1,7 @@
 //! Random inputs of the differential runs.
 
 use crate::damage;
+use crate::differential::Differential;
 use crate::flat::Flat;
 use crate::grow::{grow_of, LEAST_ROOM, LEAVES};
 use crate::input::Input;
@@ -43,7 +44,7 @@ const CHANGING: [u8; 9] =
     [DECIMAL, DATE, DATETIME, DURATION, TIME, UNKNOWN_STR, UNKNOWN_FLOAT, UNKNOWN_INT_POS, UNKNOWN_INT_NEG];
 
 /// A valid type of a size as they are drawn.
-pub fn flat(random: &mut Random) -> Flat {
+fn flat(random: &mut Random) -> Flat {
     let mut left = random.below(100);
     let mut sizes = SIZES.into_iter().zip(SHARES);
     let sizes = sizes.find_map(|(sizes, share)| match left.checked_sub(share) {
@@ -65,31 +66,35 @@ pub fn flat_of(random: &mut Random, size: usize) -> Flat {
     grow_of(random, size, room, leaves).flat
 }
 
+/// One round of the long run: every entry point, those of two types four times.
+pub fn round(differential: &mut Differential, random: &mut Random) {
+    differential.one(&input(random));
+    for _ in 0..4 {
+        let (left, right) = pair(random);
+        differential.two(&left, &right);
+    }
+    differential.time_units(random.below(5) as u8, random.below(5) as u8);
+}
+
 /// A type, or one of ten times something damaged.
-pub fn input(random: &mut Random) -> Input {
+fn input(random: &mut Random) -> Input {
     let flat = flat(random);
     damaged_at_times(flat, random, 10)
 }
 
 /// Two types: related in most cases, or one of them or both damaged.
-pub fn pair(random: &mut Random) -> (Input, Input) {
+fn pair(random: &mut Random) -> (Input, Input) {
     let flat = flat(random);
-    pair_with(flat, random)
-}
-
-/// The same with this type, on either side.
-pub fn pair_with(flat: Flat, random: &mut Random) -> (Input, Input) {
-    let other = relative(&flat, random);
+    let other = if random.chance(5) { self::flat(random) } else { relative(&flat, random) };
     let (left, right) = if random.chance(70) { (flat, other) } else { (other, flat) };
     (damaged_at_times(left, random, 4), damaged_at_times(right, random, 4))
 }
 
-/// A type related to this one, or in a few cases not.
-fn relative(flat: &Flat, random: &mut Random) -> Flat {
-    let mut other = match random.below(20) {
-        0 => self::flat(random),
-        1..=4 => part(flat, random),
-        5..=11 => castable(flat, random),
+/// A type related to this one: it, a part of it or one to which it casts, with a change or without.
+pub fn relative(flat: &Flat, random: &mut Random) -> Flat {
+    let mut other = match random.below(5) {
+        0 => part(flat, random),
+        1 | 2 => castable(flat, random),
         _ => flat.clone(),
     };
     for _ in 0..random.pick(&[0, 1, 1, 1, 2, 3]) {

@@ -18,7 +18,7 @@ impl Input {
     pub fn new(bytes: Vec<u8>) -> Input {
         let dtype = plain::check_encoded(&bytes).map(|()| Type::decode(&bytes)).map_err(|refusal| refusal as u64);
         if let Ok(dtype) = &dtype {
-            assert_eq!(hex(&dtype.encode()), hex(&bytes), "the oracle has another type than this");
+            assert!(dtype.encode() == bytes, "the oracle reads {} as another type", hex(&bytes));
         }
         Input { bytes, dtype }
     }

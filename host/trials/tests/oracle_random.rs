@@ -119,11 +119,7 @@ fn types_as_the_long_run_draws_them() {
     }
     let (mut differential, mut random) = (Differential::default(), Random::new(16));
     for _ in 0..60_000 {
-        differential.one(&draw::input(&mut random));
-        for _ in 0..4 {
-            let (left, right) = draw::pair(&mut random);
-            differential.two(&left, &right);
-        }
+        draw::round(&mut differential, &mut random);
     }
     let of_number = differential.report("types as the long run draws them");
     assert!([0, 1, 2, 3, 4, 7, 8].iter().all(|&number| of_number[number] > 1000));
