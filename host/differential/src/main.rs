@@ -2,7 +2,7 @@
 //! made (20 million by default) or one shows a difference; then the status is 1 and the input is shown. One comparison
 //! is what `trials::differential` says: one call of one entry point on one input with one length of output.
 //!
-//! `differential --record N`: prints N of the oracle's answers, see [`record`].
+//! `differential --record N`: prints N or somewhat more of the oracle's answers, see [`record`].
 
 #![forbid(unsafe_code)]
 

@@ -24,10 +24,11 @@ pub fn has_oracle() -> bool {
     oracle::AVAILABLE
 }
 
-/// Compares, and counts the comparisons by the number that they came to.
+/// Compares, and counts the comparisons by the number that they came to, and those of two types by what they said.
 #[derive(Default)]
 pub struct Differential {
     of_number: [u64; 9],
+    said: [[u64; 3]; RELATIONS.len()],
     out: Vec<u8>,
 }
 
@@ -49,8 +50,10 @@ impl Differential {
     /// Every entry point of two types.
     pub fn two(&mut self, left: &Input, right: &Input) {
         let _shown = Shown(&[left, right]);
-        for relation in &RELATIONS {
-            self.relation(relation, left, right);
+        for (relation, at) in RELATIONS.iter().zip(0..) {
+            if let Ok(verdict) = self.relation(relation, left, right) {
+                self.said[at][verdict.map_or(2, usize::from)] += 1;
+            }
         }
     }
 
@@ -70,7 +73,15 @@ impl Differential {
     /// Prints how many comparisons there were, and gives how many of them came to each number from 0 to 8.
     pub fn report(&self, what: &str) -> [u64; 9] {
         println!("{what}: {} comparisons, by number from 0 to 8: {:?}", self.count(), self.of_number);
+        for (relation, said) in RELATIONS.iter().zip(self.said).filter(|(_, said)| *said != [0; 3]) {
+            println!("  {} said no, yes, no verdict: {said:?}", relation.name);
+        }
         self.of_number
+    }
+
+    /// How often `can_cast_to` said no, yes and no verdict.
+    pub fn verdicts(&self) -> [u64; 3] {
+        self.said[RELATIONS.len() - 1]
     }
 
     fn predicate(&mut self, predicate: &Predicate, input: &Input) {
@@ -78,12 +89,13 @@ impl Differential {
         self.settle(predicate.name, (predicate.port)(&input.bytes), expected);
     }
 
-    fn relation(&mut self, relation: &Relation, left: &Input, right: &Input) {
+    fn relation(&mut self, relation: &Relation, left: &Input, right: &Input) -> Result<Option<bool>, u64> {
         let expected = match (&left.dtype, &right.dtype) {
             (Ok(left), Ok(right)) => Ok((relation.oracle)(left, right)),
             (Err(number), _) | (_, Err(number)) => Err(*number),
         };
         self.settle(relation.name, (relation.port)(&left.bytes, &right.bytes), expected);
+        expected
     }
 
     fn shape(&mut self, input: &Input) {

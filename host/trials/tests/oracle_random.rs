@@ -34,11 +34,9 @@ fn types_around_the_depth_limit() {
     for size in 20..=512 {
         for _ in 0..20 {
             let room = random.between(31, 34);
-            let left = Input::from(&grow(&mut random, size, room).flat);
-            let right = Input::from(&castable(&draw::flat_of(&mut random, size), &mut random));
-            differential.one(&left);
-            differential.two(&left, &right);
-            differential.two(&right, &left);
+            let flat = grow(&mut random, size, room).flat;
+            differential.one(&Input::from(&flat));
+            both_ways(&mut differential, &flat, &castable(&flat, &mut random));
         }
     }
     let of_number = differential.report("types around the depth limit");
@@ -85,6 +83,7 @@ fn casts_and_parts_of_every_size() {
     }
     let of_number = differential.report("casts and parts of every size");
     assert_eq!(of_number[2..5], [0; 3]);
+    assert!(differential.verdicts().iter().all(|&count| count > 1000));
 }
 
 /// The lowest number of the left type, then of the right: either is damaged, or both are.
