@@ -119,10 +119,13 @@ fn other_leaf(flat: &mut Flat, random: &mut Random) {
     }
 }
 
-/// Gives some node of these kinds another argument.
+/// Gives some node of these kinds another argument, one bit away at times.
 fn other_argument_of(flat: &mut Flat, random: &mut Random, kinds: &[u8]) {
     if let Some(at) = place(flat, random, |kind, _| kinds.contains(&kind)) {
-        flat.args[at] = arguments::valid(flat.kinds[at], random);
+        let kind = flat.kinds[at];
+        let near = random.chance(50);
+        flat.args[at] =
+            if near { arguments::nearest(kind, flat.args[at], random) } else { arguments::valid(kind, random) };
     }
 }
 
