@@ -1,11 +1,13 @@
 //! `differential [--seed S] [--count N]`: the port beside the crate's own text on random inputs, until N comparisons are
 //! made (20 million by default) or one shows a difference; then the status is 1 and the input is shown. One comparison
-//! is what `trials::differential` says: one call of one entry point on one input with one length of output.
+//! is what `trials::differential` says: one call of one entry point on one input with one length of output. Without a
+//! source of the crate the status is 2.
 //!
-//! `differential --record N`: prints N or somewhat more of the oracle's answers, see [`record`].
+//! `differential --record N`: prints N or somewhat more of the oracle's answers, see [`answers`].
 
 #![forbid(unsafe_code)]
 
+mod answers;
 mod options;
 mod record;
 

@@ -4,7 +4,6 @@ use lomzegash::dtype;
 use lomzegash::kind::*;
 use lomzegash::Error;
 use oracle::Type;
-use trials::differential::has_oracle;
 use trials::flat::Flat;
 
 const YES: Option<bool> = Some(true);
@@ -100,7 +99,6 @@ fn shape(of: &Flat, expected: Option<&[u64]>) {
 
 #[test]
 fn corner_11_an_empty_struct_casts_to_any_struct() {
-    has_oracle();
     let empty = Flat::wide_struct(0);
     let two = fields(0, &[leaf(BOOLEAN), leaf(DATE)]);
     casts(&empty, &empty, YES);
@@ -115,7 +113,6 @@ fn corner_11_an_empty_struct_casts_to_any_struct() {
 
 #[test]
 fn corner_12_the_first_no_or_no_verdict_decides() {
-    has_oracle();
     let from = fields(0, &[leaf(BOOLEAN), leaf(INT8)]);
     casts(&leaf(INT8), &leaf(STRING), NO_VERDICT);
     casts(&from, &fields(0, &[leaf(NULL), leaf(STRING)]), NO);
@@ -128,7 +125,6 @@ fn corner_12_the_first_no_or_no_verdict_decides() {
 
 #[test]
 fn corner_13_arrays_of_unequal_width_do_not_cast() {
-    has_oracle();
     casts(&array(2, &leaf(INT8)), &array(3, &leaf(STRING)), NO);
     casts(&array(2, &leaf(INT8)), &array(3, &leaf(INT8)), NO);
     casts(&array(2, &leaf(INT8)), &array(2, &leaf(INT16)), YES);
@@ -139,7 +135,6 @@ fn corner_13_arrays_of_unequal_width_do_not_cast() {
 
 #[test]
 fn corner_14_boolean_does_not_cast_to_null_but_null_to_boolean() {
-    has_oracle();
     casts(&leaf(BOOLEAN), &leaf(NULL), NO);
     casts(&leaf(NULL), &leaf(BOOLEAN), YES);
     casts(&leaf(NULL), &Flat::wide_struct(3), YES);
@@ -148,7 +143,6 @@ fn corner_14_boolean_does_not_cast_to_null_but_null_to_boolean() {
 
 #[test]
 fn corner_15_what_becomes_of_unknown_types() {
-    has_oracle();
     let (int31, int63) = (1 << 31, 1 << 63);
     let dyns = [
         (UNKNOWN_INT_POS, 0, INT32),
@@ -189,7 +183,6 @@ fn corner_15_any_is_refused_before_a_short_output() {
 
 #[test]
 fn corner_16_the_physical_forms() {
-    has_oracle();
     let forms = [
         ((DATE, 0), INT32),
         ((DATETIME, 0), INT64),
@@ -211,7 +204,6 @@ fn corner_16_the_physical_forms() {
 
 #[test]
 fn corner_17_leaf_types_and_shapes() {
-    has_oracle();
     let inner = fields(0, &[list(&leaf(INT8))]);
     leaf_dtype(&list(&array(3, &list(&leaf(DATE)))), &leaf(DATE));
     leaf_dtype(&array(3, &list(&inner)), &inner);
