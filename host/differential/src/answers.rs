@@ -7,7 +7,7 @@
 //! | entry | what | input | value | result |
 //! |---|---|---|---|---|
 //! | 1 | check | type | 0 | |
-//! | 2 to 15 | the predicates in the order of `trials::entries::PREDICATES` | type | 0 no, 1 yes | |
+//! | 2 to 15 | the predicates below, in this order | type | 0 no, 1 yes | |
 //! | 16, 17, 18 | equal, contains_dtype_recursive, can_cast_to | left type, right type | 0 no, 1 yes, 2 no verdict | |
 //! | 19, 20, 21, 22 | inner_dtype, leaf_dtype, array_leaf_dtype, to_physical | type, room | nodes of the result, 0 for None | its kinds, its arguments |
 //! | 23 | materialize_unknown | type, allow_unknown (0 or 1), room | the same | the same |
@@ -17,6 +17,10 @@
 //! A type is the number of its kinds, the kinds, the number of its arguments, the arguments; the two numbers differ only
 //! where the call is refused for it. Room is how many nodes an output can hold. Number is 0 or the refusal's; beside a
 //! refusal the value is 0 and there is no result. A line of the single number 0 is the last.
+//!
+//! The predicates: is_nested 2, is_known 3, is_logical 4, is_primitive 5, is_primitive_numeric 6, is_temporal 7, is_float
+//! 8, is_integer 9, is_signed_integer 10, is_unsigned_integer 11, is_string 12, is_unknown 13, contains_unknown 14,
+//! contains_list_recursive 15.
 //!
 //! Numbers 1 to 5 are document 01's by the plain Rust, 8 follows from the room, all else is the oracle's.
 
