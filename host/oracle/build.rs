@@ -54,7 +54,7 @@ fn main() {
 
 fn compile(folder: Option<Folder>) -> Result<(), String> {
     let Some(folder) = folder else {
-        // Never there, so that this script runs again and sees the text come.
+        // It isn't there, so that cargo runs this script every time, and the text is seen when it comes.
         println!("cargo::rerun-if-changed={}", sources::DEFAULT);
         return Ok(());
     };

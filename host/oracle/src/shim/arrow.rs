@@ -1,4 +1,4 @@
-//! Arrow's types, to and from which the text converts; no run does.
+//! Arrow's types, to and from which the text converts. No run does, so keys and names are any texts.
 
 pub mod datatypes {
     use crate::shim::polars_utils::pl_str::PlSmallStr;

@@ -1,4 +1,12 @@
 //! Traits of numbers.
 
-/// Imported for `is_negative`, which an `i128` has by itself.
-pub trait Signed {}
+pub trait Signed {
+    /// Whether the number is below zero.
+    fn is_negative(&self) -> bool;
+}
+
+impl Signed for i128 {
+    fn is_negative(&self) -> bool {
+        *self < 0
+    }
+}

@@ -1,7 +1,8 @@
 //! Decimals of 128 bits.
 
 pub mod decimal {
-    /// The most digits of a Decimal.
+    /// The most digits of a Decimal: so `DataType::Decimal` says in dtype.rs, and document 01. The supertype of a
+    /// Decimal and a dyn int has this precision.
     pub const DEC128_MAX_PREC: usize = 38;
 
     /// A whole number as a Decimal of this precision and scale, value × 10^scale, if it has room.
