@@ -4,12 +4,15 @@ use crate::input::Input;
 use lomzegash::{dtype, Error};
 use oracle::Type;
 
+/// What the port answers, or its refusal.
+type Answer<T> = Result<T, Error>;
+
 /// An entry point that says yes or no of one type.
 pub struct Predicate {
     /// The source's name.
     pub name: &'static str,
     /// The port's call.
-    pub port: fn(&[u8]) -> Result<bool, Error>,
+    pub port: fn(&[u8]) -> Answer<bool>,
     /// The oracle's call.
     pub oracle: fn(&Type) -> bool,
 }
@@ -32,7 +35,7 @@ pub struct Relation {
     /// The source's name.
     pub name: &'static str,
     /// The port's call.
-    pub port: fn(&[u8], &[u8]) -> Result<Option<bool>, Error>,
+    pub port: fn(&[u8], &[u8]) -> Answer<Option<bool>>,
     /// The oracle's call.
     pub oracle: fn(&Type, &Type) -> Option<bool>,
 }
@@ -67,7 +70,7 @@ pub struct Writer {
     /// The source's name.
     pub name: &'static str,
     /// The port's call.
-    pub port: fn(&[u8], &mut [u8]) -> Result<Option<usize>, Error>,
+    pub port: fn(&[u8], &mut [u8]) -> Answer<Option<usize>>,
     /// The oracle's call, of an input that is a type.
     pub oracle: fn(&Input, &Type) -> Outcome,
 }
