@@ -33,7 +33,7 @@ pub struct Differential {
 }
 
 impl Differential {
-    /// Every entry point of one type: as many comparisons as document 01 leaves lengths of output to try.
+    /// Every entry point of one type, those that write a type with several lengths of output.
     pub fn one(&mut self, input: &Input) {
         let _shown = Shown(&[input]);
         let checked = input.dtype.as_ref().map(|_| ()).map_err(|&number| number);

@@ -8,13 +8,27 @@ use crate::input::Input;
 use crate::random::Random;
 use crate::relatives::{castable, part, CHANGES};
 use lomzegash::kind::*;
-use std::ops::RangeInclusive;
 
-/// Sizes of types, as they are drawn in turn: most are small, since there a difference shows as well and sooner.
-const SIZES: [RangeInclusive<usize>; 6] = [1..=1, 1..=4, 2..=12, 5..=24, 13..=100, 100..=512];
-
-/// How often each of the sizes is drawn, in a hundred.
-const SHARES: [usize; 6] = [15, 30, 30, 15, 7, 3];
+/// The least and the most nodes of a type, one of these as likely as another: most types are small, since there a
+/// difference shows as well and sooner.
+const SIZES: [(usize, usize); 16] = [
+    (1, 1),
+    (1, 1),
+    (1, 4),
+    (1, 4),
+    (1, 4),
+    (1, 4),
+    (1, 4),
+    (2, 12),
+    (2, 12),
+    (2, 12),
+    (2, 12),
+    (2, 12),
+    (5, 24),
+    (5, 24),
+    (13, 100),
+    (100, 512),
+];
 
 /// Leaves that are known and physical: the types of these hold neither what is materialised nor what is logical.
 const PHYSICAL: [u8; 19] = [
@@ -45,17 +59,8 @@ const CHANGING: [u8; 9] =
 
 /// A valid type of a size as they are drawn.
 fn flat(random: &mut Random) -> Flat {
-    let mut left = random.below(100);
-    let mut sizes = SIZES.into_iter().zip(SHARES);
-    let sizes = sizes.find_map(|(sizes, share)| match left.checked_sub(share) {
-        Some(rest) => {
-            left = rest;
-            None
-        }
-        None => Some(sizes),
-    });
-    let sizes = sizes.expect("the shares make a hundred");
-    let size = random.between(*sizes.start(), *sizes.end());
+    let (least, most) = random.pick(&SIZES);
+    let size = random.between(least, most);
     flat_of(random, size)
 }
 
