@@ -40,19 +40,20 @@ fn beside_plain(inputs: &[(&str, Flat)]) {
 
 fn beside_the_crate(inputs: &[(&str, Flat)]) {
     println!(
-        "{:<28} {:>5}  {:<19} {:>9} {:>9} {:>6} {:>9} {:>6}",
-        "input", "nodes", "call", "proved ns", "crate ns", "ratio", "ready ns", "ratio"
+        "{:<28} {:>5}  {:<19} {:>9} {:>9} {:>6} {:>9} {:>9} {:>6}",
+        "input", "nodes", "call", "bytes ns", "crate ns", "ratio", "flat ns", "crate ns", "ratio"
     );
     for (name, flat) in inputs {
-        for (call, bytes, ready) in rules::rows(flat) {
+        for (call, bytes, kept) in rules::rows(flat) {
             let nodes = flat.kinds.len();
             println!(
-                "{name:<28} {nodes:>5}  {call:<19} {:>9.1} {:>9.1} {:>6.2} {:>9.1} {:>6.2}",
+                "{name:<28} {nodes:>5}  {call:<19} {:>9.1} {:>9.1} {:>6.2} {:>9.1} {:>9.1} {:>6.2}",
                 bytes.0,
                 bytes.1,
                 bytes.0 / bytes.1,
-                ready.1,
-                ready.0 / ready.1
+                kept.0,
+                kept.1,
+                kept.0 / kept.1
             );
         }
     }

@@ -1,12 +1,14 @@
 //! The rules of the port, beside the crate's own text.
 //!
-//! The port's entry points take encoded types. The crate's text is timed in two ways: on the same bytes, so that it
-//! reads them into its own types, is called, and writes the result as bytes; and on types that are ready, where the call
-//! is all. To read bytes is also to make the texts of the names, which the port keeps as numbers.
+//! Each is timed twice. From bytes: the crate's text reads them into its own types, is called, and writes the result as
+//! bytes; to read bytes is also to make the texts of the names, which the port keeps as numbers. And from what either
+//! keeps a type in: the port from flat types, which it checks at every call, and the crate's text from its `DataType`, which is a
+//! type by construction.
 
 use crate::timing::best;
-use lomzegash::dtype;
+use lomzegash::flat::{self, Nodes, Output};
 use lomzegash::kind::*;
+use lomzegash::{dtype, Error};
 use oracle::Type;
 use std::hint::black_box;
 use trials::flat::Flat;
@@ -14,74 +16,100 @@ use trials::flat::Flat;
 /// Nanoseconds of a call of the port and of the crate's text.
 type Times = (f64, f64);
 
-/// A timed call: its name, the times on bytes, and the times where the crate's types are ready.
+/// A timed call: its name, the times from bytes, and the times from what either keeps a type in.
 pub type Row = (&'static str, Times, Times);
 
 /// Every timed call on a type that is known.
-pub fn rows(flat: &Flat) -> [Row; 5] {
-    let (from, to) = (flat.laid_out(), with_leaves(flat, cast).laid_out());
-    let unknown = with_leaves(flat, forget).laid_out();
+pub fn rows(from: &Flat) -> [Row; 5] {
+    let (to, unknown) = (with_leaves(from, cast), with_leaves(from, forget));
     [
-        two_types("equal", &from, &from.clone(), dtype::equal, Type::equal),
-        one_type("is_known", &from),
+        two_types("equal", from, &from.clone(), dtype::equal, flat::equal, Type::equal),
+        one_type("is_known", from),
         two_types(
             "can_cast_to",
-            &from,
+            from,
             &to,
             |from, to| dtype::can_cast_to(from, to).map(|verdict| verdict == Some(true)),
+            |from, to| flat::can_cast_to(from, to).map(|verdict| verdict == Some(true)),
             |from, to| from.can_cast_to(to) == Some(true),
         ),
         writer(
             "materialize_unknown",
             &unknown,
             |encoded, out| dtype::materialize_unknown(encoded, false, out),
+            |nodes, out| flat::materialize_unknown(nodes, false, out),
             // The crate's call takes its type, so where the type is ready a clone is a part of it.
             |dtype| dtype.clone().materialize_unknown(false).expect("there is no any"),
         ),
-        writer("to_physical", &from, dtype::to_physical, Type::to_physical),
+        writer("to_physical", from, dtype::to_physical, flat::to_physical, Type::to_physical),
     ]
 }
 
-fn one_type(name: &'static str, encoded: &[u8]) -> Row {
-    let port = || dtype::is_known(black_box(encoded)) == Ok(true);
+fn nodes(flat: &Flat) -> Nodes<'_> {
+    (&flat.kinds, &flat.args)
+}
+
+fn one_type(name: &'static str, flat: &Flat) -> Row {
+    let encoded = &flat.laid_out()[..];
     let ready = Type::decode(encoded);
-    (name, best(port, || Type::decode(black_box(encoded)).is_known()), best(port, || black_box(&ready).is_known()))
+    (
+        name,
+        best(|| dtype::is_known(black_box(encoded)) == Ok(true), || Type::decode(black_box(encoded)).is_known()),
+        best(|| flat::is_known(nodes(black_box(flat))) == Ok(true), || black_box(&ready).is_known()),
+    )
 }
 
 /// A call that says yes of these two types.
 fn two_types(
     name: &'static str,
-    left: &[u8],
-    right: &[u8],
-    port: fn(&[u8], &[u8]) -> Result<bool, lomzegash::Error>,
+    left: &Flat,
+    right: &Flat,
+    on_bytes: fn(&[u8], &[u8]) -> Result<bool, Error>,
+    on_nodes: fn(Nodes, Nodes) -> Result<bool, Error>,
     crates: fn(&Type, &Type) -> bool,
 ) -> Row {
-    let port = || port(black_box(left), black_box(right)) == Ok(true);
-    let (ready_left, ready_right) = (Type::decode(left), Type::decode(right));
+    let (l, r) = (&left.laid_out()[..], &right.laid_out()[..]);
+    let (ready_left, ready_right) = (Type::decode(l), Type::decode(r));
     (
         name,
-        best(port, || crates(&Type::decode(black_box(left)), &Type::decode(black_box(right)))),
-        best(port, || crates(black_box(&ready_left), black_box(&ready_right))),
+        best(
+            || on_bytes(black_box(l), black_box(r)) == Ok(true),
+            || crates(&Type::decode(black_box(l)), &Type::decode(black_box(r))),
+        ),
+        best(
+            || on_nodes(nodes(black_box(left)), nodes(black_box(right))) == Ok(true),
+            || crates(black_box(&ready_left), black_box(&ready_right)),
+        ),
     )
 }
 
 /// A call that writes a type of as many nodes as it was given.
 fn writer(
     name: &'static str,
-    encoded: &[u8],
-    port: fn(&[u8], &mut [u8]) -> Result<usize, lomzegash::Error>,
+    flat: &Flat,
+    on_bytes: fn(&[u8], &mut [u8]) -> Result<usize, Error>,
+    on_nodes: fn(Nodes, Output) -> Result<usize, Error>,
     crates: fn(&Type) -> Type,
 ) -> Row {
-    let mut out = vec![0; encoded.len()];
-    let mut port = || port(black_box(encoded), black_box(&mut out)) == Ok(encoded.len());
+    let encoded = &flat.laid_out()[..];
+    let (mut out, mut new) = (encoded.to_vec(), flat.clone());
     let ready = Type::decode(encoded);
     (
         name,
-        best(&mut port, || crates(&Type::decode(black_box(encoded))).encode().len() == encoded.len()),
-        best(&mut port, || {
-            black_box(crates(black_box(&ready)));
-            true
-        }),
+        best(
+            || on_bytes(black_box(encoded), black_box(&mut out)) == Ok(encoded.len()),
+            || crates(&Type::decode(black_box(encoded))).encode().len() == encoded.len(),
+        ),
+        best(
+            || {
+                let new = black_box(&mut new);
+                on_nodes(nodes(black_box(flat)), (&mut new.kinds, &mut new.args)) == Ok(flat.kinds.len())
+            },
+            || {
+                black_box(crates(black_box(&ready)));
+                true
+            },
+        ),
     )
 }
 

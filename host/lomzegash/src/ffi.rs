@@ -1,6 +1,7 @@
 //! The archive's C interface, as include/lomzegash.h declares it, behind safe functions. All unsafe code is here.
 
 pub(crate) mod dtype;
+pub(crate) mod flat;
 mod reply;
 
 use crate::Error;

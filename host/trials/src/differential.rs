@@ -45,6 +45,7 @@ impl Differential {
         for writer in &WRITERS {
             self.writer(writer, input);
         }
+        self.flat_one(input);
     }
 
     /// Every entry point of two types.
@@ -55,6 +56,7 @@ impl Differential {
                 self.said[at][verdict.map_or(2, usize::from)] += 1;
             }
         }
+        self.flat_two(left, right);
     }
 
     /// The entry point of two time units.
@@ -139,7 +141,12 @@ impl Differential {
     }
 
     /// The port's answer must be the expected one, the refusal's number included.
-    fn settle<T: PartialEq + Debug>(&mut self, name: &str, port: Result<T, Error>, expected: Result<T, u64>) {
+    pub(crate) fn settle<T: PartialEq + Debug>(
+        &mut self,
+        name: &str,
+        port: Result<T, Error>,
+        expected: Result<T, u64>,
+    ) {
         let number = expected.as_ref().err().copied().unwrap_or(0);
         assert_eq!(port.map_err(Error::number), expected, "{name}: the port's answer and the expected one");
         self.of_number[number as usize] += 1;

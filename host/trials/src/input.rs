@@ -2,6 +2,7 @@
 
 use crate::flat::Flat;
 use lomzegash::kind::UNKNOWN_ANY;
+use lomzegash::Error;
 use oracle::Type;
 use std::thread;
 
@@ -21,6 +22,12 @@ impl Input {
             assert!(dtype.encode() == bytes, "the oracle reads {} as another type", hex(&bytes));
         }
         Input { bytes, dtype }
+    }
+
+    /// The kinds and the arguments; None where the bytes have the length of none.
+    pub fn nodes(&self) -> Option<Flat> {
+        let no_length = matches!(self.dtype, Err(number) if number == Error::Length.number());
+        (!no_length).then(|| Flat::read(&self.bytes))
     }
 
     /// Whether the unknown type `any` is a part of the type.

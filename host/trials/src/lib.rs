@@ -11,6 +11,7 @@ pub mod differential;
 pub mod draw;
 pub mod entries;
 pub mod flat;
+mod flat_calls;
 pub mod grow;
 pub mod input;
 pub mod leaves;
