@@ -14,13 +14,14 @@ const ROOMS: [Room; 4] = [|_| 0, |nodes| nodes - 1, |nodes| nodes, |nodes| nodes
 /// Sizes of the types that are drawn: lines stay short.
 const SIZES: [usize; 9] = [1, 1, 2, 3, 4, 5, 6, 8, 12];
 
-/// At least so many lines, the same ones every time: first each limit and refusal, then random calls of each entry point
-/// in turn, then the last line.
+/// At least so many lines, the same ones every time: first each limit, refusal and kind of leaf, then random calls of each
+/// entry point in turn, then the last line.
 pub fn lines(count: usize) -> Vec<String> {
     let mut answers = Answers::default();
     limits(&mut answers);
     refusals(&mut answers);
     unknown(&mut answers);
+    leaves(&mut answers);
     let mut random = Random::new(552);
     while answers.lines.len() < count {
         one_of_each(&mut answers, &mut random);
@@ -62,6 +63,20 @@ fn unknown(answers: &mut Answers) {
     for flat in any.into_iter().chain(ints) {
         for at in MATERIALIZERS..WRITERS.len() {
             ROOMS.into_iter().for_each(|room| answers.writer(at, &flat, room));
+        }
+    }
+}
+
+/// Each kind that has no child: every call on a type of its own, and the cast of every two.
+fn leaves(answers: &mut Answers) {
+    let argument = |kind| if kind == DECIMAL { 256 * 2 + 10 } else { 0 };
+    let leaves: Vec<Flat> = (NULL..=UNKNOWN_INT_NEG).map(|kind| Flat::new(&[(kind, argument(kind))])).collect();
+    for leaf in &leaves {
+        for call in 0..ONE_TYPE_CALLS {
+            answers.of_one_type(call, leaf, |nodes| nodes);
+        }
+        for to in &leaves {
+            answers.relation(RELATIONS.len() - 1, leaf, to);
         }
     }
 }
@@ -121,13 +136,24 @@ mod tests {
     use crate::answers::{CHECK, TIME_UNITS};
     use trials::differential::has_oracle;
 
+    /// How many lines crates/replay was asked for.
+    const LINES: usize = 4500;
+
+    #[test]
+    fn the_replayed_lines_are_the_recorded_ones() {
+        if has_oracle() {
+            let replayed = include_str!("../../../crates/replay/stdin");
+            assert!(lines(LINES).iter().eq(replayed.lines()), "record again: --record {LINES} > crates/replay/stdin");
+        }
+    }
+
     #[test]
     fn the_recorded_lines_are_short_and_reach_everything() {
         if !has_oracle() {
             return;
         }
-        let recorded = lines(3000);
-        assert!(recorded.len() > 3000 && recorded == lines(3000));
+        let recorded = lines(LINES);
+        assert!(recorded.len() > LINES && recorded == lines(LINES));
         assert!(recorded.iter().filter(|line| line.len() > 400).count() <= 2);
         let (last, rest) = recorded.split_last().unwrap();
         assert_eq!(last, "0");
