@@ -40,11 +40,18 @@ enum lz_error {
     LZ_DECIMAL_WITH_INTEGER = 13 /* a Decimal with an integer type in a supertype call */
 };
 
-/* The answer of every function here. A refused call has value 0. */
+/* The answer of every function here but lz_get_shape. A refused call has value 0. */
 typedef struct {
     uint64_t number; /* 0, or the number of the refusal */
     uint64_t value;  /* what the function says it is */
 } lz_reply;
+
+/* The answer of lz_get_shape. A refused call has count 0. */
+typedef struct {
+    uint64_t number;     /* 0, or the number of the refusal */
+    uint64_t count;      /* how many widths there are; 0 for none */
+    uint64_t widths[32]; /* the widths, the outermost first, and zeros from the count on */
+} lz_shape_reply;
 
 /*
  * Checks an encoded type.
@@ -71,6 +78,77 @@ lz_reply lz_decode(const uint8_t *encoded, size_t encoded_len,
 lz_reply lz_encode(const uint8_t *kinds, size_t kinds_len,
                    const uint64_t *args, size_t args_len,
                    uint8_t *out, size_t out_len);
+
+/*
+ * What follows are the rules of polars-core 0.55.2, on encoded types, by the names of
+ * its source. Each is refused by 1 to 5 where a type isn't one; of two types the left
+ * is looked at first. One encoded type may be passed twice.
+ *
+ * Of one type: the value is 1 for yes and 0 for no. Nothing is written.
+ */
+lz_reply lz_is_nested(const uint8_t *encoded, size_t encoded_len);
+lz_reply lz_is_known(const uint8_t *encoded, size_t encoded_len);
+lz_reply lz_is_logical(const uint8_t *encoded, size_t encoded_len);
+lz_reply lz_is_primitive(const uint8_t *encoded, size_t encoded_len);
+lz_reply lz_is_primitive_numeric(const uint8_t *encoded, size_t encoded_len);
+lz_reply lz_is_temporal(const uint8_t *encoded, size_t encoded_len);
+lz_reply lz_is_float(const uint8_t *encoded, size_t encoded_len);
+lz_reply lz_is_integer(const uint8_t *encoded, size_t encoded_len);
+lz_reply lz_is_signed_integer(const uint8_t *encoded, size_t encoded_len);
+lz_reply lz_is_unsigned_integer(const uint8_t *encoded, size_t encoded_len);
+lz_reply lz_is_string(const uint8_t *encoded, size_t encoded_len);
+lz_reply lz_is_unknown(const uint8_t *encoded, size_t encoded_len);
+lz_reply lz_contains_unknown(const uint8_t *encoded, size_t encoded_len);
+lz_reply lz_contains_list_recursive(const uint8_t *encoded, size_t encoded_len);
+
+/*
+ * Of two types: whether they are equal, whether the left is or contains a type equal
+ * to the right, and whether a cast of the left to the right makes sense. The value is
+ * 1 for yes and 0 for no; lz_can_cast_to gives 2 for no verdict. Nothing is written.
+ */
+lz_reply lz_equal(const uint8_t *left, size_t left_len,
+                  const uint8_t *right, size_t right_len);
+lz_reply lz_contains_dtype_recursive(const uint8_t *left, size_t left_len,
+                                     const uint8_t *right, size_t right_len);
+lz_reply lz_can_cast_to(const uint8_t *left, size_t left_len,
+                        const uint8_t *right, size_t right_len);
+
+/*
+ * A type from a type, encoded into out: the type inside a List or an Array, the type
+ * inside all Lists and Arrays at the front, the type inside all Arrays at the front,
+ * and the physical form. Refused by 8 where out_len is below the length of the result.
+ * The value is that length: so many bytes of out are written, the others keep what they
+ * held. lz_inner_dtype and lz_array_leaf_dtype have value 0 where there is no such type,
+ * and then, as where it is refused, a call writes nothing.
+ */
+lz_reply lz_inner_dtype(const uint8_t *encoded, size_t encoded_len,
+                        uint8_t *out, size_t out_len);
+lz_reply lz_leaf_dtype(const uint8_t *encoded, size_t encoded_len,
+                       uint8_t *out, size_t out_len);
+lz_reply lz_array_leaf_dtype(const uint8_t *encoded, size_t encoded_len,
+                             uint8_t *out, size_t out_len);
+lz_reply lz_to_physical(const uint8_t *encoded, size_t encoded_len,
+                        uint8_t *out, size_t out_len);
+
+/*
+ * The same, with every unknown part of the type made known. The unknown type any stays
+ * where allow_unknown isn't 0; where it is 0 and any is a part, the call is refused by 7,
+ * which comes before 8.
+ */
+lz_reply lz_materialize_unknown(const uint8_t *encoded, size_t encoded_len,
+                                uint8_t allow_unknown,
+                                uint8_t *out, size_t out_len);
+
+/*
+ * The widths of the Arrays at the front of a type; none where there are no Arrays.
+ */
+lz_shape_reply lz_get_shape(const uint8_t *encoded, size_t encoded_len);
+
+/*
+ * The coarser of two time units, 0 ns, 1 us, 2 ms.
+ * Refused by 3 where either is no unit, and by nothing else. The value is the unit.
+ */
+lz_reply lz_get_time_units(uint8_t left, uint8_t right);
 
 #ifdef __cplusplus
 }

@@ -10,7 +10,7 @@ use Rattle.flat.specs.Reading.{Reading, refused, type, reading, checkedOf}
 use Rattle.flat.specs.declared.error.Error.{Error}
 use Rattle.flat.specs.declared.Checked.{Checked}
 use Rattle.flat.proofs.Walks.{type-kind}
-use Rattle.flat.proofs.Meaning.{stands, checked-type, checked-refused}
+use Rattle.flat.proofs.Meaning.{check-passed, checked-type, checked-refused}
 use Rattle.datatypes.specs.Predicate.{root}
 use Rattle.datatypes.specs.Scan.{anyOf}
 use Rattle.datatypes.specs.Answer.{yesNo, answerOf, rootOf}
@@ -21,13 +21,12 @@ use Rattle.datatypes.proofs.Trees.{Nodewise, scanned}
 -- ---- the root's kind
 module _ (nodes deep : ℕ) (ks xs : List ℕ) (e : Checked.Valid ≡ checkedOf (reading nodes deep ks xs)) where
   pub some-node : 0 < length ks
-  some-node = let t = checked-type (reading nodes deep ks xs) e in let v = stands nodes deep ks xs (t .0) (t .1) in omega (arith, v .0)
+  some-node = omega (arith, check-passed e .valid)
 
   pub first-kind : Root.Kind (getD ks 0 0) ≡ rootOf (reading nodes deep ks xs)
   first-kind =
-      let t = checked-type (reading nodes deep ks xs) e in
-      let v = stands nodes deep ks xs (t .0) (t .1) in
-      ap Root.Kind (sym (type-kind ks xs (v .0)) ∙ ap headKind (v .1)) ∙ ap rootOf (sym (t .1))
+      let p = check-passed e in
+      ap Root.Kind (sym (type-kind ks xs (p .valid)) ∙ ap headKind (p .front)) ∙ ap rootOf (sym (p .reads))
 
 pub no-kind : (r : Reading) (e : Error) → Checked.Refused e ≡ checkedOf r → Root.Refused e ≡ rootOf r
 no-kind r e q = ap rootOf (sym (checked-refused r e q))

@@ -12,8 +12,8 @@ use borrow.Author.Tests.{le-leb, lt-leb, ltb-true, ne-eqb, leb-true, leb-false}
 use Rattle.flat.specs.Kind
 use Rattle.datatypes.specs.Match.{among}
 use Rattle.datatypes.specs.Predicate.{isTemporal, isUnknownInt, isUnknown}
-use Rattle.datatypes.proofs.Runs.{says, of-run}
 use Rattle.datatypes.specs.Scan.{between, anyOf, isListKind, isDecimalKind, isLogicalKind}
+use Rattle.datatypes.proofs.Runs.{says, of-run}
 
 module _ (p : ℕ → Bool) (ks : List ℕ) (i : ℕ) (e : anyOf p ks ≡ anyOf p (drop i ks)) where
   module _ (h : i < length ks) where

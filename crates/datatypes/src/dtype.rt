@@ -23,7 +23,7 @@ pub fn is_nested(kinds: &[u8], args: &[u64]) -> Answer
     }
 }
 
-// Whether it is neither nested nor logical.
+// Whether it is a primitive numeric type, Boolean, String or Binary.
 pub fn is_primitive(kinds: &[u8], args: &[u64]) -> Answer
     ensures { λ r. do
       nodes ← ⟦Flat::MAX_NODES⟧ .entry

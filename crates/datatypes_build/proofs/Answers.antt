@@ -1,5 +1,5 @@
 -- What the calls come to: the walk builds what `physical` and `materialized` say of the reading. Assumes nothing.
-use mathlib.Core.Path.{_≡_, refl, sym, ap, _∙_}
+use mathlib.Core.Path.{_≡_, sym, ap, _∙_}
 use mathlib.Core.Bool.{Bool, true, false, not, _&&_}
 use mathlib.Core.List.{List}
 use Prim.Native.Nat.{ℕ}
@@ -7,11 +7,11 @@ use lib.ListN.{length, take}
 use lib.Seq.{take-at}
 use Rattle.flat.specs.Tree.{DataType, size, kindsOf, argsOf}
 use Rattle.flat.specs.Walk.{Valid, typeAt}
-use Rattle.flat.specs.Reading.{Reading, refused, type, reading, checkedOf}
+use Rattle.flat.specs.Reading.{refused, type, reading, checkedOf}
 use Rattle.flat.specs.declared.Checked.the-variants as answer
 use Rattle.flat.specs.declared.error.Error.the-variants.{Unknown}
 use Rattle.flat.proofs.Sizes.{length-kinds, length-args}
-use Rattle.flat.proofs.Meaning.{holds, stands, checked-type}
+use Rattle.flat.proofs.Meaning.{check-passed}
 use Rattle.datatypes_build.specs.Build.{orUnknown, materialized, physical}
 use Rattle.datatypes.specs.Physical.{physicalLeaf}
 use Rattle.datatypes_build.specs.Leaf.{materializedLeaf, mapLeaves, hasAny, BuiltType}
@@ -19,23 +19,17 @@ use Rattle.datatypes_build.proofs.Forms.{physical-is, known-is, noneIf}
 
 -- Two arrays that the check found valid: a type stands at their front, and nothing after it.
 module _ (nodes deep : ℕ) (ks xs : List ℕ) (v : answer.Valid ≡ checkedOf (reading nodes deep ks xs)) where
-  tree : (t : DataType) × (reading nodes deep ks xs ≡ type t)
-  tree = checked-type (reading nodes deep ks xs) v
-
   pub valid : Valid ks xs
-  valid = stands nodes deep ks xs (tree .0) (tree .1) .0
-
-  here : typeAt ks xs ≡ tree .0
-  here = stands nodes deep ks xs (tree .0) (tree .1) .1
+  valid = check-passed v .valid
 
   flat-kinds : ks ≡ kindsOf (typeAt ks xs)
-  flat-kinds = holds nodes deep ks xs (tree .0) (tree .1) .kinds ∙ ap kindsOf (sym here)
+  flat-kinds = let p = check-passed v in p .form .kinds ∙ ap kindsOf (sym (p .front))
 
   pub whole : size (typeAt ks xs) ≡ length ks
-  whole = sym (ap length flat-kinds ∙ length-kinds (typeAt ks xs))
+  whole = let p = check-passed v in ap size (p .front) ∙ p .whole
 
   reads : reading nodes deep ks xs ≡ type (typeAt ks xs)
-  reads = tree .1 ∙ ap type (sym here)
+  reads = let p = check-passed v in p .reads ∙ ap type (sym (p .front))
 
   pub physical-type : physical (reading nodes deep ks xs) ≡ type (mapLeaves physicalLeaf (typeAt ks xs))
   unfolding physical

@@ -1,24 +1,23 @@
 -- The cases of the walk that builds a type: a node stored, and what stands under it written after it. Assumes nothing.
-use mathlib.Core.Path.{_≡_, refl, sym, ap, ap₂, subst, _∙_}
-use mathlib.Core.List.{List, [], _∷_, _++_, append-nil, append-assoc}
+use mathlib.Core.Path.{_≡_, refl, sym, ap, _∙_}
+use mathlib.Core.List.{List, _∷_}
 use Prim.Native.Nat.{ℕ, suc, _+_, _-_, _≤_, _<_}
 use native.Mathlib.Omega.{arith}
 use native.Mathlib.Nat.{zero-add, add-zero}
 use native.Mathlib.Numerals.{add-one}
-use lib.ListN.{length, getD, take, drop, set, length-append, length-drop, length-set, take-append-drop, drop-of-length-le}
-use lib.Seq.{length-take-le, take-all, take-at, drop-at, drop-drop, drop-length, drop-set-lt, take-suc-set, getD-drop}
-use borrow.Rule.Slice.PartMut.{putMid, same-len-mid}
+use lib.ListN.{length, getD, set, take-append-drop}
 use Rattle.flat.specs.Kind
-use Rattle.flat.specs.Tree.{DataType, leaf, struct, Fields, empty, field, size, sizes, count, kindsOf, kindsOfs, argsOf, argsOfs, headKind}
+use Rattle.flat.specs.Tree.{DataType, leaf, Fields, field, size, sizes, count, kindsOf, kindsOfs, argsOf, argsOfs, headKind}
 use Rattle.flat.specs.Walk.{Valid, ValidRun, typeAt, runAt}
 use Rattle.flat.specs.Output.{over}
-use Rattle.flat.proofs.Sizes.{length-kinds, length-kindss, length-args, length-argss}
-use Rattle.flat.proofs.Positions.{rest}
-use Rattle.flat.proofs.Walks.{from, length-from, Unary, is-list, is-array, type-leaf, type-one, one-nodes, type-struct, struct-nodes, struct-count, run-end, run-field, field-nodes, field-valid, others-valid}
+use Rattle.flat.proofs.Sizes.{length-kinds, length-kindss, length-args}
+use Rattle.flat.proofs.Walks.{from, Unary, is-list, is-array, type-leaf, type-one, one-nodes, type-struct, struct-nodes, struct-count, run-end}
+use Rattle.flat.proofs.Onward.{from-zero, next-run, next-field, next-nodes}
 use Rattle.datatypes_build.specs.Leaf.{leafOf, mapLeaves, mapFields, keptArg, Room, Built, BuiltType, BuiltFields}
 use Rattle.datatypes_build.specs.declared.leaf.Form.{Form}
 use Rattle.datatypes_build.proofs.Leaves.{leaf-is}
 use Rattle.datatypes_build.proofs.Forms.{size-map, sizes-map, count-map}
+use Rattle.datatypes_build.proofs.Writes.{back, toBe, next, part-set, over-one, over-front}
 
 -- the answer is the type's own number of nodes
 pub built-size : (form : Form) (t : DataType) {K A K′ A′ : List ℕ} {r : ℕ} → BuiltType (mapLeaves (leafOf form) t) K A K′ A′ r → r ≡ size t
@@ -27,54 +26,7 @@ built-size form t w = w .nodes ∙ length-kinds (mapLeaves (leafOf form) t) ∙ 
 pub built-sizes : (form : Form) (fs : Fields) {K A K′ A′ : List ℕ} {r : ℕ} → BuiltFields (mapFields (leafOf form) fs) K A K′ A′ r → r ≡ sizes fs
 built-sizes form fs w = w .nodes ∙ length-kindss (mapFields (leafOf form) fs) ∙ sizes-map form fs
 
--- ---- of lists alone
-
--- a slice whose part after the first j elements is back, with L in it
-abbrev pub back : ℕ → List ℕ → List ℕ → List ℕ
-back j out L = putMid j (length out - j) out L
-
--- out, once P is written from the place `at` on
-abbrev pub toBe : ℕ → List ℕ → List ℕ → List ℕ
-toBe at P out = take at out ++ over P (drop at out)
-
--- y stored at a place, and P written into the part after it
-module _ (out : List ℕ) (at y : ℕ) (P L : List ℕ) (h : at < length out) (e : L ≡ over P (from (at + 1) (set out at y))) where
-  front : take (at + 1) (set out at y) ≡ take at out ++ (y ∷ [])
-  front = ap (λ (i : ℕ). take i (set out at y)) (add-one at) ∙ take-suc-set out at y h
-
-  part : L ≡ P ++ drop (at + 1 + length P) out
-  part = e ∙ ap (over P) (rest (set out at y) (at + 1) ∙ drop-set-lt (at + 1) out at y (omega arith)) ∙ ap (λ (l : List ℕ). P ++ l) (drop-drop (length P) (at + 1) out)
-
-  written : back (at + 1) (set out at y) L ≡ ((take at out ++ (y ∷ [])) ++ P) ++ drop (at + 1 + length P) out
-  written =
-      ap (λ (l : List ℕ). take (at + 1) (set out at y) ++ (L ++ l)) (drop-of-length-le (drop (at + 1) (set out at y)) {i = length (set out at y) - (at + 1)} (simp length-drop (omega arith)))
-      ∙ rw (append-nil, front) (ap (λ (l : List ℕ). (take at out ++ (y ∷ [])) ++ l) part ∙ sym (append-assoc (take at out ++ (y ∷ [])) P (drop (at + 1 + length P) out)))
-
-  -- then Q comes next
-  pub next : (Q : List ℕ) (n : ℕ) → n ≡ length P → toBe (at + 1 + n) Q (back (at + 1) (set out at y) L) ≡ toBe at (y ∷ (P ++ Q)) out
-  next Q n i =
-      let F : List ℕ = (take at out ++ (y ∷ [])) ++ P in
-      let D : List ℕ = drop (at + 1 + length P) out in
-      let l : length F ≡ at + 1 + n = rw (length-append, length-append) (omega (arith, length-take-le at out (omega arith))) in
-      let r : drop (length Q) D ≡ drop (suc (length (P ++ Q))) (drop at out) =
-      drop-drop (length Q) (at + 1 + length P) out ∙ ap (λ (i : ℕ). drop i out) (let z : at + 1 + length P + length Q ≡ at + suc (length (P ++ Q)) = omega (arith, length-append P Q) in z) ∙ sym (drop-drop (suc (length (P ++ Q))) at out) in
-      ap (toBe (at + 1 + n) Q) written
-      ∙ ap₂ _++_ (take-at F D (at + 1 + n) l) (ap (over Q) (drop-at F D (at + 1 + n) l))
-      ∙ rw (r, append-assoc (take at out ++ (y ∷ [])) P, append-assoc (take at out) (y ∷ []), append-assoc P Q)
-
 -- ---- the node walk
-
--- how long a part is, once the first element was stored
-part-set : (out : List ℕ) (at y j : ℕ) → length (from j (set out at y)) ≡ length out - j
-part-set out at y j = length-from j (set out at y) ∙ simp length-set
-
-over-one : (out : List ℕ) → 0 < length out → (y : ℕ) → set out 0 y ≡ over (y ∷ []) out
-over-one [] h y = absurd (omega arith)
-over-one (o ∷ os) h y = refl
-
--- y at the front, and P written after it
-over-front : (y : ℕ) (P out : List ℕ) → 0 < length out → (L : List ℕ) → L ≡ over P (from 1 (set out 0 y)) → back 1 (set out 0 y) L ≡ over (y ∷ P) out
-over-front y P out h L e = sym (take-append-drop (1 + length P) (back 1 (set out 0 y) L)) ∙ next out 0 y P L h e [] (length P) refl ∙ ap (λ (l : List ℕ). over (y ∷ l) out) (append-nil P)
 
 -- y and z stored, and a child's kinds P and arguments Q written after them
 after-node : (y z : ℕ) (P Q K A L M : List ℕ) (n : ℕ) → 0 < length K → 0 < length A → Built P Q (from 1 (set K 0 y)) (from 1 (set A 0 z)) L M n → Built (y ∷ P) (z ∷ Q) K A (back 1 (set K 0 y) L) (back 1 (set A 0 z) M) (n + 1)
@@ -115,18 +67,8 @@ module _ (form : Form) {ks xs : List ℕ} (v : Valid ks xs) {K A : List ℕ} (o 
 
 -- ---- the field walk
 
--- parts of parts
-from-from : (i j k : ℕ) (l : List ℕ) → k ≡ j + i → from i (from j l) ≡ from k l
-from-from i j k l e = rest (from j l) i ∙ ap (drop i) (rest l j) ∙ drop-drop i j l ∙ ap (λ (n : ℕ). drop n l) (sym e) ∙ sym (rest l k)
-
-from-first : (j : ℕ) (l : List ℕ) → getD (from j l) 0 0 ≡ getD l j 0
-from-first j l = ap (λ (d : List ℕ). getD d 0 0) (rest l j) ∙ getD-drop j l 0 0 ∙ ap (λ (i : ℕ). getD l i 0) (add-zero j)
-
-from-zero : (l : List ℕ) → from 0 l ≡ l
-from-zero l = rest l 0
-
--- Of the m fields at the front, `left` are left, from the place `at` on: what the two arrays held at first will be, is what they hold with those written
--- from there on.
+-- Of the m fields at the front, `left` are left, from the place `at` on. All of them over what the two arrays held at first comes to those that are left,
+-- from there on, over what the arrays hold now.
 pub record Along (form : Form) (m : ℕ) (ks xs K₀ A₀ : List ℕ) (at left : ℕ) (K A : List ℕ) : Type 0 where
   pub others : ValidRun left (from at ks) (from at xs)
   pub nodes : sizes (runAt m ks xs) ≡ at + sizes (runAt left (from at ks) (from at xs))
@@ -154,29 +96,14 @@ module _ {form : Form} {m : ℕ} {ks xs K₀ A₀ : List ℕ} {at left : ℕ} {K
       }
 
   module _ (p : left ≡ 0 → ⊥) where
-    pub next-valid : Valid (from (at + 1) ks) (from (at + 1) xs)
-    next-valid = rw (from-from 1 at (at + 1) ks refl, from-from 1 at (at + 1) xs refl) at (field-valid left (from at ks) (from at xs) (a .others) p)
-
-    module _ (n : ℕ) (e : n ≡ size (typeAt (from (at + 1) ks) (from (at + 1) xs))) where
-      past : (l : List ℕ) → from (n + 1) (from at l) ≡ from (at + 1 + n) l
-      past l = from-from (n + 1) at (at + 1 + n) l (omega arith)
-
-      here : n ≡ size (typeAt (from 1 (from at ks)) (from 1 (from at xs)))
-      here = rw (from-from 1 at (at + 1) ks refl, from-from 1 at (at + 1) xs refl) e
-
-      pub next-run : ValidRun (left - 1) (from (at + 1 + n) ks) (from (at + 1 + n) xs)
-      next-run = rw (past ks, past xs) at (others-valid left (from at ks) (from at xs) (a .others) p n here)
-
-      next-field : runAt left (from at ks) (from at xs) ≡ field (getD xs at 0) (typeAt (from (at + 1) ks) (from (at + 1) xs)) (runAt (left - 1) (from (at + 1 + n) ks) (from (at + 1 + n) xs))
-      next-field = run-field left (from at ks) (from at xs) (a .others) p n here ∙ rw (from-first at xs, from-from 1 at (at + 1) ks refl, from-from 1 at (at + 1) xs refl, past ks, past xs)
-
-      pub next-nodes : sizes (runAt m ks xs) ≡ at + 1 + n + sizes (runAt (left - 1) (from (at + 1 + n) ks) (from (at + 1 + n) xs))
-      next-nodes = a .nodes ∙ rw (field-nodes left (from at ks) (from at xs) (a .others) p n here, past ks, past xs) (omega arith)
+    -- how many nodes all fields have, the next of n nodes
+    pub all-nodes : (n : ℕ) → n ≡ size (typeAt (from (at + 1) ks) (from (at + 1) xs)) → sizes (runAt m ks xs) ≡ at + 1 + n + sizes (runAt (left - 1) (from (at + 1 + n) ks) (from (at + 1 + n) xs))
+    all-nodes n e = a .nodes ∙ rw (next-nodes left at ks xs (a .others) p n e) (omega arith)
 
     module _ (o : Room (sizes (runAt m ks xs)) K₀ A₀) (lk : length K ≡ length K₀) (la : length A ≡ length A₀) where
       pub next-room : Room (size (typeAt (from (at + 1) ks) (from (at + 1) xs))) (from (at + 1) (set K at Kind.Field)) (from (at + 1) (set A at (getD xs at 0)))
       next-room =
-          let n = next-nodes (size (typeAt (from (at + 1) ks) (from (at + 1) xs))) refl in
+          let n = all-nodes (size (typeAt (from (at + 1) ks) (from (at + 1) xs))) refl in
           record { kinds = omega (arith, part-set K at Kind.Field (at + 1)); args = omega (arith, part-set A at (getD xs at 0) (at + 1)) }
 
       -- a field is done
@@ -186,11 +113,11 @@ module _ {form : Form} {m : ℕ} {ks xs K₀ A₀ : List ℕ} {at left : ℕ} {K
           let t : DataType = typeAt (from (at + 1) ks) (from (at + 1) xs) in
           let e = built-size form t w in
           let g : Fields = runAt (left - 1) (from (at + 1 + n) ks) (from (at + 1 + n) xs) in
-          let f = next-field n e in
-          let i = next-nodes n e in
+          let f = next-field left at ks xs (a .others) p n e in
+          let i = all-nodes n e in
           record {
-            others = next-run n e;
-            nodes = next-nodes n e;
+            others = next-run left at ks xs (a .others) p n e;
+            nodes = all-nodes n e;
             kinds = a .kinds ∙ ap (λ (h : Fields). toBe at (kindsOfs (mapFields (leafOf form) h)) K) f ∙ sym (next K at Kind.Field (kindsOf (mapLeaves (leafOf form) t)) L (omega arith) (w .kinds) (kindsOfs (mapFields (leafOf form) g)) n (w .nodes));
             args = a .args ∙ ap (λ (h : Fields). toBe at (argsOfs (mapFields (leafOf form) h)) A) f ∙ sym (next A at (getD xs at 0) (argsOf (mapLeaves (leafOf form) t)) M (omega arith) (w .args) (argsOfs (mapFields (leafOf form) g)) n (e ∙ sym (length-args (mapLeaves (leafOf form) t) ∙ size-map form t)));
           }

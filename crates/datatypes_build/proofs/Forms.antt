@@ -16,61 +16,11 @@ use Rattle.flat.specs.Walk.{orElse}
 use Rattle.datatypes.specs.Match.{among}
 use Rattle.datatypes.specs.Predicate.{isUnknown, isUnknownInt}
 use Rattle.datatypes.specs.Scan.{between, anyOf}
-use Rattle.datatypes.specs.Materialize.{materializeUnknown, materializeFields, materialize, materializeDynInt, valueOf, orKept}
+use Rattle.datatypes.specs.Materialize.{materializeUnknown, materializeFields, materialize, orKept}
 use Rattle.datatypes.specs.Physical.{toPhysical, physicalFields, physicalLeaf}
 use Rattle.datatypes_build.specs.Leaf.{materializedLeaf, leafOf, mapLeaves, mapFields, hasAny}
 use Rattle.datatypes_build.specs.declared.leaf.Form.{Form}
 use Rattle.datatypes_build.proofs.Leaves.{leaf-size, leaf-depth, leaf-ruled}
-
--- ---- the shape stays
-pub count-map : (rule : ℕ → ℕ → DataType) (fs : Fields) → count (mapFields rule fs) ≡ count fs
-unfolding count mapLeaves
-count-map rule empty = refl
-count-map rule (field name t fs) = ap suc (count-map rule fs)
-
-module _ (form : Form) where
-  mutual
-    unfolding size mapLeaves
-
-    pub size-map : (t : DataType) → size (mapLeaves (leafOf form) t) ≡ size t
-    size-map (leaf k a) = leaf-size k a form
-    size-map (list t) = ap suc (size-map t)
-    size-map (array w t) = ap suc (size-map t)
-    size-map (struct fs) = ap suc (sizes-map fs)
-
-    pub sizes-map : (fs : Fields) → sizes (mapFields (leafOf form) fs) ≡ sizes fs
-    sizes-map empty = refl
-    sizes-map (field name t fs) = ap suc (ap₂ _+_ (size-map t) (sizes-map fs))
-
-  mutual
-    unfolding depth mapLeaves
-
-    depth-map : (t : DataType) → depth (mapLeaves (leafOf form) t) ≡ depth t
-    depth-map (leaf k a) = leaf-depth k a form
-    depth-map (list t) = ap suc (depth-map t)
-    depth-map (array w t) = ap suc (depth-map t)
-    depth-map (struct fs) = depths-map fs
-
-    depths-map : (fs : Fields) → depths (mapFields (leafOf form) fs) ≡ depths fs
-    depths-map empty = refl
-    depths-map (field name t fs) = ap₂ (λ (d : ℕ). max (suc (suc d))) (depth-map t) (depths-map fs)
-
-  mutual
-    unfolding Ruled mapLeaves
-
-    ruled-map : (t : DataType) → Ruled t → Ruled (mapLeaves (leafOf form) t)
-    ruled-map (leaf k a) r = leaf-ruled k a form r
-    ruled-map (list t) r = ruled-map t r
-    ruled-map (array w t) r = ruled-map t r
-    ruled-map (struct fs) r = (rw (count-map (leafOf form) fs) (r .0), ruled-fields fs (r .1))
-
-    ruled-fields : (fs : Fields) → RuledFields fs → RuledFields (mapFields (leafOf form) fs)
-    ruled-fields empty r = tt
-    ruled-fields (field name t fs) r = (r .0, ruled-map t (r .1), ruled-fields fs (r .2))
-
-  -- so a valid type is built anew as one
-  pub is-type : {nodes deep : ℕ} {t : DataType} → IsType nodes deep t → IsType nodes deep (mapLeaves (leafOf form) t)
-  is-type {nodes} {deep} {t} v = record { ruled = ruled-map t (v .ruled); within = rw size-map (v .within); shallow = rw depth-map (v .shallow) }
 
 -- ---- the physical form
 mutual
@@ -159,3 +109,53 @@ mutual
   knowns-are allow (field name t fs) =
       rw (known-is allow t, knowns-are allow fs, any-append (between Kind.UnknownAny Kind.UnknownAny) (kindsOf t) (kindsOfs fs))
       (bind-none (field name) (hasAny (kindsOf t)) (hasAny (kindsOfs fs)) (not allow) (mapLeaves materializedLeaf t) (mapFields materializedLeaf fs))
+
+-- ---- the shape stays
+pub count-map : (rule : ℕ → ℕ → DataType) (fs : Fields) → count (mapFields rule fs) ≡ count fs
+unfolding count mapLeaves
+count-map rule empty = refl
+count-map rule (field name t fs) = ap suc (count-map rule fs)
+
+module _ (form : Form) where
+  mutual
+    unfolding size mapLeaves
+
+    pub size-map : (t : DataType) → size (mapLeaves (leafOf form) t) ≡ size t
+    size-map (leaf k a) = leaf-size k a form
+    size-map (list t) = ap suc (size-map t)
+    size-map (array w t) = ap suc (size-map t)
+    size-map (struct fs) = ap suc (sizes-map fs)
+
+    pub sizes-map : (fs : Fields) → sizes (mapFields (leafOf form) fs) ≡ sizes fs
+    sizes-map empty = refl
+    sizes-map (field name t fs) = ap suc (ap₂ _+_ (size-map t) (sizes-map fs))
+
+  mutual
+    unfolding depth mapLeaves
+
+    depth-map : (t : DataType) → depth (mapLeaves (leafOf form) t) ≡ depth t
+    depth-map (leaf k a) = leaf-depth k a form
+    depth-map (list t) = ap suc (depth-map t)
+    depth-map (array w t) = ap suc (depth-map t)
+    depth-map (struct fs) = depths-map fs
+
+    depths-map : (fs : Fields) → depths (mapFields (leafOf form) fs) ≡ depths fs
+    depths-map empty = refl
+    depths-map (field name t fs) = ap₂ (λ (d : ℕ). max (suc (suc d))) (depth-map t) (depths-map fs)
+
+  mutual
+    unfolding Ruled mapLeaves
+
+    ruled-map : (t : DataType) → Ruled t → Ruled (mapLeaves (leafOf form) t)
+    ruled-map (leaf k a) r = leaf-ruled k a form r
+    ruled-map (list t) r = ruled-map t r
+    ruled-map (array w t) r = ruled-map t r
+    ruled-map (struct fs) r = (rw (count-map (leafOf form) fs) (r .0), ruled-fields fs (r .1))
+
+    ruled-fields : (fs : Fields) → RuledFields fs → RuledFields (mapFields (leafOf form) fs)
+    ruled-fields empty r = tt
+    ruled-fields (field name t fs) r = (r .0, ruled-map t (r .1), ruled-fields fs (r .2))
+
+  -- so a valid type is built anew as one
+  pub is-type : {nodes deep : ℕ} {t : DataType} → IsType nodes deep t → IsType nodes deep (mapLeaves (leafOf form) t)
+  is-type {nodes} {deep} {t} v = record { ruled = ruled-map t (v .ruled); within = rw size-map (v .within); shallow = rw depth-map (v .shallow) }

@@ -1,5 +1,4 @@
 // The walk over a type: each leaf by the rule of the form, every other node as it is.
-ghost use mathlib.Core.Path.{_≡_};
 ghost use Rattle.flat.specs.Tree.{size};
 ghost use Rattle.flat.specs.Walk.{Valid, typeAt};
 ghost use Rattle.datatypes_build.specs.Leaf.{leafOf, mapLeaves, Room, BuiltType};

@@ -1,5 +1,4 @@
 // The walk over the fields of a Struct, which hands each field's type back to the walk over types.
-ghost use mathlib.Core.Path.{_≡_};
 ghost use Rattle.flat.specs.Tree.{sizes};
 ghost use Rattle.flat.specs.Walk.{ValidRun, runAt};
 ghost use Rattle.datatypes_build.specs.Leaf.{leafOf, mapFields, Room, BuiltFields};

@@ -9,7 +9,7 @@ use Rattle.flat.specs.Walk.{Valid, typeAt}
 use Rattle.flat.specs.Reading.{type, reading, checkedOf}
 use Rattle.flat.specs.declared.error.Error.{Error}
 use Rattle.flat.specs.declared.Checked.the-variants as checked
-use Rattle.flat.proofs.Meaning.{stands, checked-type, checked-refused}
+use Rattle.flat.proofs.Meaning.{check-passed, checked-refused}
 use Rattle.datatypes.specs.Cast.{canCastTo}
 use Rattle.datatypes_cast.specs.Walk.{answer, castAnswer}
 use Rattle.datatypes_cast.specs.Verdict.{verdict, castOf}
@@ -26,10 +26,10 @@ told NoVerdict = Verdict.NoVerdict
 -- a type that passed stands at the front
 module _ (nodes deep : ℕ) (ks xs : List ℕ) (p : checked.Valid ≡ checkedOf (reading nodes deep ks xs)) where
   pub passed : Valid ks xs
-  passed = stands nodes deep ks xs (checked-type (reading nodes deep ks xs) p .0) (checked-type (reading nodes deep ks xs) p .1) .0
+  passed = check-passed p .valid
 
   is-front : reading nodes deep ks xs ≡ type (typeAt ks xs)
-  is-front = let t = checked-type (reading nodes deep ks xs) p in t .1 ∙ ap type (sym (stands nodes deep ks xs (t .0) (t .1) .1))
+  is-front = let c = check-passed p in c .reads ∙ ap type (sym (c .front))
 
 module _ (nodes deep : ℕ) (ks xs ls ys : List ℕ) where
   pub from-refused : (e : Error) → checked.Refused e ≡ checkedOf (reading nodes deep ks xs) → Verdict.Refused e ≡ castOf (reading nodes deep ks xs) (reading nodes deep ls ys)

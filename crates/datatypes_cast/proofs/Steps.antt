@@ -6,44 +6,16 @@ use mathlib.Core.Option.{Option, none, some}
 use mathlib.Core.List.{List}
 use Prim.Native.Nat.{ℕ, suc, _+_, _-_, _≤_, _<_}
 use native.Mathlib.Omega.{arith}
-use lib.ListN.{length, getD, drop}
-use lib.Seq.{drop-drop}
+use lib.ListN.{length}
 use Rattle.flat.specs.Tree.{DataType, Fields, field, size, sizes}
 use Rattle.flat.specs.Walk.{Valid, ValidRun, typeAt, runAt}
-use Rattle.flat.proofs.Positions.{rest}
-use Rattle.flat.proofs.Walks.{from, length-from, run-end, field-valid, others-valid, run-field}
+use Rattle.flat.proofs.Walks.{from, length-from, run-end}
+use Rattle.flat.proofs.Onward.{from-zero, next-valid, next-run, next-field}
 use Rattle.datatypes.specs.Cast.{andThen, canCastTo, fieldsCast}
 use Rattle.datatypes_cast.specs.Walk.{answer, castAnswer, fieldsAnswer, castAfter}
 use Rattle.datatypes_cast.specs.declared.dtype.Cast.{Cast}
 use Rattle.datatypes_cast.specs.declared.dtype.Cast.the-variants.{Yes, No, NoVerdict}
 
--- ---- one type: the fields from i on
-onward : (i j k : ℕ) (l : List ℕ) → i + j ≡ k → from j (from i l) ≡ from k l
-onward i j k l e = rest (from i l) j ∙ ap (drop j) (rest l i) ∙ drop-drop j i l ∙ ap (λ (n : ℕ). drop n l) e ∙ sym (rest l k)
-
-module _ (left i : ℕ) (ks xs : List ℕ) (v : ValidRun left (from i ks) (from i xs)) (p : 0 < left) where
-  some-left : left ≡ 0 → ⊥
-  some-left e = absurd (omega arith)
-
-  -- the type of the first of them
-  valid : Valid (from (i + 1) ks) (from (i + 1) xs)
-  valid = rw (onward i 1 (i + 1) ks refl, onward i 1 (i + 1) xs refl) at (field-valid left (from i ks) (from i xs) v some-left)
-
-  -- those after it
-  module _ (n : ℕ) (e : n ≡ size (typeAt (from (i + 1) ks) (from (i + 1) xs))) where
-    e′ : n ≡ size (typeAt (from 1 (from i ks)) (from 1 (from i xs)))
-    e′ = rw (onward i 1 (i + 1) ks refl, onward i 1 (i + 1) xs refl) e
-
-    past : (l : List ℕ) → from (n + 1) (from i l) ≡ from (i + 1 + n) l
-    past l = onward i (n + 1) (i + 1 + n) l (omega arith)
-
-    others : ValidRun (left - 1) (from (i + 1 + n) ks) (from (i + 1 + n) xs)
-    others = rw (past ks, past xs) at (others-valid left (from i ks) (from i xs) v some-left n e′)
-
-    parts : runAt left (from i ks) (from i xs) ≡ field (getD (from i xs) 0 0) (typeAt (from (i + 1) ks) (from (i + 1) xs)) (runAt (left - 1) (from (i + 1 + n) ks) (from (i + 1 + n) xs))
-    parts = run-field left (from i ks) (from i xs) v some-left n e′ ∙ rw (past ks, past xs, onward i 1 (i + 1) ks refl, onward i 1 (i + 1) xs refl)
-
--- ---- two types
 -- the answer for the first field's types, then for the others
 abbrev after-first : Cast → Cast → Cast
 after-first (Yes n m) others = castAfter (1 + n) (1 + m) others
@@ -61,7 +33,7 @@ first-field name other t u fs gs = go (canCastTo t u) (fieldsCast fs gs)
     go (some true) (some false) = refl
     go (some true) (some true) = ap₂ Yes (let y : suc (size t + sizes fs) ≡ 1 + size t + sizes fs = omega arith in y) (let y : suc (size u + sizes gs) ≡ 1 + size u + sizes gs = omega arith in y)
 
-pub yes-sizes : (q : Option Bool) (n m i j : ℕ) → Yes i j ≡ answer q n m → (i ≡ n) × (j ≡ m)
+yes-sizes : (q : Option Bool) (n m i j : ℕ) → Yes i j ≡ answer q n m → (i ≡ n) × (j ≡ m)
 yes-sizes none n m i j e = absurd (let y : _≡_ {A = ℕ} 0 1 = cc in omega arith)
 yes-sizes (some false) n m i j e = absurd (let y : _≡_ {A = ℕ} 0 1 = cc in omega arith)
 yes-sizes (some true) n m i j e = (cc, cc)
@@ -78,9 +50,6 @@ pub record Along (m : ℕ) (ks xs ls ys : List ℕ) (i j left : ℕ) : Type 0 wh
   pub within-other : j + left ≤ length ls
   pub goes-on : fieldsAnswer (runAt m ks xs) (runAt m ls ys) ≡ castAfter i j (answer-from ks xs ls ys i j left)
 
-all : (l : List ℕ) → from 0 l ≡ l
-all l = rest l 0
-
 not-moved : (c : Cast) → c ≡ castAfter 0 0 c
 not-moved (Yes n m) = ap₂ Yes (let y : n ≡ 0 + n = omega arith in y) (let y : m ≡ 0 + m = omega arith in y)
 not-moved No = refl
@@ -93,11 +62,11 @@ moved i j n m NoVerdict = refl
 
 pub start : (m : ℕ) (ks xs ls ys : List ℕ) → ValidRun m ks xs → ValidRun m ls ys → Along m ks xs ls ys 0 0 m
 start m ks xs ls ys v w = record {
-  one = rw (all ks, all xs) v;
-  other = rw (all ls, all ys) w;
+  one = rw (from-zero ks, from-zero xs) v;
+  other = rw (from-zero ls, from-zero ys) w;
   within = omega (arith, v .pos, v .within);
   within-other = omega (arith, w .pos, w .within);
-  goes-on = rw (all ks, all xs, all ls, all ys) (not-moved (fieldsAnswer (runAt m ks xs) (runAt m ls ys)));
+  goes-on = rw (from-zero ks, from-zero xs, from-zero ls, from-zero ys) (not-moved (fieldsAnswer (runAt m ks xs) (runAt m ls ys)));
 }
 
 module _ (m : ℕ) (ks xs ls ys : List ℕ) (i j left : ℕ) (al : Along m ks xs ls ys i j left) where
@@ -106,17 +75,20 @@ module _ (m : ℕ) (ks xs ls ys : List ℕ) (i j left : ℕ) (al : Along m ks xs
   fields-done z = sym (al .goes-on ∙ ap (castAfter i j) (ap₂ fieldsAnswer (run-end left (from i ks) (from i xs) z) (run-end left (from j ls) (from j ys) z)) ∙ ap₂ Yes (let y : i + 0 ≡ i = omega arith in y) (let y : j + 0 ≡ j = omega arith in y))
 
   module _ (p : 0 < left) where
+    some-left : left ≡ 0 → ⊥
+    some-left e = absurd (omega arith)
+
     pub valid-one : Valid (from (i + 1) ks) (from (i + 1) xs)
-    valid-one = valid left i ks xs (al .one) p
+    valid-one = next-valid left i ks xs (al .one) some-left
 
     pub valid-other : Valid (from (j + 1) ls) (from (j + 1) ys)
-    valid-other = valid left j ls ys (al .other) p
+    valid-other = next-valid left j ls ys (al .other) some-left
 
     -- the answer from here on, by the answer for the next field's types
     ahead : (r : Cast) → r ≡ castAnswer (typeAt (from (i + 1) ks) (from (i + 1) xs)) (typeAt (from (j + 1) ls) (from (j + 1) ys)) → (n o : ℕ) → n ≡ size (typeAt (from (i + 1) ks) (from (i + 1) xs)) → o ≡ size (typeAt (from (j + 1) ls) (from (j + 1) ys)) → fieldsAnswer (runAt m ks xs) (runAt m ls ys) ≡ castAfter i j (after-first r (answer-from ks xs ls ys (i + 1 + n) (j + 1 + o) (left - 1)))
     ahead r e n o f g =
         al .goes-on
-        ∙ ap (castAfter i j) (ap₂ fieldsAnswer (parts left i ks xs (al .one) p n f) (parts left j ls ys (al .other) p o g) ∙ first-field _ _ _ _ _ _ ∙ ap (λ (z : Cast). after-first z (answer-from ks xs ls ys (i + 1 + n) (j + 1 + o) (left - 1))) (sym e))
+        ∙ ap (castAfter i j) (ap₂ fieldsAnswer (next-field left i ks xs (al .one) some-left n f) (next-field left j ls ys (al .other) some-left o g) ∙ first-field _ _ _ _ _ _ ∙ ap (λ (z : Cast). after-first z (answer-from ks xs ls ys (i + 1 + n) (j + 1 + o) (left - 1))) (sym e))
 
     pub fields-no : No ≡ castAnswer (typeAt (from (i + 1) ks) (from (i + 1) xs)) (typeAt (from (j + 1) ls) (from (j + 1) ys)) → No ≡ fieldsAnswer (runAt m ks xs) (runAt m ls ys)
     fields-no e = sym (ahead No e _ _ refl refl)
@@ -134,8 +106,8 @@ module _ (m : ℕ) (ks xs ls ys : List ℕ) (i j left : ℕ) (al : Along m ks xs
 
       pub field-done : Along m ks xs ls ys (i + 1 + n) (j + 1 + o) (left - 1)
       field-done =
-          let v = others left i ks xs (al .one) p n (counts .0) in
-          let w = others left j ls ys (al .other) p o (counts .1) in
+          let v = next-run left i ks xs (al .one) some-left n (counts .0) in
+          let w = next-run left j ls ys (al .other) some-left o (counts .1) in
           record {
             one = v;
             other = w;

@@ -1,7 +1,7 @@
 // Which casts make sense: `can_cast_to` of dtype.rs.
 pub mod dtype;
 pub mod field;
-pub mod roots;
+mod roots;
 
 ghost use mathlib.Core.Path.{_≡_};
 ghost use Rattle.flat.specs.Reading.{reading};

@@ -1,4 +1,4 @@
--- The steps of the two scans: what is left to compare after i nodes decides, and so do the positions that are left to try. Assumes nothing.
+-- The steps of the scans: what is left to compare after i nodes decides, and so do the positions that are left to try. Assumes nothing.
 use mathlib.Core.Path.{_≡_, refl, sym, ap, _∙_}
 use mathlib.Core.Bool.{Bool, true, false, _&&_, and-false}
 use mathlib.Core.List.{List, [], _∷_}
@@ -7,10 +7,11 @@ use native.Mathlib.Omega.{arith}
 use native.Mathlib.Numerals.{add-one}
 use lib.ListN.{length, getD, drop, length-drop, drop-of-length-le}
 use lib.Seq.{drop-cons}
+use borrow.Author.Tests.{eq-eqb, ne-eqb}
 use Rattle.flat.proofs.Positions.{rest}
 use Rattle.flat.proofs.Walks.{from}
 use Rattle.datatypes.specs.Equality.{equalNode}
-use Rattle.datatypes_eq.specs.Nodes.{startsWith, occurs}
+use Rattle.datatypes_eq.specs.Nodes.{startsWith, alike, occurs}
 
 -- a pattern with more nodes than there are
 pub starts-short : (ks xs ls ys : List ℕ) → length ks < length ls → length ls ≡ length ys → startsWith ks xs ls ys ≡ false
@@ -49,6 +50,20 @@ module _ (ks xs ls ys : List ℕ) (i : ℕ) (e : startsWith ks xs ls ys ≡ star
   pub starts-end : length ls ≤ i → true ≡ startsWith ks xs ls ys
   unfolding startsWith
   starts-end h = sym (e ∙ ap (λ (l : List ℕ). startsWith (drop i ks) (drop i xs) l (drop i ys)) (drop-of-length-le ls h))
+
+-- two numbers of nodes, and then the scan
+module _ (ks xs ls ys : List ℕ) where
+  pub other-length : (length ks ≡ length ls → ⊥) → alike ks xs ls ys ≡ false
+  unfolding alike
+  other-length h = rw (ne-eqb (length ks) (length ls) h)
+
+  pub uneven : (length ls ≡ length ys → ⊥) → alike ks xs ls ys ≡ false
+  unfolding alike
+  uneven h = rw (ne-eqb (length ls) (length ys) h, and-false)
+
+  pub same-length : length ks ≡ length ls → length ls ≡ length ys → alike ks xs ls ys ≡ startsWith ks xs ls ys
+  unfolding alike
+  same-length h f = rw (eq-eqb (length ks) (length ls) h, eq-eqb (length ls) (length ys) f)
 
 -- no position before `at` is a start
 module _ (ks xs ls ys : List ℕ) (at : ℕ) (e : occurs ks xs ls ys ≡ occurs (drop at ks) (drop at xs) ls ys) where

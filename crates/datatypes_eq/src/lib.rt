@@ -21,7 +21,7 @@ pub fn equal(left_kinds: &[u8], left_args: &[u64], right_kinds: &[u8], right_arg
         Checked::Valid => {}
         Checked::Refused(e) => return Answer::Refused(e),
     }
-    // what is alike a valid type is valid: an unknown int takes any argument
+    // what equals a valid type node by node is a valid type: an unknown int takes any argument
     if nodes::alike(left_kinds, left_args, right_kinds, right_args) {
         return Answer::Yes;
     }

@@ -160,3 +160,21 @@ checked-type (type t) q = (t, refl)
 pub checked-refused : (r : Reading) (e : Error) → answer.Refused e ≡ checkedOf r → r ≡ refused e
 checked-refused (refused d) e q = let y : d ≡ e = cc in ap refused y
 checked-refused (type t) e q = absurd (let z : _≡_ {A = ℕ} 0 1 = cc in omega arith)
+
+-- What a check that passed tells of two arrays: they are the flat form of a type, which stands at their front.
+pub record Passed (nodes deep : ℕ) (ks xs : List ℕ) : Type 0 where
+  pub tree : DataType
+  pub reads : reading nodes deep ks xs ≡ type tree
+  pub form : Holds nodes deep ks xs tree
+  pub even : length ks ≡ length xs
+  pub whole : size tree ≡ length ks
+  pub valid : Valid ks xs
+  pub front : typeAt ks xs ≡ tree
+
+pub check-passed : {nodes deep : ℕ} {ks xs : List ℕ} → answer.Valid ≡ checkedOf (reading nodes deep ks xs) → Passed nodes deep ks xs
+check-passed {nodes} {deep} {ks} {xs} e =
+    let r = checked-type (reading nodes deep ks xs) e in
+    let h = holds nodes deep ks xs (r .0) (r .1) in
+    let k = ap length (h .kinds) ∙ length-kinds (r .0) in
+    let s = stands nodes deep ks xs (r .0) (r .1) in
+    record { tree = r .0; reads = r .1; form = h; even = k ∙ sym (ap length (h .args) ∙ length-args (r .0)); whole = sym k; valid = s .0; front = s .1 }

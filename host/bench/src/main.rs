@@ -1,29 +1,60 @@
-//! `bench [--shapes]`: nanoseconds a call, the proved code beside the plain Rust, on the same inputs.
+//! `bench [--shapes]`: nanoseconds a call, the proved code beside the plain Rust and beside the crate's own text, on the
+//! same inputs.
 //!
-//! Both are built for release and called through a slice interface; outputs are exactly long enough and not cleared
-//! between calls. A ratio below 1 says that the proved code is the faster one. `--shapes` adds inputs of other shapes.
-//! The rows of one build depend on where its linker put the archive's code: `layouts` runs them at every place.
+//! All are built for release. Outputs are exactly long enough and not cleared between calls. A ratio below 1 says that
+//! the proved code is the faster one. `--shapes` adds inputs of other shapes. The rows of one build depend on where its
+//! linker put the archive's code: `layouts` runs them at every place.
 
 #![forbid(unsafe_code)]
 
 mod inputs;
+mod rules;
 mod timing;
 
 use std::env;
 use std::hint::black_box;
 use timing::best;
+use trials::differential::has_oracle;
 use trials::flat::Flat;
 
 fn main() {
-    println!("{:<28} {:>5}  {:<6} {:>9} {:>9} {:>6}", "input", "nodes", "call", "proved ns", "plain ns", "ratio");
     let mut inputs = inputs::schemas().to_vec();
     if env::args().any(|word| word == "--shapes") {
         inputs.extend(inputs::shapes());
     }
-    for (name, flat) in &inputs {
+    beside_plain(&inputs);
+    if has_oracle() {
+        beside_the_crate(&inputs);
+    }
+}
+
+fn beside_plain(inputs: &[(&str, Flat)]) {
+    println!("{:<28} {:>5}  {:<6} {:>9} {:>9} {:>6}", "input", "nodes", "call", "proved ns", "plain ns", "ratio");
+    for (name, flat) in inputs {
         for (call, time) in [("check", check as fn(&Flat) -> (f64, f64)), ("decode", decode), ("encode", encode)] {
             let ((proved, plain), nodes) = (time(flat), flat.kinds.len());
             println!("{name:<28} {nodes:>5}  {call:<6} {proved:>9.1} {plain:>9.1} {:>6.2}", proved / plain);
+        }
+    }
+}
+
+fn beside_the_crate(inputs: &[(&str, Flat)]) {
+    println!(
+        "{:<28} {:>5}  {:<19} {:>9} {:>9} {:>6} {:>9} {:>9} {:>6}",
+        "input", "nodes", "call", "bytes ns", "crate ns", "ratio", "flat ns", "crate ns", "ratio"
+    );
+    for (name, flat) in inputs {
+        for (call, bytes, kept) in rules::rows(flat) {
+            let nodes = flat.kinds.len();
+            println!(
+                "{name:<28} {nodes:>5}  {call:<19} {:>9.1} {:>9.1} {:>6.2} {:>9.1} {:>9.1} {:>6.2}",
+                bytes.0,
+                bytes.1,
+                bytes.0 / bytes.1,
+                kept.0,
+                kept.1,
+                kept.0 / kept.1
+            );
         }
     }
 }

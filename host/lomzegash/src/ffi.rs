@@ -1,14 +1,11 @@
 //! The archive's C interface, as include/lomzegash.h declares it, behind safe functions. All unsafe code is here.
 
-use crate::Error;
+pub(crate) mod dtype;
+pub(crate) mod flat;
+mod reply;
 
-/// The answer of every entry point: number 0 and a value, or a refusal's number and value 0.
-#[repr(C)]
-#[derive(Debug)]
-struct Reply {
-    number: u64,
-    value: u64,
-}
+use crate::Error;
+use reply::Reply;
 
 extern "C" {
     fn lz_check(encoded: *const u8, encoded_len: usize) -> Reply;
@@ -28,28 +25,12 @@ extern "C" {
         out: *mut u8,
         out_len: usize,
     ) -> Reply;
-}
-
-impl Reply {
-    /// The value or the refusal.
-    ///
-    /// # Panics
-    ///
-    /// Where the reply is none that the interface allows: the archive is not the one that belongs here.
-    fn result(self) -> Result<usize, Error> {
-        let refusal = match (self.number, self.value) {
-            (0, value) => return Ok(value as usize),
-            (number, 0) => Error::from_number(number),
-            _ => None,
-        };
-        Err(refusal.unwrap_or_else(|| panic!("the archive gave {self:?}, which the interface rules out")))
-    }
+    fn lz_get_time_units(left: u8, right: u8) -> Reply;
 }
 
 pub(crate) fn check(encoded: &[u8]) -> Result<(), Error> {
     // SAFETY: pointer and length are those of one slice, which is only read.
-    let reply = unsafe { lz_check(encoded.as_ptr(), encoded.len()) };
-    reply.result().map(|value| assert_eq!(value, 0, "the archive gave a value for a check"))
+    unsafe { lz_check(encoded.as_ptr(), encoded.len()) }.nothing()
 }
 
 pub(crate) fn decode(encoded: &[u8], kinds: &mut [u8], args: &mut [u64]) -> Result<usize, Error> {
@@ -63,6 +44,11 @@ pub(crate) fn decode(encoded: &[u8], kinds: &mut [u8], args: &mut [u64]) -> Resu
 pub(crate) fn encode(kinds: &[u8], args: &[u64], out: &mut [u8]) -> Result<usize, Error> {
     // SAFETY: each pointer and length are those of one slice; the one written is borrowed mutably, so none overlap.
     unsafe { lz_encode(kinds.as_ptr(), kinds.len(), args.as_ptr(), args.len(), out.as_mut_ptr(), out.len()) }.result()
+}
+
+pub(crate) fn get_time_units(left: u8, right: u8) -> Result<u8, Error> {
+    // SAFETY: there is no pointer, and any two numbers are allowed.
+    unsafe { lz_get_time_units(left, right) }.unit()
 }
 
 #[cfg(test)]
@@ -89,23 +75,5 @@ mod tests {
             assert_eq!(parts(lz_encode([7].as_ptr(), 1, null(), 0, null_mut(), 0)), (1, 0));
             assert_eq!(parts(lz_encode(null(), 0, [0].as_ptr(), 1, null_mut(), 0)), (1, 0));
         }
-    }
-
-    #[test]
-    fn a_reply_is_a_value_or_a_refusal() {
-        assert_eq!(Reply { number: 0, value: 7 }.result(), Ok(7));
-        assert_eq!(Reply { number: 8, value: 0 }.result(), Err(Error::OutputTooShort));
-    }
-
-    #[test]
-    #[should_panic(expected = "rules out")]
-    fn a_value_beside_a_refusal_is_ruled_out() {
-        let _ = Reply { number: 8, value: 1 }.result();
-    }
-
-    #[test]
-    #[should_panic(expected = "rules out")]
-    fn an_unknown_number_is_ruled_out() {
-        let _ = Reply { number: 14, value: 0 }.result();
     }
 }

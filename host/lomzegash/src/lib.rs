@@ -1,4 +1,5 @@
-//! Flat types and encoded types, checked, decoded and encoded by proved code.
+//! Flat types and encoded types, checked, decoded and encoded by proved code, and the type rules of polars-core 0.55.2
+//! on encoded types: [`dtype`] and [`time_unit`]; some of them on flat types too: [`flat`].
 //!
 //! A *flat type* is a type as a tree in preorder: two slices of equal length, one kind ([`kind`]) and one argument for
 //! each node. An *encoded type* (a stored sheet, in the rules) is the same in bytes: the number of nodes n (2 bytes, low
@@ -22,12 +23,17 @@
 
 #![deny(missing_docs, unsafe_code)]
 
+pub mod dtype;
 mod error;
 #[allow(unsafe_code)]
 mod ffi;
+pub mod flat;
 pub mod kind;
+mod shape;
+pub mod time_unit;
 
 pub use error::Error;
+pub use shape::Shape;
 
 /// Checks an encoded type. Refused by [`Error::Length`] to [`Error::Depth`], numbers 1 to 5.
 ///

@@ -55,8 +55,24 @@ pub fn valid(kind: u8, random: &mut Random) -> u64 {
         }
         DATETIME => 4 * (random.number() & UP_TO_32_BITS) + random.below(3) as u64,
         DURATION => random.below(3) as u64,
+        UNKNOWN_INT_POS | UNKNOWN_INT_NEG if random.chance(30) => near_a_power_of_two(random),
         UNKNOWN_INT_POS | UNKNOWN_INT_NEG | ARRAY => random.number() >> random.below(64),
         FIELD => random.number() & UP_TO_32_BITS,
         _ => 0,
     }
+}
+
+/// Another argument that keeps its kind's rule, where the kind is no Struct: it differs in one bit, if it can.
+pub fn nearest(kind: u8, arg: u64, random: &mut Random) -> u64 {
+    match kind {
+        DATETIME => arg ^ (4 << random.below(32)),
+        UNKNOWN_INT_POS | UNKNOWN_INT_NEG | ARRAY => arg ^ (1 << random.below(64)),
+        FIELD => arg ^ (1 << random.below(32)),
+        _ => valid(kind, random),
+    }
+}
+
+/// A power of two, one less or one more.
+fn near_a_power_of_two(random: &mut Random) -> u64 {
+    (1 << random.below(64)) + random.pick(&[0, 1]) - random.pick(&[0, 1])
 }

@@ -65,6 +65,13 @@ impl Flat {
         self.args.extend(&other.args);
     }
 
+    /// The kinds and the arguments in bytes that are laid out as those of some, unchecked.
+    pub fn read(bytes: &[u8]) -> Flat {
+        let (kinds, args) = bytes[2..].split_at(bytes.len() / 9);
+        let args = args.chunks_exact(8).map(|arg| u64::from_le_bytes(arg.try_into().expect("8 bytes")));
+        Flat { kinds: kinds.to_vec(), args: args.collect() }
+    }
+
     /// The bytes of the encoded type with these kinds and arguments, unchecked.
     pub fn laid_out(&self) -> Vec<u8> {
         let mut bytes = (self.kinds.len() as u16).to_le_bytes().to_vec();

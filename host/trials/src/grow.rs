@@ -3,7 +3,18 @@
 use crate::arguments;
 use crate::flat::Flat;
 use crate::random::Random;
-use lomzegash::kind::{ARRAY, FIELD, LIST, STRUCT};
+use lomzegash::kind::{ARRAY, FIELD, LIST, STRUCT, UNKNOWN_INT_NEG};
+
+/// The kinds of a node with no child; a Struct of no field is one.
+pub const LEAVES: [u8; 29] = {
+    let mut kinds = [STRUCT; 29];
+    let mut kind = 0;
+    while kind <= UNKNOWN_INT_NEG {
+        kinds[kind as usize] = kind;
+        kind += 1;
+    }
+    kinds
+};
 
 /// The least room for depth in which a type of every size can be grown.
 pub const LEAST_ROOM: usize = 3;
@@ -21,8 +32,13 @@ pub struct Grown {
 
 /// A type of exactly `size` nodes, at least 1, and of depth `room` at most, at least [`LEAST_ROOM`].
 pub fn grow(random: &mut Random, size: usize, room: usize) -> Grown {
+    grow_of(random, size, room, &LEAVES)
+}
+
+/// The same, with leaves of these kinds alone.
+pub fn grow_of(random: &mut Random, size: usize, room: usize, leaves: &[u8]) -> Grown {
     let slant = random.pick(&[10, 40, 70, 97]);
-    let mut grower = Grower { random, slant, grown: Grown { flat: Flat::default(), depth: 0 } };
+    let mut grower = Grower { random, slant, leaves, grown: Grown { flat: Flat::default(), depth: 0 } };
     grower.whole_type(size, 0, room);
     grower.grown
 }
@@ -31,6 +47,7 @@ pub fn grow(random: &mut Random, size: usize, room: usize) -> Grown {
 struct Grower<'a> {
     random: &'a mut Random,
     slant: usize,
+    leaves: &'a [u8],
     grown: Grown,
 }
 
@@ -54,13 +71,9 @@ impl Grower<'_> {
 
     /// One node with no child.
     fn leaf(&mut self, depth: usize) {
-        let kind = self.random.below(LIST as usize + 1) as u8;
-        if kind == LIST {
-            self.node(STRUCT, 0, depth);
-        } else {
-            let arg = arguments::valid(kind, self.random);
-            self.node(kind, arg, depth);
-        }
+        let kind = self.random.pick(self.leaves);
+        let arg = arguments::valid(kind, self.random);
+        self.node(kind, arg, depth);
     }
 
     /// A List or an Array over a type of `size` nodes.

@@ -1,4 +1,5 @@
-//! Compares the proved code with the plain Rust: generators of inputs, good and damaged, and the comparison itself.
+//! Compares the proved code with the plain Rust and with the crate's own text: generators of inputs, good and damaged,
+//! and the comparisons themselves.
 
 #![forbid(unsafe_code)]
 #![deny(missing_docs)]
@@ -6,6 +7,14 @@
 pub mod arguments;
 pub mod compare;
 pub mod damage;
+pub mod differential;
+pub mod draw;
+pub mod entries;
 pub mod flat;
+mod flat_calls;
 pub mod grow;
+pub mod input;
+pub mod leaves;
 pub mod random;
+pub mod relatives;
+pub mod trees;

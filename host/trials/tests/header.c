@@ -7,6 +7,40 @@ static int is(lz_reply reply, uint64_t number, uint64_t value) {
     return reply.number == number && reply.value == value;
 }
 
+/* The rules, on List(Int16) and Array(3, Date). */
+static int rules(void) {
+    const uint8_t list[20] = {0x02, 0x00, 0x1C, 0x08};
+    const uint8_t array[20] = {0x02, 0x00, 0x1D, 0x13, 0x03};
+    const uint8_t any[11] = {0x01, 0x00, 0x17};
+    uint8_t out[21];
+    lz_shape_reply shape = lz_get_shape(array, 20);
+    memset(out, 9, sizeof out);
+
+    if (!is(lz_is_nested(list, 20), LZ_OK, 1) || !is(lz_is_known(list, 20), LZ_OK, 1)) return 9;
+    if (!is(lz_is_logical(list, 20), LZ_OK, 0) || !is(lz_is_logical(array, 20), LZ_OK, 1)) return 10;
+    if (!is(lz_is_primitive(list, 20), LZ_OK, 0) || !is(lz_is_primitive_numeric(list, 20), LZ_OK, 0)) return 11;
+    if (!is(lz_is_temporal(list, 20), LZ_OK, 0) || !is(lz_is_float(list, 20), LZ_OK, 0)) return 12;
+    if (!is(lz_is_integer(list, 20), LZ_OK, 0) || !is(lz_is_signed_integer(list, 20), LZ_OK, 0)) return 13;
+    if (!is(lz_is_unsigned_integer(list, 20), LZ_OK, 0) || !is(lz_is_string(list, 20), LZ_OK, 0)) return 14;
+    if (!is(lz_is_unknown(any, 11), LZ_OK, 1) || !is(lz_contains_unknown(any, 11), LZ_OK, 1)) return 15;
+    if (!is(lz_contains_list_recursive(list, 20), LZ_OK, 1)) return 16;
+
+    if (!is(lz_equal(list, 20, list, 20), LZ_OK, 1) || !is(lz_equal(list, 20, array, 20), LZ_OK, 0)) return 17;
+    if (!is(lz_contains_dtype_recursive(list, 20, any, 11), LZ_OK, 0)) return 18;
+    if (!is(lz_can_cast_to(list, 20, array, 20), LZ_OK, 2)) return 19;
+
+    if (!is(lz_inner_dtype(any, 11, out, 21), LZ_OK, 0) || out[0] != 9) return 20;
+    if (!is(lz_leaf_dtype(list, 20, out, 10), LZ_OUTPUT_TOO_SHORT, 0) || out[0] != 9) return 21;
+    if (!is(lz_array_leaf_dtype(array, 20, out, 21), LZ_OK, 11) || out[2] != 0x13 || out[11] != 9) return 22;
+    if (!is(lz_to_physical(array, 20, out, 21), LZ_OK, 20) || out[3] != 0x09 || out[20] != 9) return 23;
+    if (!is(lz_materialize_unknown(any, 11, 0, out, 0), LZ_UNKNOWN, 0)) return 24;
+    if (!is(lz_materialize_unknown(any, 11, 1, out, 21), LZ_OK, 11) || memcmp(out, any, 11) != 0) return 25;
+
+    if (shape.number != LZ_OK || shape.count != 1 || shape.widths[0] != 3 || shape.widths[1] != 0) return 26;
+    if (!is(lz_get_time_units(0, 2), LZ_OK, 2) || !is(lz_get_time_units(3, 0), LZ_ARGUMENT, 0)) return 27;
+    return 0;
+}
+
 int main(void) {
     const uint8_t list_of_int16[20] = {0x02, 0x00, 0x1C, 0x08};
     uint8_t kinds[3] = {9, 9, 9}, out[21];
@@ -23,5 +57,5 @@ int main(void) {
     if (!is(lz_encode(kinds, 1, args, 1, out, 21), LZ_SHAPE, 0) || out[0] != 9) return 6;
     if (!is(lz_encode(kinds, 2, args, 2, out, 21), LZ_OK, 20)) return 7;
     if (memcmp(out, list_of_int16, 20) != 0 || out[20] != 9) return 8;
-    return 0;
+    return rules();
 }

@@ -4,12 +4,13 @@ use mathlib.Core.Path.{_≡_, _∙_}
 use native.Mathlib.Omega.{arith}
 use denote.Ref.{now}
 use borrow.Author.Needs.{needs}
-use Prim.Native.Nat.{ℕ, _+_, _<_}
+use Prim.Native.Nat.{ℕ, _<_}
 use lib.ListN.{length, length-set}
 use borrow.Fn.Kinds.{In}
 use borrow.Fn.PlainCycle.{Measures, is, falls, and}
 use Rattle.flat.proofs.Walks.{shorter, struct-valid, one-valid, struct-nodes, one-nodes}
-use Rattle.datatypes_build.proofs.Builds.{Along, start, leaf-built, one-room, one-built, struct-room, struct-built, fields-built, next-valid, next-room, next-nodes, field-done, built-size, built-sizes}
+use Rattle.flat.proofs.Onward.{next-valid}
+use Rattle.datatypes_build.proofs.Builds.{Along, start, leaf-built, one-room, one-built, struct-room, struct-built, fields-built, next-room, all-nodes, field-done, built-size, built-sizes}
 use Rattle.datatypes_build.proofs.dtype.node_form.Reads as node-form
 use Rattle.datatypes_build.proofs.dtype.node_form.Kinds as node-form-kinds
 use Rattle.datatypes_build.proofs.+dtype-node_form+field-field_form.Lts-dtype-node_form as node-form-lts
@@ -94,12 +95,12 @@ field-form-node-form-requires : (t : ℕ) → field-form-lts.Need-node-form-requ
 field-form-node-form-requires t c κs =
     let s = c .before .before .before .before .before .before .before .before .before .before .before in
     let l = c .before .before .before .before .before .before .loop in
-    (shorter (now (s .args .kinds)) (l .at) t (s .pre .0) (omega (arith, l .inv .2 .nodes, l .inv .2 .others, s .pre .1 .0)), (next-valid (l .inv .2) (omega arith), next-room (l .inv .2) (omega arith) (s .pre .1 .1) (l .inv .0) (l .inv .1)))
+    (shorter (now (s .args .kinds)) (l .at) t (s .pre .0) (omega (arith, l .inv .2 .nodes, l .inv .2 .others, s .pre .1 .0)), (next-valid (l .left) (l .at) (now (s .args .kinds)) (now (s .args .args)) (l .inv .2 .others) (omega arith), next-room (l .inv .2) (omega arith) (s .pre .1 .1) (l .inv .0) (l .inv .1)))
 
 field-form-add-at : (t : ℕ) → field-form-lts.Need-add-at (field-form-claims t) (field-form-at t) field-form.Post field-form-Inv-loop field-form-μ-loop
 field-form-add-at t c =
     let s = c .before .before .before .before .before .before .before .before .before .before .before .before .before .before .before .before in
-    omega (arith, next-nodes (c .before .before .before .before .before .before .before .before .before .before .before .loop .inv .2) (omega arith) _ (built-size (s .args .form) _ (c .before .before .before .before .node-form .ensures)), s .pre .1 .0)
+    omega (arith, all-nodes (c .before .before .before .before .before .before .before .before .before .before .before .loop .inv .2) (omega arith) _ (built-size (s .args .form) _ (c .before .before .before .before .node-form .ensures)), s .pre .1 .0)
 
 field-form-loop-again : (t : ℕ) → field-form-lts.Need-loop-again (field-form-claims t) (field-form-at t) field-form.Post field-form-Inv-loop field-form-μ-loop
 field-form-loop-again t c =

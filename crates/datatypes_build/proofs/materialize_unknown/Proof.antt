@@ -15,7 +15,7 @@ returns : tie.Need-returns
 unfolding fitting
 returns c =
     let v = sym (c .before .before .enum-told .given .1) ∙ c .before .before .before .before .check .ensures in
-    writes-refused (rw (known-none _ _ _ _ v _ (sym (c .before .any-refused .ensures) ∙ c .if1 .taken)))
+    writes-refused (rw (known-none _ _ _ _ v (c .before .before .before .before .before .before .before .before .before .args .allow-unknown) (sym (c .before .any-refused .ensures) ∙ c .if1 .taken)))
 
 build-requires : tie.Need-build-requires
 build-requires c κs =
@@ -31,7 +31,7 @@ returns-3 c =
     let at = c .before .before .before .before in
     let no = at .before .before .before in
     let v = sym (no .before .before .enum-told .given .1) ∙ no .before .before .before .before .check .ensures in
-    rw (known-type _ _ _ _ v _ (sym (no .before .any-refused .ensures) ∙ no .if1 .left)) (at .build .ensures)
+    rw (known-type _ _ _ _ v (no .before .before .before .before .before .before .before .before .before .args .allow-unknown) (sym (no .before .any-refused .ensures) ∙ no .if1 .left)) (at .build .ensures)
 
 pub materialize-unknown-spec : {M : Type 1} → statement M
 materialize-unknown-spec = tie.close (tie.spec (λ c κs. search needs) (λ c. search needs) (λ c. search needs) (λ c κs. search needs) returns build-requires returns-2 (λ c. search needs) (λ c. search needs) returns-3)

@@ -81,17 +81,17 @@ dtype·node-cast-under-requires t c κs =
 dtype·node-cast-returns-4 : (t : ℕ) → dtype·node-cast-lts.Need-returns-4 (dtype·node-cast-claims t) (dtype·node-cast-at t) dtype·node-cast.Post
 dtype·node-cast-returns-4 t c =
     let s = c .before .before .before .before .before .before .before .before .before .before .before .before .before .before .before .before .before .before .before in
-    other-width (now (s .args .from-kinds)) (now (s .args .from-args)) (s .pre .1 .0) (now (s .args .to-kinds)) (now (s .args .to-args)) (s .pre .1 .1) (sym (c .before .before .before .before .before .before .before .before .enum-told3 .given .1) ∙ c .before .before .before .before .before .before .before .before .before .before .before-nested .ensures) (c .before .before .before .before .before .before .before .if1 .left) (c .before .if4 .left) (c .before .before .match2 .rest .1) (c .if5 .taken)
+    other-width (now (s .args .from-kinds)) (now (s .args .from-args)) (s .pre .1 .0) (now (s .args .to-kinds)) (now (s .args .to-args)) (s .pre .1 .1) (sym (c .before .before .before .before .before .before .before .before .enum-told3 .given .1) ∙ c .before .before .before .before .before .before .before .before .before .before .before-nested .ensures) (c .before .before .before .before .before .before .before .if1 .left) (omega (arith, c .before .if4 .left)) (c .before .before .match2 .rest .1) (λ e. omega (arith, e, c .if5 .taken))
 
 dtype·node-cast-node-cast-requires : (t : ℕ) → dtype·node-cast-lts.Need-node-cast-requires (dtype·node-cast-claims t) (dtype·node-cast-at t) dtype·node-cast.Post
 dtype·node-cast-node-cast-requires t c κs =
     let s = c .before .before .before .before .before .before .before .before .before .before .before .before .before .before .before .before .before .before .before in
-    (shorter (now (s .args .from-kinds)) 0 t (s .pre .0) (omega (arith, s .pre .1 .0)), (one-valid (now (s .args .from-kinds)) (now (s .args .from-args)) (s .pre .1 .0) (c .before .if4 .left) (c .before .before .match2 .rest .1), one-valid-right (now (s .args .from-kinds)) (now (s .args .from-args)) (s .pre .1 .0) (now (s .args .to-kinds)) (now (s .args .to-args)) (s .pre .1 .1) (sym (c .before .before .before .before .before .before .before .before .enum-told3 .given .1) ∙ c .before .before .before .before .before .before .before .before .before .before .before-nested .ensures) (c .before .before .before .before .before .before .before .if1 .left) (c .before .if4 .left) (c .before .before .match2 .rest .1)))
+    (shorter (now (s .args .from-kinds)) 0 t (s .pre .0) (omega (arith, s .pre .1 .0)), (one-valid (now (s .args .from-kinds)) (now (s .args .from-args)) (s .pre .1 .0) (omega (arith, c .before .if4 .left)) (c .before .before .match2 .rest .1), one-valid-right (now (s .args .from-kinds)) (now (s .args .from-args)) (s .pre .1 .0) (now (s .args .to-kinds)) (now (s .args .to-args)) (s .pre .1 .1) (sym (c .before .before .before .before .before .before .before .before .enum-told3 .given .1) ∙ c .before .before .before .before .before .before .before .before .before .before .before-nested .ensures) (c .before .before .before .before .before .before .before .if1 .left) (omega (arith, c .before .if4 .left)) (c .before .before .match2 .rest .1)))
 
 dtype·node-cast-under-requires-2 : (t : ℕ) → dtype·node-cast-lts.Need-under-requires-2 (dtype·node-cast-claims t) (dtype·node-cast-at t) dtype·node-cast.Post
 dtype·node-cast-under-requires-2 t c κs =
     let s = c .before .before .before .before .before .before .before .before .before .before .before .before .before .before .before .before .before .before .before .before in
-    one-within (now (s .args .from-kinds)) (now (s .args .from-args)) (s .pre .1 .0) (now (s .args .to-kinds)) (now (s .args .to-args)) (s .pre .1 .1) (sym (c .before .before .before .before .before .before .before .before .before .enum-told3 .given .1) ∙ c .before .before .before .before .before .before .before .before .before .before .before .before-nested .ensures) (c .before .before .before .before .before .before .before .before .if1 .left) (c .before .before .if4 .left) (c .before .before .before .match2 .rest .1) _ (omega (arith, s .good)) (omega (arith, s .good)) _ (c .node-cast .ensures)
+    one-within (now (s .args .from-kinds)) (now (s .args .from-args)) (s .pre .1 .0) (now (s .args .to-kinds)) (now (s .args .to-args)) (s .pre .1 .1) (sym (c .before .before .before .before .before .before .before .before .before .enum-told3 .given .1) ∙ c .before .before .before .before .before .before .before .before .before .before .before .before-nested .ensures) (c .before .before .before .before .before .before .before .before .if1 .left) (omega (arith, c .before .before .if4 .left)) (c .before .before .before .match2 .rest .1) _ (omega (arith, s .good)) (omega (arith, s .good)) _ (c .node-cast .ensures)
 
 dtype·node-cast-returns-5 : (t : ℕ) → dtype·node-cast-lts.Need-returns-5 (dtype·node-cast-claims t) (dtype·node-cast-at t) dtype·node-cast.Post
 dtype·node-cast-returns-5 t c =
@@ -116,7 +116,7 @@ dtype·node-cast-returns-8 t c =
 dtype·node-cast-returns-9 : (t : ℕ) → dtype·node-cast-lts.Need-returns-9 (dtype·node-cast-claims t) (dtype·node-cast-at t) dtype·node-cast.Post
 dtype·node-cast-returns-9 t c =
     let s = c .before .before .before .before .before .before .before .before .before .before .before .before .before .before .before .before .before .before .before .before .before in
-    c .under2 .ensures ∙ one-cast (now (s .args .from-kinds)) (now (s .args .from-args)) (s .pre .1 .0) (now (s .args .to-kinds)) (now (s .args .to-args)) (s .pre .1 .1) (sym (c .before .before .before .before .before .before .before .before .before .before .enum-told3 .given .1) ∙ c .before .before .before .before .before .before .before .before .before .before .before .before .before-nested .ensures) (c .before .before .before .before .before .before .before .before .before .if1 .left) (c .before .before .before .if4 .left) (c .before .before .before .before .match2 .rest .1) (c .before .before .if5 .left) _ (c .before .node-cast .ensures)
+    c .under2 .ensures ∙ one-cast (now (s .args .from-kinds)) (now (s .args .from-args)) (s .pre .1 .0) (now (s .args .to-kinds)) (now (s .args .to-args)) (s .pre .1 .1) (sym (c .before .before .before .before .before .before .before .before .before .before .enum-told3 .given .1) ∙ c .before .before .before .before .before .before .before .before .before .before .before .before .before-nested .ensures) (c .before .before .before .before .before .before .before .before .before .if1 .left) (omega (arith, c .before .before .before .if4 .left)) (c .before .before .before .before .match2 .rest .1) (c .before .before .if5 .left) _ (c .before .node-cast .ensures)
 
 field·field-cast-loop-holds : (t : ℕ) → field·field-cast-lts.Need-loop-holds (field·field-cast-claims t) (field·field-cast-at t) field·field-cast.Post field·field-cast-Inv-loop field·field-cast-μ-loop
 field·field-cast-loop-holds t c =
@@ -127,40 +127,40 @@ field·field-cast-node-cast-requires : (t : ℕ) → field·field-cast-lts.Need-
 field·field-cast-node-cast-requires t c κs =
     let s = c .before .before .before .before .before .before .before .before .before .before in
     let l = c .before .before .before .before .before in
-    (shorter (now (s .args .from-kinds)) (l .loop .i) t (s .pre .0) (omega (arith, l .loop .inv .within, c .before .before .before .before .loop-test .taken)), (valid-one (s .args .count) (now (s .args .from-kinds)) (now (s .args .from-args)) (now (s .args .to-kinds)) (now (s .args .to-args)) (l .loop .i) (l .loop .j) (l .loop .left) (l .loop .inv) (c .before .before .before .before .loop-test .taken), valid-other (s .args .count) (now (s .args .from-kinds)) (now (s .args .from-args)) (now (s .args .to-kinds)) (now (s .args .to-args)) (l .loop .i) (l .loop .j) (l .loop .left) (l .loop .inv) (c .before .before .before .before .loop-test .taken)))
+    (shorter (now (s .args .from-kinds)) (l .loop .i) t (s .pre .0) (omega (arith, l .loop .inv .within, c .before .before .before .before .loop-test .taken)), (valid-one (s .args .count) (now (s .args .from-kinds)) (now (s .args .from-args)) (now (s .args .to-kinds)) (now (s .args .to-args)) (l .loop .i) (l .loop .j) (l .loop .left) (l .loop .inv) (omega (arith, c .before .before .before .before .loop-test .taken)), valid-other (s .args .count) (now (s .args .from-kinds)) (now (s .args .from-args)) (now (s .args .to-kinds)) (now (s .args .to-args)) (l .loop .i) (l .loop .j) (l .loop .left) (l .loop .inv) (omega (arith, c .before .before .before .before .loop-test .taken))))
 
 field·field-cast-add-i : (t : ℕ) → field·field-cast-lts.Need-add-i (field·field-cast-claims t) (field·field-cast-at t) field·field-cast.Post field·field-cast-Inv-loop field·field-cast-μ-loop
 field·field-cast-add-i t c =
     let s = c .before .before .before .before .before .before .before .before .before .before .before .before .before .before in
     let l = c .before .before .before .before .before .before .before .before .before in
     let n = c .before .n .given in
-    omega (arith, s .good, ends (s .args .count) (now (s .args .from-kinds)) (now (s .args .from-args)) (now (s .args .to-kinds)) (now (s .args .to-args)) (l .loop .i) (l .loop .j) (l .loop .left) (l .loop .inv) (c .before .before .before .before .before .before .before .before .loop-test .taken) (n .0 .0) (n .0 .1 .0) (sym (n .1) ∙ c .before .before .before .node-cast .ensures) .0)
+    omega (arith, s .good, ends (s .args .count) (now (s .args .from-kinds)) (now (s .args .from-args)) (now (s .args .to-kinds)) (now (s .args .to-args)) (l .loop .i) (l .loop .j) (l .loop .left) (l .loop .inv) (omega (arith, c .before .before .before .before .before .before .before .before .loop-test .taken)) (n .0 .0) (n .0 .1 .0) (sym (n .1) ∙ c .before .before .before .node-cast .ensures) .0)
 
 field·field-cast-add-j : (t : ℕ) → field·field-cast-lts.Need-add-j (field·field-cast-claims t) (field·field-cast-at t) field·field-cast.Post field·field-cast-Inv-loop field·field-cast-μ-loop
 field·field-cast-add-j t c =
     let s = c .before .before .before .before .before .before .before .before .before .before .before .before .before .before in
     let l = c .before .before .before .before .before .before .before .before .before in
     let n = c .before .n .given in
-    omega (arith, s .good, ends (s .args .count) (now (s .args .from-kinds)) (now (s .args .from-args)) (now (s .args .to-kinds)) (now (s .args .to-args)) (l .loop .i) (l .loop .j) (l .loop .left) (l .loop .inv) (c .before .before .before .before .before .before .before .before .loop-test .taken) (n .0 .0) (n .0 .1 .0) (sym (n .1) ∙ c .before .before .before .node-cast .ensures) .1)
+    omega (arith, s .good, ends (s .args .count) (now (s .args .from-kinds)) (now (s .args .from-args)) (now (s .args .to-kinds)) (now (s .args .to-args)) (l .loop .i) (l .loop .j) (l .loop .left) (l .loop .inv) (omega (arith, c .before .before .before .before .before .before .before .before .loop-test .taken)) (n .0 .0) (n .0 .1 .0) (sym (n .1) ∙ c .before .before .before .node-cast .ensures) .1)
 
 field·field-cast-loop-again : (t : ℕ) → field·field-cast-lts.Need-loop-again (field·field-cast-claims t) (field·field-cast-at t) field·field-cast.Post field·field-cast-Inv-loop field·field-cast-μ-loop
 field·field-cast-loop-again t c =
     let s = c .before .before .before .before .before .before .before .before .before .before .before .before .before .before in
     let l = c .before .before .before .before .before .before .before .before .before in
     let n = c .before .n .given in
-    field-done (s .args .count) (now (s .args .from-kinds)) (now (s .args .from-args)) (now (s .args .to-kinds)) (now (s .args .to-args)) (l .loop .i) (l .loop .j) (l .loop .left) (l .loop .inv) (c .before .before .before .before .before .before .before .before .loop-test .taken) (n .0 .0) (n .0 .1 .0) (sym (n .1) ∙ c .before .before .before .node-cast .ensures)
+    field-done (s .args .count) (now (s .args .from-kinds)) (now (s .args .from-args)) (now (s .args .to-kinds)) (now (s .args .to-args)) (l .loop .i) (l .loop .j) (l .loop .left) (l .loop .inv) (omega (arith, c .before .before .before .before .before .before .before .before .loop-test .taken)) (n .0 .0) (n .0 .1 .0) (sym (n .1) ∙ c .before .before .before .node-cast .ensures)
 
 field·field-cast-returns : (t : ℕ) → field·field-cast-lts.Need-returns (field·field-cast-claims t) (field·field-cast-at t) field·field-cast.Post field·field-cast-Inv-loop field·field-cast-μ-loop
 field·field-cast-returns t c =
     let s = c .before .before .before .before .before .before .before .before .before .before .before .before .before in
     let l = c .before .before .before .before .before .before .before .before in
-    fields-no (s .args .count) (now (s .args .from-kinds)) (now (s .args .from-args)) (now (s .args .to-kinds)) (now (s .args .to-args)) (l .loop .i) (l .loop .j) (l .loop .left) (l .loop .inv) (c .before .before .before .before .before .before .before .loop-test .taken) (sym (c .enum-told .given .1) ∙ c .before .before .node-cast .ensures)
+    fields-no (s .args .count) (now (s .args .from-kinds)) (now (s .args .from-args)) (now (s .args .to-kinds)) (now (s .args .to-args)) (l .loop .i) (l .loop .j) (l .loop .left) (l .loop .inv) (omega (arith, c .before .before .before .before .before .before .before .loop-test .taken)) (sym (c .enum-told .given .1) ∙ c .before .before .node-cast .ensures)
 
 field·field-cast-returns-2 : (t : ℕ) → field·field-cast-lts.Need-returns-2 (field·field-cast-claims t) (field·field-cast-at t) field·field-cast.Post field·field-cast-Inv-loop field·field-cast-μ-loop
 field·field-cast-returns-2 t c =
     let s = c .before .before .before .before .before .before .before .before .before .before .before .before .before in
     let l = c .before .before .before .before .before .before .before .before in
-    fields-unsure (s .args .count) (now (s .args .from-kinds)) (now (s .args .from-args)) (now (s .args .to-kinds)) (now (s .args .to-args)) (l .loop .i) (l .loop .j) (l .loop .left) (l .loop .inv) (c .before .before .before .before .before .before .before .loop-test .taken) (sym (c .enum-told2 .given .1) ∙ c .before .before .node-cast .ensures)
+    fields-unsure (s .args .count) (now (s .args .from-kinds)) (now (s .args .from-args)) (now (s .args .to-kinds)) (now (s .args .to-args)) (l .loop .i) (l .loop .j) (l .loop .left) (l .loop .inv) (omega (arith, c .before .before .before .before .before .before .before .loop-test .taken)) (sym (c .enum-told2 .given .1) ∙ c .before .before .node-cast .ensures)
 
 field·field-cast-returns-3 : (t : ℕ) → field·field-cast-lts.Need-returns-3 (field·field-cast-claims t) (field·field-cast-at t) field·field-cast.Post field·field-cast-Inv-loop field·field-cast-μ-loop
 field·field-cast-returns-3 t c =

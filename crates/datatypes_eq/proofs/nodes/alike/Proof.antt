@@ -1,20 +1,19 @@
 -- `datatypes_eq::nodes::alike` meets its contract. Assumes nothing.
-use borrow.Author.Tests.{eq-eqb, ne-eqb}
-use Rattle.datatypes_eq.specs.Nodes.{alike}
+use mathlib.Core.Path.{sym, _∙_}
+use native.Mathlib.Omega.{arith}
+use borrow.Author.Needs.{needs}
+use Rattle.datatypes_eq.proofs.Steps.{other-length, uneven, same-length}
 use Rattle.datatypes_eq.proofs.nodes.alike.Statement.{statement}
 use Rattle.datatypes_eq.proofs.nodes.alike.Tie as tie
 
 returns : tie.Need-returns
-unfolding alike
-returns c = rw (ne-eqb _ _ (c .if1 .taken))
+returns c = let h = c .if1 .taken in sym (other-length _ _ _ _ (omega arith))
 
 returns-2 : tie.Need-returns-2
-unfolding alike
-returns-2 c = rw (ne-eqb _ _ (c .if2 .taken), eq-eqb _ _ (c .before .if1 .left))
+returns-2 c = let h = c .if2 .taken in sym (uneven _ _ _ _ (omega arith))
 
 returns-3 : tie.Need-returns-3
-unfolding alike
-returns-3 c = rw (eq-eqb _ _ (c .before .if2 .left), eq-eqb _ _ (c .before .before .if1 .left)) (c .starts-with .ensures)
+returns-3 c = c .starts-with .ensures ∙ sym (same-length _ _ _ _ (omega arith) (omega arith))
 
 pub alike-spec : {M : Type 1} → statement M
 alike-spec =
@@ -22,5 +21,5 @@ alike-spec =
     (tie.spec
     returns
     returns-2
-    (λ c κs. (c .before .before .before .before .before .before .pre, c .if2 .left))
+    (λ c κs. search needs)
     returns-3)

@@ -1,0 +1,96 @@
+-- The cases that document 01 marks [P], as one table: each row is the number of its corner, what is asked and the answer. Assumes nothing: these are definitions.
+use mathlib.Core.Path.{_≡_}
+use mathlib.Core.Bool.{Bool, true, false}
+use mathlib.Core.List.{List, [], _∷_, map}
+use mathlib.Core.Option.{Option, none, some}
+use Prim.Native.Nat.{ℕ, _+_, _-_, _^_}
+use lib.IntN.{ℤ, pos, negsuc, negℤ}
+use Rattle.flat.specs.Kind
+use Rattle.flat.specs.Tree.{DataType, leaf, struct, Fields, empty, field}
+use Rattle.datatypes.specs.Cast.{canCastTo}
+use Rattle.datatypes.specs.Materialize.{materializeUnknown}
+
+-- what is asked of the rules
+pub data Asked : Type 0 where
+  can-cast : DataType → DataType → Asked
+  materialize : (allow : Bool) → DataType → Asked
+
+-- what they answer: yes, no or no verdict; a type, or that the call is refused
+pub data Answered : Type 0 where
+  verdict : Option Bool → Answered
+  result : Option DataType → Answered
+
+abbrev pub answer : Asked → Answered
+answer (can-cast from to) = verdict (canCastTo from to)
+answer (materialize allow t) = result (materializeUnknown allow t)
+
+pub record Case : Type 0 where
+  pub corner : ℕ
+  pub asked : Asked
+  pub answered : Answered
+
+abbrev pub case : ℕ → Asked → Answered → Case
+case n q a = record { corner = n; asked = q; answered = a }
+
+abbrev pub yes : Answered
+yes = verdict (some true)
+
+abbrev pub no : Answered
+no = verdict (some false)
+
+abbrev pub no-verdict : Answered
+no-verdict = verdict none
+
+abbrev pub gives : DataType → Answered
+gives t = result (some t)
+
+abbrev pub refused : Answered
+refused = result none
+
+-- a type without an argument
+abbrev pub of : ℕ → DataType
+of k = leaf k 0
+
+-- dyn v
+abbrev pub dyn : ℤ → DataType
+dyn (pos v) = leaf Kind.UnknownIntPos v
+dyn (negsuc v) = leaf Kind.UnknownIntNeg v
+
+-- a Struct of one field, and of two, named from n on
+abbrev pub one : ℕ → DataType → DataType
+one n t = struct (field n t empty)
+
+abbrev pub two : ℕ → DataType → DataType → DataType
+two n t u = struct (field n t (field (n + 1) u empty))
+
+-- The table, for any fields fs.
+abbrev pub table : Fields → List Case
+table fs =
+    -- 11: an empty Struct to any Struct; otherwise unequal lengths
+    case 11 (can-cast (struct empty) (struct fs)) yes
+    ∷ case 11 (can-cast (one 1 (of Kind.Int8)) (struct empty)) no
+    ∷ case 11 (can-cast (one 1 (of Kind.Int8)) (two 5 (of Kind.String) (of Kind.Null))) no
+    ∷ case 11 (can-cast (two 1 (of Kind.Null) (of Kind.Int8)) (one 5 (of Kind.Null))) no
+    -- 12: left to right, the first no or no verdict; names don't count
+    ∷ case 12 (can-cast (two 1 (of Kind.Boolean) (of Kind.Int8)) (two 5 (of Kind.Null) (of Kind.String))) no
+    ∷ case 12 (can-cast (two 1 (of Kind.Int8) (of Kind.Boolean)) (two 5 (of Kind.String) (of Kind.Null))) no-verdict
+    ∷ case 12 (can-cast (two 1 (of Kind.Boolean) (of Kind.Int8)) (two 5 (of Kind.String) (of Kind.Int64))) yes
+    -- 14
+    ∷ case 14 (can-cast (of Kind.Boolean) (of Kind.Null)) no
+    ∷ case 14 (can-cast (of Kind.Null) (of Kind.Boolean)) yes
+    -- 15: the limits of dyn v, then the other unknown kinds; any is kept if allowed, else the whole call is refused
+    ∷ case 15 (materialize false (dyn (pos (2 ^ 31 - 1)))) (gives (of Kind.Int32))
+    ∷ case 15 (materialize false (dyn (pos (2 ^ 31)))) (gives (of Kind.Int64))
+    ∷ case 15 (materialize false (dyn (pos (2 ^ 63)))) (gives (of Kind.UInt64))
+    ∷ case 15 (materialize false (dyn (negℤ (pos (2 ^ 63 + 1))))) (gives (of Kind.Int128))
+    ∷ case 15 (materialize false (of Kind.UnknownFloat)) (gives (of Kind.Float64))
+    ∷ case 15 (materialize false (of Kind.UnknownStr)) (gives (of Kind.String))
+    ∷ case 15 (materialize true (of Kind.UnknownAny)) (gives (of Kind.UnknownAny))
+    ∷ case 15 (materialize false (of Kind.UnknownAny)) refused
+    ∷ case 15 (materialize true (two 1 (of Kind.UnknownStr) (of Kind.UnknownAny))) (gives (two 1 (of Kind.String) (of Kind.UnknownAny)))
+    ∷ case 15 (materialize false (two 1 (of Kind.UnknownStr) (of Kind.UnknownAny))) refused
+    ∷ []
+
+-- The claim: every row's answer is what the definitions answer.
+abbrev pub CasesHold : Type 0
+CasesHold = (fs : Fields) → map (λ (c : Case). answer (c .asked)) (table fs) ≡ map (λ (c : Case). c .answered) (table fs)

@@ -1,0 +1,252 @@
+// The calls, by the numbers of their entry points. `recorded` is what a line has after the types of a call: its other inputs, then its answer.
+use crate::answer::is_answer;
+use crate::answer::is_reply;
+use crate::answer::same_numbers;
+use crate::output::Form;
+use crate::output::is_built;
+use crate::parts::between;
+use crate::parts::first;
+use crate::parts::from;
+use crate::reader::Found;
+use crate::reader::NODES;
+use crate::reader::read_type;
+use datatypes::answer::Answer;
+use datatypes::dtype;
+use datatypes::time_unit::TimeUnit;
+use datatypes::time_unit::Unit;
+use datatypes::time_unit::unit_of;
+use datatypes_inner::Inner;
+use flat::Checked;
+use flat::Flat;
+use flat::error::Error;
+
+fn is_checked(kinds: &[u8], args: &[u64], recorded: &[u64]) -> bool {
+    match flat::check(kinds, args) {
+        Checked::Valid => is_reply(recorded, 0, 0),
+        Checked::Refused(e) => is_reply(recorded, e.number(), 0),
+    }
+}
+
+fn predicate(entry: u64, kinds: &[u8], args: &[u64]) -> Answer {
+    match entry {
+        2 => dtype::is_nested(kinds, args),
+        3 => dtype::is_known(kinds, args),
+        4 => dtype::is_logical(kinds, args),
+        5 => dtype::is_primitive(kinds, args),
+        6 => dtype::is_primitive_numeric(kinds, args),
+        7 => dtype::is_temporal(kinds, args),
+        8 => dtype::is_float(kinds, args),
+        9 => dtype::is_integer(kinds, args),
+        10 => dtype::is_signed_integer(kinds, args),
+        11 => dtype::is_unsigned_integer(kinds, args),
+        12 => dtype::is_string(kinds, args),
+        13 => dtype::is_unknown(kinds, args),
+        14 => dtype::contains_unknown(kinds, args),
+        _ => dtype::contains_list_recursive(kinds, args),
+    }
+}
+
+// The room is recorded first. The port gives parts of the input and the recorded call copies, so only that one is refused for its room.
+fn is_part(inner: Inner, kinds: &[u8], args: &[u64], recorded: &[u64]) -> bool {
+    if recorded.len() == 0 {
+        return false;
+    }
+    let room = recorded[0];
+    let answer = &recorded[1..];
+    match inner {
+        Inner::Nodes(n) => {
+            let nodes = n as u64;
+            if nodes > room {
+                return is_reply(answer, Error::OutputTooShort.number(), 0);
+            }
+            is_answer(answer, 0, nodes, kinds, args)
+        }
+        Inner::Nothing => is_answer(answer, 0, 0, kinds, args),
+        Inner::Refused(e) => is_answer(answer, e.number(), 0, kinds, args),
+    }
+}
+
+fn is_inner(entry: u64, kinds: &[u8], args: &[u64], recorded: &[u64]) -> bool {
+    match entry {
+        19 => is_part(
+            datatypes_inner::inner_dtype(kinds, args),
+            datatypes_inner::inner_dtype_kinds(kinds, args),
+            datatypes_inner::inner_dtype_args(kinds, args),
+            recorded,
+        ),
+        20 => is_part(
+            datatypes_inner::leaf_dtype(kinds, args),
+            datatypes_inner::leaf_dtype_kinds(kinds, args),
+            datatypes_inner::leaf_dtype_args(kinds, args),
+            recorded,
+        ),
+        _ => is_part(
+            datatypes_inner::array_leaf_dtype(kinds, args),
+            datatypes_inner::array_leaf_dtype_kinds(kinds, args),
+            datatypes_inner::array_leaf_dtype_args(kinds, args),
+            recorded,
+        ),
+    }
+}
+
+fn is_materialized(kinds: &[u8], args: &[u64], recorded: &[u64]) -> bool {
+    if recorded.len() == 0 {
+        return false;
+    }
+    let allow_unknown = recorded[0];
+    if allow_unknown > 1 {
+        return false;
+    }
+    is_built(
+        Form::Materialized(allow_unknown == 1),
+        kinds,
+        args,
+        &recorded[1..],
+    )
+}
+
+// Unused widths are 0.
+fn is_shape(number: u64, count: u64, widths: &[u64; Flat::MAX_DEPTH], recorded: &[u64]) -> bool {
+    let n = count as usize;
+    let unused = [0u64; Flat::MAX_DEPTH];
+    if !same_numbers(from(widths, n), from(&unused, n)) {
+        return false;
+    }
+    is_answer(recorded, number, count, b"", between(widths, 0, n))
+}
+
+fn is_shaped(kinds: &[u8], args: &[u64], recorded: &[u64]) -> bool {
+    let shape = datatypes_inner::get_shape(kinds, args);
+    let widths = shape.widths;
+    is_shape(shape.number, shape.count, &widths, recorded)
+}
+
+fn agrees_on(entry: u64, kinds: &[u8], args: &[u64], recorded: &[u64]) -> bool {
+    match entry {
+        1 => is_checked(kinds, args, recorded),
+        2..=15 => {
+            let answer = predicate(entry, kinds, args);
+            is_reply(recorded, answer.number(), answer.value())
+        }
+        19..=21 => is_inner(entry, kinds, args, recorded),
+        22 => is_built(Form::Physical, kinds, args, recorded),
+        23 => is_materialized(kinds, args, recorded),
+        24 => is_shaped(kinds, args, recorded),
+        _ => false,
+    }
+}
+
+fn agrees_on_two(
+    entry: u64,
+    left_kinds: &[u8],
+    left_args: &[u64],
+    right_kinds: &[u8],
+    right_args: &[u64],
+    recorded: &[u64],
+) -> bool {
+    match entry {
+        16 => {
+            let answer = datatypes_eq::equal(left_kinds, left_args, right_kinds, right_args);
+            is_reply(recorded, answer.number(), answer.value())
+        }
+        17 => {
+            let answer = datatypes_eq::contains_dtype_recursive(
+                left_kinds,
+                left_args,
+                right_kinds,
+                right_args,
+            );
+            is_reply(recorded, answer.number(), answer.value())
+        }
+        _ => {
+            let verdict = datatypes_cast::can_cast_to(
+                left_kinds,
+                left_args,
+                right_kinds,
+                right_args,
+            );
+            is_reply(recorded, verdict.number(), verdict.value())
+        }
+    }
+}
+
+fn kinds_of(kinds: &[u8; NODES], n: usize) -> &[u8] {
+    first(kinds, n)
+}
+
+fn one_type(entry: u64, line: &[u64]) -> bool {
+    let mut kinds = [0u8; NODES];
+    match read_type(line, &mut kinds) {
+        Found::At(n, args, end) => agrees_on(
+            entry,
+            kinds_of(&kinds, n),
+            between(line, args, end),
+            from(line, end),
+        ),
+        Found::Nothing => false,
+    }
+}
+
+// The left type is read.
+fn right_type(entry: u64, left_kinds: &[u8], left_args: &[u64], line: &[u64]) -> bool {
+    let mut kinds = [0u8; NODES];
+    match read_type(line, &mut kinds) {
+        Found::At(n, args, end) => agrees_on_two(
+            entry,
+            left_kinds,
+            left_args,
+            kinds_of(&kinds, n),
+            between(line, args, end),
+            from(line, end),
+        ),
+        Found::Nothing => false,
+    }
+}
+
+fn two_types(entry: u64, line: &[u64]) -> bool {
+    let mut kinds = [0u8; NODES];
+    match read_type(line, &mut kinds) {
+        Found::At(n, args, end) => right_type(
+            entry,
+            kinds_of(&kinds, n),
+            between(line, args, end),
+            from(line, end),
+        ),
+        Found::Nothing => false,
+    }
+}
+
+fn unit_number(unit: TimeUnit) -> u64 {
+    unit.number() as u64
+}
+
+fn two_units(line: &[u64]) -> bool {
+    if line.len() < 2 {
+        return false;
+    }
+    let left = line[0];
+    let right = line[1];
+    if left > 255 {
+        return false;
+    }
+    if right > 255 {
+        return false;
+    }
+    let recorded = &line[2..];
+    match unit_of(left as u8) {
+        Unit::Of(l) => match unit_of(right as u8) {
+            Unit::Of(r) => is_reply(recorded, 0, unit_number(utils::get_time_units(l, r))),
+            Unit::Refused(e) => is_reply(recorded, e.number(), 0),
+        },
+        Unit::Refused(e) => is_reply(recorded, e.number(), 0),
+    }
+}
+
+// Whether the port answers a call as a line has it, of which this is what follows the entry point's number.
+pub fn agrees(entry: u64, line: &[u64]) -> bool {
+    match entry {
+        16..=18 => two_types(entry, line),
+        25 => two_units(line),
+        _ => one_type(entry, line),
+    }
+}

@@ -1,0 +1,157 @@
+//! Answers of the oracle as lines, to be replayed where there is no Rust.
+//!
+//! One answer a line. A line is unsigned numbers in decimal with one space between:
+//!
+//!     entry input.. number value result..
+//!
+//! | entry | what | input | value | result |
+//! |---|---|---|---|---|
+//! | 1 | check | type | 0 | |
+//! | 2 to 15 | the predicates below, in this order | type | 0 no, 1 yes | |
+//! | 16, 17, 18 | equal, contains_dtype_recursive, can_cast_to | left type, right type | 0 no, 1 yes, 2 no verdict | |
+//! | 19, 20, 21, 22 | inner_dtype, leaf_dtype, array_leaf_dtype, to_physical | type, room | nodes of the result, 0 for None | its kinds, its arguments |
+//! | 23 | materialize_unknown | type, allow_unknown (0 or 1), room | the same | the same |
+//! | 24 | get_shape | type | widths, 0 for None | the widths |
+//! | 25 | get_time_units | unit, unit | the unit | |
+//!
+//! A type is the number of its kinds, the kinds, the number of its arguments, the arguments; the two numbers differ only
+//! where the call is refused for it. Room is how many nodes an output can hold. Number is 0 or the refusal's; beside a
+//! refusal the value is 0 and there is no result. A line of the single number 0 is the last.
+//!
+//! The predicates: is_nested 2, is_known 3, is_logical 4, is_primitive 5, is_primitive_numeric 6, is_temporal 7, is_float
+//! 8, is_integer 9, is_signed_integer 10, is_unsigned_integer 11, is_string 12, is_unknown 13, contains_unknown 14,
+//! contains_list_recursive 15.
+//!
+//! Numbers 1 to 5 are document 01's by the plain Rust, 8 follows from the room, all else is the oracle's.
+
+use lomzegash::Error;
+use oracle::Type;
+use trials::entries::{Outcome, PREDICATES, RELATIONS, WRITERS};
+use trials::flat::Flat;
+use trials::input::Input;
+
+pub const CHECK: u64 = 1;
+const FIRST_PREDICATE: u64 = 2;
+const FIRST_RELATION: u64 = 16;
+const FIRST_WRITER: u64 = 19;
+const MATERIALIZE: u64 = 23;
+const SHAPE: u64 = 24;
+pub const TIME_UNITS: u64 = 25;
+
+/// The place in `WRITERS` from which on the writer is `materialize_unknown`, first with its flag on.
+pub const MATERIALIZERS: usize = 4;
+
+/// The calls on one type: the check, the shape, the predicates, and from this one on the writers.
+const ONE_TYPE_WRITERS: usize = 2 + PREDICATES.len();
+pub const ONE_TYPE_CALLS: usize = ONE_TYPE_WRITERS + WRITERS.len();
+
+/// The room of an output where the result has so many nodes, 1 where there is no result.
+pub type Room = fn(usize) -> usize;
+
+/// The lines so far.
+#[derive(Default)]
+pub struct Answers {
+    pub lines: Vec<String>,
+}
+
+impl Answers {
+    /// One of the calls on one type.
+    pub fn of_one_type(&mut self, call: usize, flat: &Flat, room: Room) {
+        match call {
+            0 => self.check(flat),
+            1 => self.shape(flat),
+            2..ONE_TYPE_WRITERS => self.predicate(call - 2, flat),
+            _ => self.writer(call - ONE_TYPE_WRITERS, flat, room),
+        }
+    }
+
+    pub fn check(&mut self, flat: &Flat) {
+        let reply = answer(read(flat).map(|_| 0));
+        self.line(&[&[CHECK], &words(flat), &reply]);
+    }
+
+    fn predicate(&mut self, at: usize, flat: &Flat) {
+        let reply = answer(read(flat).map(|(_, dtype)| (PREDICATES[at].oracle)(&dtype).into()));
+        self.line(&[&[FIRST_PREDICATE + at as u64], &words(flat), &reply]);
+    }
+
+    pub fn relation(&mut self, at: usize, left: &Flat, right: &Flat) {
+        let types = read(left).and_then(|(_, left)| Ok((left, read(right)?.1)));
+        let verdict = types.map(|(left, right)| (RELATIONS[at].oracle)(&left, &right));
+        let reply = answer(verdict.map(|verdict| verdict.map_or(2, u64::from)));
+        self.line(&[&[FIRST_RELATION + at as u64], &words(left), &words(right), &reply]);
+    }
+
+    pub fn writer(&mut self, at: usize, flat: &Flat, room: Room) {
+        let outcome = match read(flat) {
+            Ok((input, dtype)) => (WRITERS[at].oracle)(&input, &dtype),
+            Err(number) => Outcome::Refused(number),
+        };
+        let result = match &outcome {
+            Outcome::Written(bytes) => Type::decode(bytes).to_flat(),
+            _ => Default::default(),
+        };
+        let nodes = result.0.len();
+        let room = room(nodes.max(1));
+        let reply = match outcome {
+            Outcome::Written(_) if nodes > room => vec![Error::OutputTooShort.number(), 0],
+            Outcome::Refused(number) => vec![number, 0],
+            _ => [&[0, nodes as u64], &nodes_of(&result.0)[..], &result.1].concat(),
+        };
+        match at.checked_sub(MATERIALIZERS) {
+            None => self.line(&[&[FIRST_WRITER + at as u64], &words(flat), &[room as u64], &reply]),
+            Some(off) => self.line(&[&[MATERIALIZE], &words(flat), &[1 - off as u64, room as u64], &reply]),
+        }
+    }
+
+    fn shape(&mut self, flat: &Flat) {
+        let widths = read(flat).map(|(_, dtype)| dtype.get_shape().unwrap_or_default());
+        let reply = match widths {
+            Ok(widths) => [&[0, widths.len() as u64], &widths[..]].concat(),
+            Err(number) => vec![number, 0],
+        };
+        self.line(&[&[SHAPE], &words(flat), &reply]);
+    }
+
+    pub fn time_units(&mut self, left: u8, right: u8) {
+        let unit =
+            if left.max(right) > 2 { Err(Error::Argument.number()) } else { Ok(oracle::get_time_units(left, right)) };
+        self.line(&[&[TIME_UNITS, left.into(), right.into()], &answer(unit.map(u64::from))]);
+    }
+
+    /// The line that ends the lines.
+    pub fn end(&mut self) {
+        self.line(&[&[0]]);
+    }
+
+    fn line(&mut self, parts: &[&[u64]]) {
+        let words: Vec<String> = parts.concat().iter().map(u64::to_string).collect();
+        self.lines.push(words.join(" "));
+    }
+}
+
+/// The input and the crate's type, or the number from 1 to 5 that document 01 gives the nodes.
+fn read(flat: &Flat) -> Result<(Input, Type), u64> {
+    plain::check(&flat.kinds, &flat.args).map_err(|refusal| refusal as u64)?;
+    let input = Input::from(flat);
+    let dtype = input.dtype.clone()?;
+    Ok((input, dtype))
+}
+
+/// A type as a line has it.
+fn words(flat: &Flat) -> Vec<u64> {
+    let (kinds, args) = (nodes_of(&flat.kinds), &flat.args);
+    [&[kinds.len() as u64], &kinds[..], &[args.len() as u64], args].concat()
+}
+
+fn nodes_of(kinds: &[u8]) -> Vec<u64> {
+    kinds.iter().copied().map(u64::from).collect()
+}
+
+/// An answer without a result.
+fn answer(value: Result<u64, u64>) -> Vec<u64> {
+    match value {
+        Ok(value) => vec![0, value],
+        Err(number) => vec![number, 0],
+    }
+}

@@ -1,0 +1,67 @@
+//! `differential [--seed S] [--count N]`: the port beside the crate's own text on random inputs, until N comparisons are
+//! made (20 million by default) or one shows a difference; then the status is 1 and the input is shown. One comparison
+//! is what `trials::differential` says: one call of one entry point on one input with one length of output. Without a
+//! source of the crate the status is 2.
+//!
+//! `differential --record N`: prints N or somewhat more of the oracle's answers, see [`answers`].
+
+#![forbid(unsafe_code)]
+
+mod answers;
+mod options;
+mod record;
+
+use options::{Options, Task};
+use std::panic::{catch_unwind, AssertUnwindSafe};
+use std::process::ExitCode;
+use std::time::Instant;
+use trials::differential::{Differential, NO_ORACLE};
+use trials::draw;
+use trials::random::Random;
+
+/// Comparisons from one progress line to the next.
+const STEP: u64 = 1_000_000;
+
+fn main() -> ExitCode {
+    let Some(Options { task, seed }) = Options::read(std::env::args().skip(1)) else {
+        eprintln!("usage: differential [--seed S] [--count N] | --record N");
+        return ExitCode::from(2);
+    };
+    if !oracle::AVAILABLE {
+        eprintln!("{NO_ORACLE}");
+        return ExitCode::from(2);
+    }
+    match task {
+        Task::Compare { count } => compare(seed, count),
+        Task::Record { count } => {
+            record::lines(count).iter().for_each(|line| println!("{line}"));
+            ExitCode::SUCCESS
+        }
+    }
+}
+
+fn compare(seed: u64, count: u64) -> ExitCode {
+    let mut differential = Differential::default();
+    // What a panic leaves behind is only counted.
+    let run = catch_unwind(AssertUnwindSafe(|| run(&mut differential, seed, count)));
+    differential.report(&format!("seed {seed}"));
+    match run {
+        Ok(()) => ExitCode::SUCCESS,
+        Err(_) => {
+            eprintln!("a difference, with seed {seed}, after {} comparisons", differential.count());
+            ExitCode::FAILURE
+        }
+    }
+}
+
+fn run(differential: &mut Differential, seed: u64, count: u64) {
+    let (mut random, start) = (Random::new(seed), Instant::now());
+    let mut next = STEP;
+    while differential.count() < count {
+        draw::round(differential, &mut random);
+        if differential.count() >= next {
+            eprintln!("{} of {count} comparisons, {} s", differential.count(), start.elapsed().as_secs());
+            next += STEP;
+        }
+    }
+}

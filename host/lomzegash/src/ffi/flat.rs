@@ -1,0 +1,105 @@
+//! The rules on flat types.
+
+use super::reply::Reply;
+use crate::flat::{Nodes, Output};
+use crate::Error;
+
+extern "C" {
+    fn lz_flat_is_known(kinds: *const u8, kinds_len: usize, args: *const u64, args_len: usize) -> Reply;
+    fn lz_flat_equal(
+        left_kinds: *const u8,
+        left_kinds_len: usize,
+        left_args: *const u64,
+        left_args_len: usize,
+        right_kinds: *const u8,
+        right_kinds_len: usize,
+        right_args: *const u64,
+        right_args_len: usize,
+    ) -> Reply;
+    fn lz_flat_can_cast_to(
+        from_kinds: *const u8,
+        from_kinds_len: usize,
+        from_args: *const u64,
+        from_args_len: usize,
+        to_kinds: *const u8,
+        to_kinds_len: usize,
+        to_args: *const u64,
+        to_args_len: usize,
+    ) -> Reply;
+    fn lz_flat_materialize_unknown(
+        kinds: *const u8,
+        kinds_len: usize,
+        args: *const u64,
+        args_len: usize,
+        allow_unknown: u8,
+        out_kinds: *mut u8,
+        out_kinds_len: usize,
+        out_args: *mut u64,
+        out_args_len: usize,
+    ) -> Reply;
+    fn lz_flat_to_physical(
+        kinds: *const u8,
+        kinds_len: usize,
+        args: *const u64,
+        args_len: usize,
+        out_kinds: *mut u8,
+        out_kinds_len: usize,
+        out_args: *mut u64,
+        out_args_len: usize,
+    ) -> Reply;
+}
+
+pub(crate) fn is_known((kinds, args): Nodes) -> Result<bool, Error> {
+    // SAFETY: each pointer and length are those of one slice, which is only read.
+    unsafe { lz_flat_is_known(kinds.as_ptr(), kinds.len(), args.as_ptr(), args.len()) }.yes_or_no()
+}
+
+pub(crate) fn equal((lk, la): Nodes, (rk, ra): Nodes) -> Result<bool, Error> {
+    // SAFETY: each pointer and length are those of one slice, which is only read.
+    unsafe { lz_flat_equal(lk.as_ptr(), lk.len(), la.as_ptr(), la.len(), rk.as_ptr(), rk.len(), ra.as_ptr(), ra.len()) }
+        .yes_or_no()
+}
+
+pub(crate) fn can_cast_to((fk, fa): Nodes, (tk, ta): Nodes) -> Result<Option<bool>, Error> {
+    // SAFETY: each pointer and length are those of one slice, which is only read.
+    unsafe {
+        lz_flat_can_cast_to(fk.as_ptr(), fk.len(), fa.as_ptr(), fa.len(), tk.as_ptr(), tk.len(), ta.as_ptr(), ta.len())
+    }
+    .verdict()
+}
+
+/// `allow_unknown` is off where it is 0 and else on.
+pub(crate) fn materialize_unknown((kinds, args): Nodes, allow_unknown: u8, (ok, oa): Output) -> Result<usize, Error> {
+    // SAFETY: each pointer and length are those of one slice; the two written are borrowed mutably, so none overlap.
+    unsafe {
+        lz_flat_materialize_unknown(
+            kinds.as_ptr(),
+            kinds.len(),
+            args.as_ptr(),
+            args.len(),
+            allow_unknown,
+            ok.as_mut_ptr(),
+            ok.len(),
+            oa.as_mut_ptr(),
+            oa.len(),
+        )
+    }
+    .always_written()
+}
+
+pub(crate) fn to_physical((kinds, args): Nodes, (ok, oa): Output) -> Result<usize, Error> {
+    // SAFETY: each pointer and length are those of one slice; the two written are borrowed mutably, so none overlap.
+    unsafe {
+        lz_flat_to_physical(
+            kinds.as_ptr(),
+            kinds.len(),
+            args.as_ptr(),
+            args.len(),
+            ok.as_mut_ptr(),
+            ok.len(),
+            oa.as_mut_ptr(),
+            oa.len(),
+        )
+    }
+    .always_written()
+}

@@ -1,0 +1,5 @@
+//! Categories, which are off.
+
+pub mod categorical {
+    pub struct CategoricalPhysical;
+}

@@ -1,0 +1,120 @@
+//! The build takes the crate's text and no other.
+
+#[path = "../build/sources.rs"]
+mod sources;
+
+use sources::{hash, Cut, Folder, Source, DEFAULT, SOURCES, VARIABLE};
+use std::path::{Path, PathBuf};
+use std::{env, fs};
+
+/// The folder from which the oracle was built, if there is one.
+fn folder() -> Option<Folder> {
+    let folder = Folder::locate(env::var_os(VARIABLE)).expect("the oracle was built from it");
+    assert_eq!(folder.is_some(), oracle::AVAILABLE);
+    if folder.is_none() {
+        println!("no source of polars-core 0.55.2 is there: nothing was tried");
+    }
+    folder
+}
+
+/// Each source with its file's text.
+fn texts(folder: &Folder) -> Vec<(&'static Source, String)> {
+    let read = |source: &Source| fs::read_to_string(folder.find(source.path).unwrap()).unwrap();
+    SOURCES.iter().map(|source| (source, read(source))).collect()
+}
+
+/// The places of a source's own bytes in its file.
+fn extent(source: &Source, file: &str) -> (usize, usize) {
+    let Some(cut) = &source.cut else { return (0, file.len()) };
+    let start_of = |line: usize| file.split_inclusive('\n').take(line - 1).map(str::len).sum();
+    (start_of(*cut.lines.start()), start_of(cut.lines.end() + 1))
+}
+
+#[test]
+fn the_text_is_taken_as_it_is() {
+    let Some(folder) = folder() else { return };
+    for (source, file) in texts(&folder) {
+        let (start, end) = extent(source, &file);
+        let close = source.cut.as_ref().map_or("", |cut| cut.close);
+        let expected = file[start..end].to_owned() + close;
+        assert_eq!(source.check(&file).as_ref(), Ok(&expected));
+        assert_eq!(
+            source.check(&file.replace('\n', "\r\n")),
+            Ok(expected),
+            "{} with the line ends of Windows",
+            source.name
+        );
+    }
+}
+
+#[test]
+fn an_edited_text_is_refused() {
+    let Some(folder) = folder() else { return };
+    for (source, file) in texts(&folder) {
+        let (start, end) = extent(source, &file);
+        // The last byte ends the last line; so might the end of the file.
+        let places = (start..end - 1).step_by(997).chain([end - 2]);
+        for at in places.filter(|&at| file.is_char_boundary(at)) {
+            let (before, after) = file.split_at(at);
+            let next = after.chars().next().unwrap();
+            let other = if next == 'x' { 'y' } else { 'x' };
+            let rest = &after[next.len_utf8()..];
+            for edited in
+                [format!("{before}{rest}"), format!("{before}{other}{rest}"), format!("{before}{other}{after}")]
+            {
+                assert!(source.check(&edited).is_err(), "{} edited at byte {at}", source.name);
+            }
+        }
+        assert!(source.check("").is_err());
+    }
+}
+
+#[test]
+fn an_edit_is_named_with_its_file() {
+    let Some(folder) = folder() else { return };
+    let path = Path::new(env!("CARGO_TARGET_TMPDIR")).join("edited.rs");
+    for (source, file) in texts(&folder) {
+        fs::write(&path, file.to_uppercase()).unwrap();
+        let error = source.read(&path).unwrap_err();
+        assert!(error.starts_with(path.to_str().unwrap()), "{error}");
+    }
+}
+
+#[test]
+fn the_published_layout_is_found() {
+    let Some(folder) = folder() else { return };
+    let published = Folder(PathBuf::from(env!("CARGO_TARGET_TMPDIR")).join("polars-core"));
+    for (source, file) in texts(&folder) {
+        let path = published.0.join(source.path);
+        fs::create_dir_all(path.parent().unwrap()).unwrap();
+        fs::write(&path, &file).unwrap();
+        assert_eq!(published.find(source.path), Ok(path.clone()));
+        assert!(source.read(&path).is_ok());
+    }
+}
+
+#[test]
+fn a_named_folder_must_be_there() {
+    let located = |path: &str| Folder::locate(Some(path.into()));
+    assert!(located("/no/such/folder").is_err_and(|error| error.contains(VARIABLE)));
+    assert!(located("src").is_err_and(|error| error.contains("absolute")));
+    let default = Path::new(DEFAULT).is_dir();
+    assert_eq!(located("").map(|folder| folder.is_some()), Ok(default));
+    let Ok(Some(wrong)) = located(env!("CARGO_MANIFEST_DIR")) else { panic!("this folder is there") };
+    assert!(wrong.find("src/datatypes/dtype.rs").is_err_and(|error| error.contains("src/datatypes/dtype.rs")));
+}
+
+#[test]
+fn a_cut_is_the_lines_between_its_first_and_its_last() {
+    let source = |lines, text| Source {
+        path: "",
+        name: "cut.rs",
+        cut: Some(Cut { lines, first: "two", last: "three", close: "}\n" }),
+        hash: hash(text),
+    };
+    let expected = "two\nthree\n}\n";
+    assert_eq!(source(2..=3, expected).check("one\ntwo\nthree\nfour\n"), Ok(expected.to_owned()));
+    assert_eq!(source(2..=3, expected).check("two\nthree\nfour\n"), Err("line 2 is not \"two\"".to_owned()));
+    assert_eq!(source(2..=3, expected).check("one\ntwo\n"), Err("line 3 is not \"three\"".to_owned()));
+    assert!(source(2..=4, expected).check("one\ntwo\nother\nthree\n").is_err());
+}

@@ -1,0 +1,62 @@
+//! Inputs of the differential runs.
+
+use crate::flat::Flat;
+use lomzegash::kind::UNKNOWN_ANY;
+use lomzegash::Error;
+use oracle::Type;
+use std::thread;
+
+/// Bytes for the port, and for the oracle what they are.
+pub struct Input {
+    /// An encoded type, or not.
+    pub bytes: Vec<u8>,
+    /// The crate's type, or the number from 1 to 5 that document 01 gives the bytes.
+    pub dtype: Result<Type, u64>,
+}
+
+impl Input {
+    /// Reads the bytes; the plain Rust says whether they are a type.
+    pub fn new(bytes: Vec<u8>) -> Input {
+        let dtype = plain::check_encoded(&bytes).map(|()| Type::decode(&bytes)).map_err(|refusal| refusal as u64);
+        if let Ok(dtype) = &dtype {
+            assert!(dtype.encode() == bytes, "the oracle reads {} as another type", hex(&bytes));
+        }
+        Input { bytes, dtype }
+    }
+
+    /// The kinds and the arguments; None where the bytes have the length of none.
+    pub fn nodes(&self) -> Option<Flat> {
+        let no_length = matches!(self.dtype, Err(number) if number == Error::Length.number());
+        (!no_length).then(|| Flat::read(&self.bytes))
+    }
+
+    /// Whether the unknown type `any` is a part of the type.
+    pub fn has_any(&self) -> bool {
+        let nodes = self.bytes.len() / 9;
+        self.dtype.is_ok() && self.bytes[2..2 + nodes].contains(&UNKNOWN_ANY)
+    }
+}
+
+impl From<&Flat> for Input {
+    fn from(flat: &Flat) -> Input {
+        Input::new(flat.laid_out())
+    }
+}
+
+/// The bytes as hexadecimal text.
+pub fn hex(bytes: &[u8]) -> String {
+    bytes.iter().map(|byte| format!("{byte:02X}")).collect()
+}
+
+/// Shows the inputs of a comparison where a panic ends it, also one inside the port's safe crate.
+pub(crate) struct Shown<'a>(pub(crate) &'a [&'a Input]);
+
+impl Drop for Shown<'_> {
+    fn drop(&mut self) {
+        if thread::panicking() {
+            for (input, which) in self.0.iter().zip(["first", "second"]) {
+                eprintln!("{which} input: {}", hex(&input.bytes));
+            }
+        }
+    }
+}
