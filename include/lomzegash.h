@@ -150,6 +150,32 @@ lz_shape_reply lz_get_shape(const uint8_t *encoded, size_t encoded_len);
  */
 lz_reply lz_get_time_units(uint8_t left, uint8_t right);
 
+/*
+ * Some of these on flat types, kinds and args, for callers that keep types so. Two arrays of unequal
+ * length are refused by 1. lz_flat_materialize_unknown and lz_flat_to_physical write to the
+ * front of out_kinds and out_args and are refused by 8 where either is too short; the value is
+ * the number of nodes.
+ */
+lz_reply lz_flat_is_known(const uint8_t *kinds, size_t kinds_len,
+                          const uint64_t *args, size_t args_len);
+lz_reply lz_flat_equal(const uint8_t *left_kinds, size_t left_kinds_len,
+                       const uint64_t *left_args, size_t left_args_len,
+                       const uint8_t *right_kinds, size_t right_kinds_len,
+                       const uint64_t *right_args, size_t right_args_len);
+lz_reply lz_flat_can_cast_to(const uint8_t *from_kinds, size_t from_kinds_len,
+                             const uint64_t *from_args, size_t from_args_len,
+                             const uint8_t *to_kinds, size_t to_kinds_len,
+                             const uint64_t *to_args, size_t to_args_len);
+lz_reply lz_flat_materialize_unknown(const uint8_t *kinds, size_t kinds_len,
+                                     const uint64_t *args, size_t args_len,
+                                     uint8_t allow_unknown,
+                                     uint8_t *out_kinds, size_t out_kinds_len,
+                                     uint64_t *out_args, size_t out_args_len);
+lz_reply lz_flat_to_physical(const uint8_t *kinds, size_t kinds_len,
+                             const uint64_t *args, size_t args_len,
+                             uint8_t *out_kinds, size_t out_kinds_len,
+                             uint64_t *out_args, size_t out_args_len);
+
 #ifdef __cplusplus
 }
 #endif

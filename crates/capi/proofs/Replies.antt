@@ -28,7 +28,7 @@ use Rattle.datatypes.specs.TimeUnit.{unitNumber}
 use Rattle.datatypes.specs.declared.time_unit.TimeUnit.{TimeUnit}
 use Rattle.datatypes.specs.declared.time_unit.Unit.{Unit}
 use Rattle.utils.specs.TimeUnits.{getTimeUnits}
-use Rattle.capi.specs.Reply.{replyOf, checkReply, answerReply, bytesReply, unitReply, DecodeReply, EncodeReply}
+use Rattle.capi.specs.Reply.{writtenReply, replyOf, checkReply, answerReply, bytesReply, unitReply, DecodeReply, EncodeReply}
 use Rattle.capi.specs.declared.Reply.{Reply}
 
 -- a refusal's reply is the same of every call
@@ -53,15 +53,13 @@ check-valid r q = ap checkReply (sym (checked-type r q .1))
 pub check-refused : (r : Reading) (e : Error) {a : Reply} → Checked.Refused e ≡ checkedOf r → a ≡ checkReply (refused e) → a ≡ checkReply r
 check-refused r e q h = of-refusal (λ t. 0) h (checked-refused r e q)
 
--- ---- lz_decode
-module _ {r : Reading} {ks xs ks′ xs′ : List ℕ} {d : Written} (f : Writes r ks xs ks′ xs′ d) where
-  pub decode-nodes : {n : ℕ} → d ≡ Written.Nodes n → DecodeReply r ks xs ks′ xs′ (record { number = 0; value = n })
-  decode-nodes {n} q =
-      let t = written-type r (sym q ∙ f .answers) in
-      record { replies = (λ i. record { number = 0; value = sym (t .2) i }) ∙ ap (replyOf size) (sym (t .1)); kinds = f .kinds; args = f .args }
-
-  pub decode-refused : {e : Error} {a : Reply} → d ≡ Written.Refused e → a ≡ checkReply (refused e) → DecodeReply r ks xs ks′ xs′ a
-  decode-refused q h = record { replies = of-refusal size h (written-refused r (sym q ∙ f .answers)); kinds = f .kinds; args = f .args }
+-- ---- the calls that write a flat type
+pub written-reply : {r : Reading} {ks xs ks′ xs′ : List ℕ} {d : Written} {a : Reply} → Writes r ks xs ks′ xs′ d → a ≡ writtenReply d → DecodeReply r ks xs ks′ xs′ a
+written-reply {r} f h = record { replies = h ∙ ap writtenReply (f .answers) ∙ go r; kinds = f .kinds; args = f .args }
+  where
+    go : (r : Reading) → writtenReply (writtenOf r) ≡ replyOf size r
+    go (refused e) = refl
+    go (type t) = refl
 
 -- ---- the calls that encode a type
 pub encode-reply : {w : ℕ} {r : Reading} {out out′ : List ℕ} {d : Encoded} {a : Reply} → Encodes w r out out′ d → a ≡ bytesReply d → EncodeReply w r out out′ a

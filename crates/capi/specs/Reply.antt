@@ -17,6 +17,7 @@ use Rattle.datatypes_cast.specs.Verdict.{verdictNumber, verdictValue}
 use Rattle.datatypes_cast.specs.declared.Verdict.{Verdict}
 use Rattle.datatypes_cast.specs.declared.dtype.Cast.{Cast}
 use Rattle.utils.specs.TimeUnits.{getTimeUnits}
+use Rattle.flat.specs.declared.Written.{Written}
 use Rattle.capi.specs.declared.Reply.{Reply}
 
 -- a refusal's number with value 0, or 0 with what the call says of the type
@@ -53,7 +54,12 @@ unitReply (Unit.Refused e) right = record { number = numberOf e; value = 0 }
 unitReply (Unit.Of l) (Unit.Refused e) = record { number = numberOf e; value = 0 }
 unitReply (Unit.Of l) (Unit.Of r) = record { number = 0; value = unitNumber (getTimeUnits l r) }
 
--- What `lz_decode` comes to: the number of nodes, and the two lent arrays, ks and xs before the call and ks′ and xs′ after it.
+-- the number of nodes written
+abbrev pub writtenReply : Written → Reply
+writtenReply (Written.Nodes n) = record { number = 0; value = n }
+writtenReply (Written.Refused e) = record { number = numberOf e; value = 0 }
+
+-- What a call comes to that writes a flat type: the number of nodes, and the two lent arrays, ks and xs before the call and ks′ and xs′ after it.
 pub record DecodeReply (r : Reading) (ks xs ks′ xs′ : List ℕ) (reply : Reply) : Type 0 where
   pub replies : reply ≡ replyOf size r
   pub kinds : ks′ ≡ kindsOver r ks

@@ -1,5 +1,6 @@
 // The C entry points. Each is a call of a proved function on an encoded type, whose answer is given as two numbers.
 mod build;
+mod flat_type;
 mod pair;
 mod part;
 mod predicate;
@@ -12,7 +13,7 @@ ghost use Rattle.flat.specs.Output.{fitting};
 ghost use Rattle.encoding.specs.Encoding.{decoding};
 ghost use Rattle.encoding.specs.Answer.{fittingBytes};
 ghost use Rattle.datatypes.specs.Answer.{yesNo};
-ghost use Rattle.capi.specs.Reply.{checkReply, answerReply, bytesReply, DecodeReply, EncodeReply};
+ghost use Rattle.capi.specs.Reply.{checkReply, answerReply, writtenReply, bytesReply, DecodeReply, EncodeReply};
 use encoding::Encoded;
 use encoding::Encoding;
 use flat::Checked;
@@ -41,6 +42,19 @@ fn yes_no(b: bool) -> Reply
 {
     let value = if b { 1 } else { 0 };
     Reply { number: 0, value }
+}
+
+// The number of nodes written.
+fn written(w: Written) -> Reply
+    ensures { λ r. ⌜ r ≡ writtenReply w ⌝ }
+{
+    match w {
+        Written::Nodes(n) => Reply {
+            number: 0,
+            value: n as u64,
+        },
+        Written::Refused(e) => refusal(e),
+    }
 }
 
 // The number of bytes written.
@@ -83,13 +97,7 @@ pub extern "C" fn lz_decode(encoded: &[u8], kinds: &mut [u8], args: &mut [u64]) 
       w ← ⟦Encoding::ARGUMENT_BYTES⟧ .entry
       ⌜ DecodeReply (fitting (length (now (kinds .entry))) (length (now (args .entry))) (decoding w nodes deep (now (encoded .entry)))) (now (kinds .entry)) (now (args .entry)) (now (kinds .exit)) (now (args .exit)) r ⌝ }
 {
-    match encoding::decode(encoded, kinds, args) {
-        Written::Nodes(n) => Reply {
-            number: 0,
-            value: n as u64,
-        },
-        Written::Refused(e) => refusal(e),
-    }
+    written(encoding::decode(encoded, kinds, args))
 }
 
 // Encodes a flat type to the front of out, and gives the number of bytes.

@@ -1,0 +1,118 @@
+// The rules on flat types, for callers that keep types in two arrays.
+ghost use mathlib.Core.Path.{_≡_};
+ghost use mathlib.Core.Bool.{not};
+ghost use lib.Dec.{eqb};
+ghost use lib.ListN.{length};
+ghost use Rattle.flat.specs.Reading.{reading};
+ghost use Rattle.flat.specs.Output.{fitting};
+ghost use Rattle.datatypes.specs.Equality.{equal};
+ghost use Rattle.datatypes.specs.Recursive.{isKnown};
+ghost use Rattle.datatypes.specs.Answer.{answerOf, answersOf};
+ghost use Rattle.datatypes_cast.specs.Verdict.{castOf};
+ghost use Rattle.datatypes_build.specs.Build.{materialized, physical};
+ghost use Rattle.capi.specs.Reply.{answerReply, verdictReply, DecodeReply};
+use crate::Reply;
+use crate::written;
+use datatypes::answer::Answer;
+use datatypes_cast::Verdict;
+use flat::Flat;
+
+fn answer_reply(a: Answer) -> Reply
+    ensures { λ r. ⌜ r ≡ answerReply a ⌝ }
+{
+    Reply {
+        number: a.number(),
+        value: a.value(),
+    }
+}
+
+fn verdict_reply(v: Verdict) -> Reply
+    ensures { λ r. ⌜ r ≡ verdictReply v ⌝ }
+{
+    Reply {
+        number: v.number(),
+        value: v.value(),
+    }
+}
+
+// Whether no type in it is unknown.
+#[no_mangle]
+pub extern "C" fn lz_flat_is_known(kinds: &[u8], args: &[u64]) -> Reply
+    ensures { λ r. do
+      nodes ← ⟦Flat::MAX_NODES⟧ .entry
+      deep ← ⟦Flat::MAX_DEPTH⟧ .entry
+      ⌜ r ≡ answerReply (answerOf isKnown (reading nodes deep (now (kinds .entry)) (now (args .entry)))) ⌝ }
+{
+    answer_reply(datatypes::dtype::is_known(kinds, args))
+}
+
+// Whether two types are equal.
+#[no_mangle]
+pub extern "C" fn lz_flat_equal(
+    left_kinds: &[u8],
+    left_args: &[u64],
+    right_kinds: &[u8],
+    right_args: &[u64],
+) -> Reply
+    ensures { λ r. do
+      nodes ← ⟦Flat::MAX_NODES⟧ .entry
+      deep ← ⟦Flat::MAX_DEPTH⟧ .entry
+      ⌜ r ≡ answerReply (answersOf equal (reading nodes deep (now («left_kinds» .entry)) (now («left_args» .entry))) (reading nodes deep (now («right_kinds» .entry)) (now («right_args» .entry)))) ⌝ }
+{
+    answer_reply(datatypes_eq::equal(left_kinds, left_args, right_kinds, right_args))
+}
+
+// Whether the cast makes sense.
+#[no_mangle]
+pub extern "C" fn lz_flat_can_cast_to(
+    from_kinds: &[u8],
+    from_args: &[u64],
+    to_kinds: &[u8],
+    to_args: &[u64],
+) -> Reply
+    ensures { λ r. do
+      nodes ← ⟦Flat::MAX_NODES⟧ .entry
+      deep ← ⟦Flat::MAX_DEPTH⟧ .entry
+      ⌜ r ≡ verdictReply (castOf (reading nodes deep (now («from_kinds» .entry)) (now («from_args» .entry))) (reading nodes deep (now («to_kinds» .entry)) (now («to_args» .entry)))) ⌝ }
+{
+    verdict_reply(datatypes_cast::can_cast_to(from_kinds, from_args, to_kinds, to_args))
+}
+
+// The type with each unknown type made known, to the front of out_kinds and out_args; any is allowed unless allow_unknown is 0. Gives its number of nodes.
+#[no_mangle]
+pub extern "C" fn lz_flat_materialize_unknown(
+    kinds: &[u8],
+    args: &[u64],
+    allow_unknown: u8,
+    out_kinds: &mut [u8],
+    out_args: &mut [u64],
+) -> Reply
+    ensures { λ r. do
+      nodes ← ⟦Flat::MAX_NODES⟧ .entry
+      deep ← ⟦Flat::MAX_DEPTH⟧ .entry
+      ⌜ DecodeReply (fitting (length (now («out_kinds» .entry))) (length (now («out_args» .entry))) (materialized (not (eqb «allow_unknown» 0)) (reading nodes deep (now (kinds .entry)) (now (args .entry))))) (now («out_kinds» .entry)) (now («out_args» .entry)) (now («out_kinds» .exit)) (now («out_args» .exit)) r ⌝ }
+{
+    written(datatypes_build::materialize_unknown(
+        kinds,
+        args,
+        allow_unknown != 0,
+        out_kinds,
+        out_args,
+    ))
+}
+
+// Its physical form, likewise.
+#[no_mangle]
+pub extern "C" fn lz_flat_to_physical(
+    kinds: &[u8],
+    args: &[u64],
+    out_kinds: &mut [u8],
+    out_args: &mut [u64],
+) -> Reply
+    ensures { λ r. do
+      nodes ← ⟦Flat::MAX_NODES⟧ .entry
+      deep ← ⟦Flat::MAX_DEPTH⟧ .entry
+      ⌜ DecodeReply (fitting (length (now («out_kinds» .entry))) (length (now («out_args» .entry))) (physical (reading nodes deep (now (kinds .entry)) (now (args .entry))))) (now («out_kinds» .entry)) (now («out_args» .entry)) (now («out_kinds» .exit)) (now («out_args» .exit)) r ⌝ }
+{
+    written(datatypes_build::to_physical(kinds, args, out_kinds, out_args))
+}
