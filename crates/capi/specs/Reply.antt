@@ -48,10 +48,10 @@ bytesReply (Encoded.Bytes n) = record { number = 0; value = n }
 bytesReply (Encoded.Refused e) = record { number = numberOf e; value = 0 }
 
 -- the coarser of two units, where both are units
-abbrev pub unitReply : Unit → Unit → Reply
-unitReply (Unit.Refused e) right = record { number = numberOf e; value = 0 }
-unitReply (Unit.Of l) (Unit.Refused e) = record { number = numberOf e; value = 0 }
-unitReply (Unit.Of l) (Unit.Of r) = record { number = 0; value = unitNumber (getTimeUnits l r) }
+abbrev pub unitsReply : Unit → Unit → Reply
+unitsReply (Unit.Refused e) right = record { number = numberOf e; value = 0 }
+unitsReply (Unit.Of l) (Unit.Refused e) = record { number = numberOf e; value = 0 }
+unitsReply (Unit.Of l) (Unit.Of r) = record { number = 0; value = unitNumber (getTimeUnits l r) }
 
 -- What `lz_decode` comes to: the number of nodes, and the two lent arrays, ks and xs before the call and ks′ and xs′ after it.
 pub record DecodeReply (r : Reading) (ks xs ks′ xs′ : List ℕ) (reply : Reply) : Type 0 where
