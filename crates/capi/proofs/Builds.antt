@@ -1,5 +1,5 @@
 -- What the calls reply that build an encoded type anew. Assumes nothing.
-use mathlib.Core.Path.{_≡_, sym, ap, ap₂, _∙_}
+use mathlib.Core.Path.{_≡_, sym, ap, _∙_}
 use mathlib.Core.Bool.{Bool, true, false, not, _&&_}
 use mathlib.Core.List.{List}
 use Prim.Native.Nat.{ℕ, _+_, _-_, _≤_}
@@ -13,7 +13,6 @@ use Rattle.flat.specs.declared.Checked.{Checked}
 use Rattle.flat.specs.declared.error.Error.{Error}
 use Rattle.flat.specs.declared.error.Error.the-variants.{Unknown}
 use Rattle.flat.proofs.Sizes.{length-kinds, length-args}
-use Rattle.flat.proofs.Meaning.{passes}
 use Rattle.encoding.specs.Encoding.{decoding}
 use Rattle.encoding.specs.Answer.{nodesIn, argsOpened, Puts}
 use Rattle.encoding.specs.declared.Encoded.{Encoded}
@@ -67,31 +66,25 @@ materialized-refused allow q = rw q
 
 -- ---- an opened type
 module _ {w nodes deep n : ℕ} {s xs : List ℕ} (o : Opened w nodes deep n s xs) where
-  reads : reading nodes deep (take (2 + n - 2) (drop 2 s)) (take n xs) ≡ type (o .form .tree)
-  reads = ap₂ (reading nodes deep) (o .holds .kinds) (o .holds .args) ∙ passes nodes deep (o .form .tree) (o .holds .is-type)
-
   valid : Checked.Valid ≡ checkedOf (reading nodes deep (take (2 + n - 2) (drop 2 s)) (take n xs))
-  valid = ap checkedOf (sym reads)
-
-  same : decoding w nodes deep s ≡ reading nodes deep (take (2 + n - 2) (drop 2 s)) (take n xs)
-  same = o .form .reads ∙ sym reads
+  valid = ap checkedOf (sym (o .parts .reads))
 
   type-size : size (typeAt (take (2 + n - 2) (drop 2 s)) (take n xs)) ≡ n
-  type-size = ap size (o .type-at) ∙ o .form .tree-size
+  type-size = ap size (o .parts .front) ∙ o .tree-size
 
   -- so it can be built anew
   pub form-pre : {ys K A : List ℕ} → RoomFor (nodesIn w nodes s) ys K A
       → Valid (take (2 + n - 2) (drop 2 s)) (take n xs) × (size (typeAt (take (2 + n - 2) (drop 2 s)) (take n xs)) ≤ nodes) × Room (size (typeAt (take (2 + n - 2) (drop 2 s)) (take n xs))) K A
   form-pre r =
-      let m = nodes-sized (o .form .sized) in
-      (o .valid, rw type-size (o .form .sized .few), record { kinds = rw (type-size, ← m) (r .new-kinds); args = rw (type-size, ← m) (r .new-args) })
+      let m = nodes-sized (o .sized) in
+      (o .parts .valid, rw type-size (o .sized .few), record { kinds = rw (type-size, ← m) (r .new-kinds); args = rw (type-size, ← m) (r .new-args) })
 
   pub physical-opened : physical (decoding w nodes deep s) ≡ type (mapLeaves physicalLeaf (typeAt (take (2 + n - 2) (drop 2 s)) (take n xs)))
-  physical-opened = ap physical same ∙ physical-type nodes deep _ _ valid
+  physical-opened = ap physical (o .same) ∙ physical-type nodes deep _ _ valid
 
   module _ (allow : Bool) {b : Bool} (e : b ≡ (hasAny (take (2 + n - 2) (drop 2 s)) && not allow)) where
     pub materialized-none : b ≡ true → materialized allow (decoding w nodes deep s) ≡ refused Unknown
-    materialized-none h = ap (materialized allow) same ∙ known-none nodes deep _ _ valid allow (sym e ∙ h)
+    materialized-none h = ap (materialized allow) (o .same) ∙ known-none nodes deep _ _ valid allow (sym e ∙ h)
 
     pub materialized-opened : b ≡ false → materialized allow (decoding w nodes deep s) ≡ type (mapLeaves materializedLeaf (typeAt (take (2 + n - 2) (drop 2 s)) (take n xs)))
-    materialized-opened h = ap (materialized allow) same ∙ known-type nodes deep _ _ valid allow (sym e ∙ h)
+    materialized-opened h = ap (materialized allow) (o .same) ∙ known-type nodes deep _ _ valid allow (sym e ∙ h)

@@ -68,24 +68,24 @@ module _ {w nodes deep : ℕ} {s t xs ys xs′ ys′ : List ℕ} {a : Pair} (o :
     right-opened = let r : Opens w nodes deep t ys ys′ (Written.Nodes m) = record { answers = types .1; args = o .right } in opened r refl
 
     -- a call that answers yes or no
-    answers-reply : (p : DataType → DataType → Bool) {b : Bool} {reply : Reply} → b ≡ p (left-opened .form .tree) (right-opened .form .tree) → reply ≡ answerReply (yesNo b)
+    answers-reply : (p : DataType → DataType → Bool) {b : Bool} {reply : Reply} → b ≡ p (left-opened .parts .tree) (right-opened .parts .tree) → reply ≡ answerReply (yesNo b)
         → PairReply w nodes s t xs ys xs′ ys′ (answerReply (answersOf p (decoding w nodes deep s) (decoding w nodes deep t))) reply
-    answers-reply p e h = record { replies = rw (left-opened .form .reads, right-opened .form .reads, ← e) h; left = o .left; right = o .right }
+    answers-reply p e h = record { replies = rw (left-opened .reads, right-opened .reads, ← e) h; left = o .left; right = o .right }
 
     pub equal-reply : {b : Bool} {reply : Reply} → b ≡ startsWith (take (2 + n - 2) (drop 2 s)) (take n xs′) (take (2 + m - 2) (drop 2 t)) (take m ys′) → reply ≡ answerReply (yesNo b)
         → PairReply w nodes s t xs ys xs′ ys′ (answerReply (answersOf equal (decoding w nodes deep s) (decoding w nodes deep t))) reply
-    equal-reply e h = answers-reply equal (e ∙ starts-equal (left-opened .holds) (right-opened .holds)) h
+    equal-reply e h = answers-reply equal (e ∙ starts-equal (left-opened .parts .form) (right-opened .parts .form)) h
 
     pub contains-reply : {b : Bool} {reply : Reply} → b ≡ occurs (take (2 + n - 2) (drop 2 s)) (take n xs′) (take (2 + m - 2) (drop 2 t)) (take m ys′) → reply ≡ answerReply (yesNo b)
         → PairReply w nodes s t xs ys xs′ ys′ (answerReply (answersOf containsDtypeRecursive (decoding w nodes deep s) (decoding w nodes deep t))) reply
-    contains-reply e h = answers-reply containsDtypeRecursive (e ∙ occurs-contains (left-opened .holds) (right-opened .holds)) h
+    contains-reply e h = answers-reply containsDtypeRecursive (e ∙ occurs-contains (left-opened .parts .form) (right-opened .parts .form)) h
 
     pub cast-reply : (c : Cast) {reply : Reply} → c ≡ castAnswer (typeAt (take (2 + n - 2) (drop 2 s)) (take n xs′)) (typeAt (take (2 + m - 2) (drop 2 t)) (take m ys′)) → reply ≡ verdictReply (verdictOf c)
         → PairReply w nodes s t xs ys xs′ ys′ (verdictReply (castOf (decoding w nodes deep s) (decoding w nodes deep t))) reply
     unfolding castAnswer
     cast-reply c e h =
-        let f = rw (left-opened .type-at, right-opened .type-at) at e in
-        record { replies = rw (left-opened .form .reads, right-opened .form .reads) (h ∙ ap verdictReply (ap verdictOf f ∙ go (canCastTo (left-opened .form .tree) (right-opened .form .tree)) _ _)); left = o .left; right = o .right }
+        let f = rw (left-opened .parts .front, right-opened .parts .front) at e in
+        record { replies = rw (left-opened .reads, right-opened .reads) (h ∙ ap verdictReply (ap verdictOf f ∙ go (canCastTo (left-opened .parts .tree) (right-opened .parts .tree)) _ _)); left = o .left; right = o .right }
       where
         go : (v : Option Bool) (n m : ℕ) → verdictOf (answer v n m) ≡ verdict v
         go none n m = refl

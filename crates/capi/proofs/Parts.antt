@@ -42,38 +42,36 @@ module _ {w nodes deep n : ℕ} {s xs : List ℕ} (o : Opened w nodes deep n s x
   part-puts at =
       let k = length-from at (take (2 + n - 2) (drop 2 s)) in
       let x = length-from at (take n xs) in
-      let even : length (take (2 + n - 2) (drop 2 s)) ≡ length (take n xs) = o .valid .even in
-      let whole : length (take (2 + n - 2) (drop 2 s)) ≡ n = ap length (o .holds .kinds) ∙ length-kinds (o .form .tree) ∙ o .form .tree-size in
-      (omega arith, omega (arith, o .form .sized .few))
+      (omega (arith, o .parts .even), omega (arith, o .parts .whole, o .tree-size, o .sized .few))
 
   module _ (p : Part) {m : ℕ} (e : m ≡ partNodes p (take (2 + n - 2) (drop 2 s))) where
-    part-found : Found (o .form .tree) (partOf p (o .form .tree)) m
-    part-found = rw (e, o .holds .kinds) (finds-part p .finds (o .form .tree) (o .holds .is-type .ruled))
+    part-found : Found (o .parts .tree) (partOf p (o .parts .tree)) m
+    part-found = rw (e, o .parts .form .kinds) (finds-part p .finds (o .parts .tree) (o .parts .form .is-type .ruled))
 
     pub part-within : m ≤ n
-    part-within = omega (arith, part-found .kinds .within, length-kinds (o .form .tree), o .form .tree-size)
+    part-within = omega (arith, part-found .kinds .within, length-kinds (o .parts .tree), o .tree-size)
 
     pub part-none : (out : List ℕ) → m ≡ 0 → PartReply w (partReading (partOf p) (decoding w nodes deep s)) out out (record { number = 0; value = 0 })
-    part-none out z = rw (o .form .reads) (go (partOf p (o .form .tree)) part-found)
+    part-none out z = rw (o .reads) (go (partOf p (o .parts .tree)) part-found)
       where
-        go : (u : Option DataType) → Found (o .form .tree) u m → PartReply w (partReading (λ t. u) (type (o .form .tree))) out out (record { number = 0; value = 0 })
+        go : (u : Option DataType) → Found (o .parts .tree) u m → PartReply w (partReading (λ t. u) (type (o .parts .tree))) out out (record { number = 0; value = 0 })
         go none f = (refl, refl)
         go (some u) f = absurd (omega (arith, f .nodes, size-pos u))
 
     pub part-some : {at : ℕ} {out out′ : List ℕ} {d : Encoded} {a : Reply} → (m ≡ 0 → ⊥) → at ≡ n - m → Puts w (from at (take (2 + n - 2) (drop 2 s))) (from at (take n xs)) out out′ d → a ≡ bytesReply d
         → PartReply w (partReading (partOf p) (decoding w nodes deep s)) out out′ a
-    part-some {at} {out} {out′} {d} {a} z i f h = rw (o .form .reads) (go (partOf p (o .form .tree)) part-found)
+    part-some {at} {out} {out′} {d} {a} z i f h = rw (o .reads) (go (partOf p (o .parts .tree)) part-found)
       where
-        go : (u : Option DataType) → Found (o .form .tree) u m → PartReply w (partReading (λ t. u) (type (o .form .tree))) out out′ a
+        go : (u : Option DataType) → Found (o .parts .tree) u m → PartReply w (partReading (λ t. u) (type (o .parts .tree))) out out′ a
         go none g = absurd (z (g .nodes))
         go (some u) g =
-            let k = length-kinds (o .form .tree) ∙ o .form .tree-size in
-            let x = length-args (o .form .tree) ∙ o .form .tree-size in
-            encode-reply (puts-type u (last-part (o .holds .kinds) k i (g .kinds)) (last-part (o .holds .args) x i (g .args)) f) h
+            let k = length-kinds (o .parts .tree) ∙ o .tree-size in
+            let x = length-args (o .parts .tree) ∙ o .tree-size in
+            encode-reply (puts-type u (last-part (o .parts .form .kinds) k i (g .kinds)) (last-part (o .parts .form .args) x i (g .args)) f) h
 
   -- the widths of the Arrays at the front
   pub arrays-few : arraysAt (take (2 + n - 2) (drop 2 s)) ≤ deep
-  arrays-few = rw (o .holds .kinds) (arrays-fit (o .holds .is-type))
+  arrays-few = rw (o .parts .form .kinds) (arrays-fit (o .parts .form .is-type))
 
   pub opened-shape : shape deep 0 (widthsAt (take (2 + n - 2) (drop 2 s)) (take n xs)) ≡ shapeOf deep (decoding w nodes deep s)
-  opened-shape = ap (shape deep 0) (ap₂ widthsAt (o .holds .kinds) (o .holds .args)) ∙ shape-at (o .holds .is-type) ∙ ap (shapeOf deep) (sym (o .form .reads))
+  opened-shape = ap (shape deep 0) (ap₂ widthsAt (o .parts .form .kinds) (o .parts .form .args)) ∙ shape-at (o .parts .form .is-type) ∙ ap (shapeOf deep) (sym (o .reads))

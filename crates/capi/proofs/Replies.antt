@@ -28,7 +28,7 @@ use Rattle.datatypes.specs.TimeUnit.{unitNumber}
 use Rattle.datatypes.specs.declared.time_unit.TimeUnit.{TimeUnit}
 use Rattle.datatypes.specs.declared.time_unit.Unit.{Unit}
 use Rattle.utils.specs.TimeUnits.{getTimeUnits}
-use Rattle.capi.specs.Reply.{writtenReply, replyOf, checkReply, answerReply, bytesReply, unitReply, DecodeReply, EncodeReply}
+use Rattle.capi.specs.Reply.{replyOf, checkReply, answerReply, writtenReply, bytesReply, unitsReply, DecodeReply, EncodeReply}
 use Rattle.capi.specs.declared.Reply.{Reply}
 
 -- a refusal's reply is the same of every call
@@ -41,7 +41,7 @@ pub record Fits (w n : ℕ) (s xs : List ℕ) : Type 0 where
   pub room : n ≤ length xs
 
 pub fits-of : {w nodes deep n : ℕ} {s xs : List ℕ} → Opened w nodes deep n s xs → Fits w n s xs
-fits-of o = record { bytes = o .form .sized .size; room = o .room }
+fits-of o = record { bytes = o .sized .size; room = o .room }
 
 pub args-length : {w n : ℕ} {s xs : List ℕ} → Fits w n s xs → length (take n xs) ≡ n
 args-length {n = n} {xs = xs} f = length-take-le n xs (f .room)
@@ -75,13 +75,13 @@ encode-refused q h = rw q (record { replies = h; bytes = refl })
 
 -- ---- lz_get_time_units
 module _ {x y : Unit} {l : TimeUnit} (p : x ≡ Unit.Of l) where
-  pub unit-reply : {r : TimeUnit} {n : ℕ} → y ≡ Unit.Of r → n ≡ unitNumber (getTimeUnits l r) → record { number = 0; value = n } ≡ unitReply x y
+  pub unit-reply : {r : TimeUnit} {n : ℕ} → y ≡ Unit.Of r → n ≡ unitNumber (getTimeUnits l r) → record { number = 0; value = n } ≡ unitsReply x y
   unit-reply q h = rw (p, q, h)
 
-  pub right-refused : {e : Error} {a : Reply} → y ≡ Unit.Refused e → a ≡ checkReply (refused e) → a ≡ unitReply x y
+  pub right-refused : {e : Error} {a : Reply} → y ≡ Unit.Refused e → a ≡ checkReply (refused e) → a ≡ unitsReply x y
   right-refused q h = rw (p, q) h
 
-pub left-refused : {x : Unit} (y : Unit) {e : Error} {a : Reply} → x ≡ Unit.Refused e → a ≡ checkReply (refused e) → a ≡ unitReply x y
+pub left-refused : {x : Unit} (y : Unit) {e : Error} {a : Reply} → x ≡ Unit.Refused e → a ≡ checkReply (refused e) → a ≡ unitsReply x y
 left-refused y p h = rw p h
 
 -- ---- the predicates

@@ -49,10 +49,10 @@ bytesReply (Encoded.Bytes n) = record { number = 0; value = n }
 bytesReply (Encoded.Refused e) = record { number = numberOf e; value = 0 }
 
 -- the coarser of two units, where both are units
-abbrev pub unitReply : Unit → Unit → Reply
-unitReply (Unit.Refused e) right = record { number = numberOf e; value = 0 }
-unitReply (Unit.Of l) (Unit.Refused e) = record { number = numberOf e; value = 0 }
-unitReply (Unit.Of l) (Unit.Of r) = record { number = 0; value = unitNumber (getTimeUnits l r) }
+abbrev pub unitsReply : Unit → Unit → Reply
+unitsReply (Unit.Refused e) right = record { number = numberOf e; value = 0 }
+unitsReply (Unit.Of l) (Unit.Refused e) = record { number = numberOf e; value = 0 }
+unitsReply (Unit.Of l) (Unit.Of r) = record { number = 0; value = unitNumber (getTimeUnits l r) }
 
 -- the number of nodes written
 abbrev pub writtenReply : Written → Reply

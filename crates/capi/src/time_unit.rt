@@ -1,7 +1,7 @@
 // Units of time, by their numbers.
 ghost use mathlib.Core.Path.{_≡_};
 ghost use Rattle.datatypes.specs.TimeUnit.{unitOf};
-ghost use Rattle.capi.specs.Reply.{unitReply};
+ghost use Rattle.capi.specs.Reply.{unitsReply};
 use crate::Reply;
 use crate::refusal;
 use datatypes::time_unit::Unit;
@@ -10,7 +10,7 @@ use datatypes::time_unit::unit_of;
 // The coarser of two units.
 #[no_mangle]
 pub extern "C" fn lz_get_time_units(left: u8, right: u8) -> Reply
-    ensures { λ r. ⌜ r ≡ unitReply (unitOf left) (unitOf right) ⌝ }
+    ensures { λ r. ⌜ r ≡ unitsReply (unitOf left) (unitOf right) ⌝ }
 {
     match unit_of(left) {
         Unit::Of(tu_l) => match unit_of(right) {

@@ -19,7 +19,7 @@ use Rattle.flat.specs.declared.Checked.the-variants.{Valid}
 use Rattle.flat.specs.Output.{over, Writes}
 use Rattle.flat.specs.declared.error.Error.{Error}
 use Rattle.flat.specs.declared.error.Error.the-variants.{Length, OutputTooShort}
-use Rattle.flat.proofs.Sizes.{length-kinds, length-args}
+use Rattle.flat.proofs.Sizes.{length-kinds}
 use Rattle.flat.proofs.Meaning.{holds, checked-type}
 use Rattle.flat.proofs.Outputs.{writes-type}
 use Rattle.encoding.specs.Encoding.{argsFrom, encoding, encodedSize, countIn, kindsIn, argsIn, sizeFits, decoding}
@@ -105,24 +105,7 @@ pub decoding-none : (w nodes deep : ℕ) (s : List ℕ) {n : ℕ} → n ≡ node
 unfolding decoding
 decoding-none w nodes deep s e h = rw (nodes-none w nodes s e h)
 
--- ---- what `flat::check` and `check` tell where they answer Valid
-
--- the two arrays are the flat form of a tree of few enough nodes
-pub record FlatForm (nodes deep : ℕ) (ks xs : List ℕ) : Type 0 where
-  pub tree : DataType
-  pub reads : reading nodes deep ks xs ≡ type tree
-  pub kinds : ks ≡ kindsOf tree
-  pub args : xs ≡ argsOf tree
-  pub kinds-size : length ks ≡ size tree
-  pub args-size : length xs ≡ size tree
-  pub few : size tree ≤ nodes
-
-pub flat-form : {nodes deep : ℕ} {ks xs : List ℕ} {a : Checked} → a ≡ Valid → a ≡ checkedOf (reading nodes deep ks xs) → FlatForm nodes deep ks xs
-flat-form {nodes} {deep} {ks} {xs} v e =
-    let r = checked-type (reading nodes deep ks xs) (sym v ∙ e) in
-    let t = r .0 in
-    let h = holds nodes deep ks xs t (r .1) in
-    record { tree = t; reads = r .1; kinds = h .kinds; args = h .args; kinds-size = ap length (h .kinds) ∙ length-kinds t; args-size = ap length (h .args) ∙ length-args t; few = h .is-type .within }
+-- ---- what `check` tells where it answers Valid
 
 -- the bytes are those of a tree of n nodes
 pub record EncodedForm (w nodes deep n : ℕ) (s : List ℕ) : Type 0 where

@@ -9,15 +9,14 @@ use lib.Seq.{take-at}
 use Rattle.flat.specs.Tree.{DataType, size}
 use Rattle.flat.specs.Reading.{Reading, refused, type, reading, checkedOf}
 use Rattle.flat.specs.Output.{over, writtenOf}
-use Rattle.flat.specs.Walk.{Valid, typeAt}
 use Rattle.flat.specs.declared.Checked.{Checked}
 use Rattle.flat.specs.declared.Written.{Written}
 use Rattle.flat.specs.declared.error.Error.{Error}
 use Rattle.flat.specs.declared.error.Error.the-variants.{Length}
-use Rattle.flat.proofs.Meaning.{Holds, holds, stands, checked-refused}
+use Rattle.flat.proofs.Meaning.{Passed, check-passed, checked-refused}
 use Rattle.encoding.specs.Encoding.{argsIn, decoding}
 use Rattle.encoding.specs.Answer.{nodesIn, argsOpened, Opens}
-use Rattle.encoding.proofs.Answers.{Sized, size-fits, kinds-part, args-length, decoding-sized, nodes-none, decoding-none, EncodedForm, type-form, encoded-form}
+use Rattle.encoding.proofs.Answers.{Sized, size-fits, kinds-part, kinds-length, args-length, decoding-sized, nodes-none, decoding-none, EncodedForm, type-form, encoded-form}
 
 -- ---- what it comes to
 pub opens-none : {w nodes deep n : ℕ} {s xs : List ℕ} → n ≡ nodesIn w nodes s → n ≡ 0 → Opens w nodes deep s xs xs (Written.Refused Length)
@@ -50,13 +49,14 @@ written-form {w} {nodes} {deep} {n} {s} q e =
     let f : EncodedForm w nodes deep (size (r .0)) s = type-form (r .0) (r .1) in
     rw (r .2) at f
 
--- The bytes s are a type of n nodes. Its kinds stand in s, its arguments at the front of xs.
+-- The bytes s are a type of n nodes. Its kinds stand in s, its arguments at the front of xs: parts that are as good as checked.
 pub record Opened (w nodes deep n : ℕ) (s xs : List ℕ) : Type 0 where
-  pub form : EncodedForm w nodes deep n s
+  pub sized : Sized w nodes n s
   pub room : n ≤ length xs
-  pub holds : Holds nodes deep (take (2 + n - 2) (drop 2 s)) (take n xs) (form .tree)
-  pub valid : Valid (take (2 + n - 2) (drop 2 s)) (take n xs)
-  pub type-at : typeAt (take (2 + n - 2) (drop 2 s)) (take n xs) ≡ form .tree
+  pub parts : Passed nodes deep (take (2 + n - 2) (drop 2 s)) (take n xs)
+  pub tree-size : size (parts .tree) ≡ n
+  pub same : decoding w nodes deep s ≡ reading nodes deep (take (2 + n - 2) (drop 2 s)) (take n xs)
+  pub reads : decoding w nodes deep s ≡ type (parts .tree)
 
 module _ {w nodes deep : ℕ} {s xs xs′ : List ℕ} {a : Written} (o : Opens w nodes deep s xs xs′ a) where
   pub opened : {n : ℕ} → a ≡ Written.Nodes n → Opened w nodes deep n s xs′
@@ -65,9 +65,16 @@ module _ {w nodes deep : ℕ} {s xs xs′ : List ℕ} {a : Written} (o : Opens w
       let f : EncodedForm w nodes deep n s = written-form q (o .answers) in
       let z = f .sized in
       let front : take n xs′ ≡ argsIn w s = rw (rw (size-fits z) at (o .args)) (take-at (argsIn w s) _ n (args-length z)) in
-      let reads = ap₂ (reading nodes deep) (kinds-part z) front ∙ sym (decoding-sized z deep) ∙ f .reads in
-      let v = stands nodes deep _ _ (f .tree) reads in
-      record { form = f; room = omega (arith, length-take n xs′, ap length front ∙ args-length z); holds = holds nodes deep _ _ (f .tree) reads; valid = v .0; type-at = v .1 }
+      let same = decoding-sized z deep ∙ sym (ap₂ (reading nodes deep) (kinds-part z) front) in
+      let p : Passed nodes deep (take (2 + n - 2) (drop 2 s)) (take n xs′) = check-passed (ap checkedOf (sym (f .reads) ∙ same)) in
+      record {
+        sized = z;
+        room = omega (arith, length-take n xs′, ap length front ∙ args-length z);
+        parts = p;
+        tree-size = p .whole ∙ ap length (kinds-part z) ∙ kinds-length z;
+        same = same;
+        reads = same ∙ p .reads;
+      }
 
   pub unopened : {e : Error} → a ≡ Written.Refused e → decoding w nodes deep s ≡ refused e
   unopened q = written-refused (decoding w nodes deep s) (sym q ∙ o .answers)

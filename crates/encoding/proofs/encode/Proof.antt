@@ -2,20 +2,20 @@
 use borrow.Author.Needs.{needs}
 use mathlib.Core.Path.{sym, _∙_}
 use Rattle.flat.specs.Reading.{reading}
-use Rattle.flat.proofs.Meaning.{checked-refused}
+use Rattle.flat.proofs.Meaning.{check-passed, checked-refused}
 use Rattle.encoding.specs.Answer.{fittingBytes}
-use Rattle.encoding.proofs.Answers.{flat-form, encodes-refused, puts-type}
+use Rattle.encoding.proofs.Answers.{encodes-refused, puts-type}
 use Rattle.encoding.proofs.encode.Statement.{statement}
 use Rattle.encoding.proofs.encode.Tie as tie
 
 put-requires : tie.Need-put-requires
-put-requires c κs = let form = flat-form (c .before .enum-told .given .1) (c .before .before .before .check .ensures) in (form .kinds-size ∙ sym (form .args-size), rw (form .kinds-size) (form .few))
+put-requires c κs = let p = check-passed (sym (c .before .enum-told .given .1) ∙ c .before .before .before .check .ensures) in (p .even, rw (← p .whole) (p .form .is-type .within))
 
 returns : tie.Need-returns
 returns c =
     let at = c .before .before .before .before in
-    let form = flat-form (at .enum-told .given .1) (at .before .before .check .ensures) in
-    rw (form .reads) (puts-type (form .tree) (form .kinds) (form .args) (c .before .before .put .ensures))
+    let p = check-passed (sym (at .enum-told .given .1) ∙ at .before .before .check .ensures) in
+    rw (p .reads) (puts-type (p .tree) (p .form .kinds) (p .form .args) (c .before .before .put .ensures))
 
 returns-2 : tie.Need-returns-2
 unfolding fittingBytes

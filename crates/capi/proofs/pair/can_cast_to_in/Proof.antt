@@ -17,7 +17,7 @@ right-fits : (c : tie.After-known-told) → Fits 8 (c .before .n .given .0 .1 .0
 right-fits c = fits-of (right-opened (c .before .before .before .before .before .before .before .open-both .ensures) (c .before .n .given .1))
 
 node-cast-requires : tie.Need-node-cast-requires
-node-cast-requires c κs = let o = c .before .before .before .before .before .before .before .before .before .before .before .open-both .ensures in let q = c .before .before .before .before .before .n .given .1 in (left-opened o q .valid, right-opened o q .valid)
+node-cast-requires c κs = let o = c .before .before .before .before .before .before .before .before .before .before .before .open-both .ensures in let q = c .before .before .before .before .before .n .given .1 in (left-opened o q .parts .valid, right-opened o q .parts .valid)
 
 returns : tie.Need-returns
 returns c = let o = c .before .before .before .before .before .before .before .before .before .before .before .before .before .open-both .ensures in let q = c .before .before .before .before .before .before .before .n .given .1 in cast-reply o q _ (c .before .node-cast .ensures) (c .verdict .ensures)

@@ -18,7 +18,7 @@ right-fits : (c : tie.After-known-told) → Fits 8 (c .before .n .given .0 .1 .0
 right-fits c = fits-of (right-opened (c .before .before .before .before .before .before .before .open-both .ensures) (c .before .n .given .1))
 
 starts-with-requires : tie.Need-starts-with-requires
-starts-with-requires c κs = let o = c .before .before .before .before .before .before .before .before .before .before .before .open-both .ensures in let q = c .before .before .before .before .before .n .given .1 in (left-opened o q .valid .even, right-opened o q .valid .even)
+starts-with-requires c κs = let o = c .before .before .before .before .before .before .before .before .before .before .before .open-both .ensures in let q = c .before .before .before .before .before .n .given .1 in (left-opened o q .parts .even, right-opened o q .parts .even)
 
 returns : tie.Need-returns
 returns c = let o = c .before .before .before .before .before .before .before .before .before .before .before .before .before .open-both .ensures in let q = c .before .before .before .before .before .before .before .n .given .1 in equal-reply o q (c .before .starts-with .ensures) (c .yes-no .ensures)

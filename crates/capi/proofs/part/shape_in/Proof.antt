@@ -14,7 +14,7 @@ fits : (c : tie.After-known-told) → Fits 8 (c .before .n .given .0 .0) (c .bef
 fits c = fits-of (opened (c .before .before .before .before .before .«open» .ensures) (c .before .n .given .1))
 
 array-shape-requires : tie.Need-array-shape-requires
-array-shape-requires c κs = let o = opened (c .before .before .before .before .before .before .before .«open» .ensures) (c .before .before .before .n .given .1) in (o .valid .even, arrays-few o)
+array-shape-requires c κs = let o = opened (c .before .before .before .before .before .before .before .«open» .ensures) (c .before .before .before .n .given .1) in (o .parts .even, arrays-few o)
 
 returns : tie.Need-returns
 returns c = let o = opened (c .before .before .before .before .before .before .before .before .«open» .ensures) (c .before .before .before .before .n .given .1) in (c .array-shape .ensures ∙ opened-shape o, c .before .before .before .before .before .before .before .before .«open» .ensures .args)
