@@ -1,29 +1,26 @@
 -- What the answers of the proved functions come to as replies. Assumes nothing.
 use mathlib.Core.Path.{_≡_, refl, sym, ap, _∙_}
-use mathlib.Core.Bool.{Bool, not}
+use mathlib.Core.Bool.{Bool}
 use mathlib.Core.List.{List}
-use Prim.Native.Nat.{ℕ, _+_, _-_, _≤_}
+use Prim.Native.Nat.{ℕ, _+_, _-_, _≤_, _<_}
 use lib.ListN.{length, take, drop}
 use lib.Seq.{length-take-le}
-use Rattle.flat.specs.Tree.{DataType, Fields, size}
+use Rattle.flat.specs.Tree.{DataType, size}
 use Rattle.flat.specs.Reading.{Reading, refused, type, reading, checkedOf}
 use Rattle.flat.specs.declared.error.Error.{Error}
 use Rattle.flat.specs.declared.Checked.{Checked}
-use Rattle.flat.proofs.Meaning.{checked-type, checked-refused}
+use Rattle.flat.proofs.Meaning.{check-passed, checked-type, checked-refused}
 use Rattle.encoding.specs.Encoding.{encodedSize, kindsIn, argsIn, decoding}
 use Rattle.encoding.specs.Answer.{fittingBytes, encodedOf, bytesOver, Encodes}
 use Rattle.flat.specs.declared.Written.{Written}
 use Rattle.flat.specs.Output.{writtenOf, Writes}
 use Rattle.encoding.specs.declared.Encoded.{Encoded}
-use Rattle.encoding.proofs.Opening.{Opened, written-type, written-refused}
+use Rattle.encoding.proofs.Opening.{Opened, written-refused}
 use Rattle.encoding.proofs.Answers.{kinds-part, decoding-sized, EncodedForm}
-use Rattle.datatypes.specs.Predicate.{root}
-use Rattle.datatypes.specs.Scan.{anyOf}
-use Rattle.datatypes.specs.Answer.{yesNo, answerOf, rootOf}
-use Rattle.datatypes.specs.declared.answer.Root.{Root}
-use Rattle.datatypes.proofs.Trees.{Nodewise}
-use Rattle.datatypes.proofs.Answers.{by-root, by-scan, unless-scan}
-use Rattle.datatypes.proofs.Answers as answers
+use Rattle.datatypes.specs.Predicates.{predicateOf, toldBy}
+use Rattle.datatypes.specs.Answer.{yesNo, answerOf}
+use Rattle.datatypes.specs.declared.predicate.Predicate.{Predicate}
+use Rattle.datatypes.proofs.Answers.{some-node, answered}
 use Rattle.datatypes.specs.TimeUnit.{unitNumber}
 use Rattle.datatypes.specs.declared.time_unit.TimeUnit.{TimeUnit}
 use Rattle.datatypes.specs.declared.time_unit.Unit.{Unit}
@@ -91,24 +88,15 @@ answer-refused p q h = h ∙ ap (λ (r : Reading). answerReply (answerOf p r)) (
 pub answer-unwritten : (p : DataType → Bool) (r : Reading) {e : Error} {d : Written} {a : Reply} → d ≡ Written.Refused e → d ≡ writtenOf r → a ≡ checkReply (refused e) → a ≡ answerReply (answerOf p r)
 answer-unwritten p r q f h = answer-refused p (written-refused r (sym q ∙ f)) h
 
--- of the root's kind, by what the function of that kind says
-module _ (p : ℕ → Bool) (r : Reading) {x : Root} (h : x ≡ rootOf r) where
-  pub root-reply : {k : ℕ} {b : Bool} {a : Reply} → x ≡ Root.Kind k → b ≡ p k → a ≡ answerReply (yesNo b) → a ≡ answerReply (answerOf (root p) r)
-  root-reply q f g = g ∙ ap answerReply (by-root r p (sym q ∙ h) f refl)
-
-  pub root-refused : {e : Error} {a : Reply} → x ≡ Root.Refused e → a ≡ checkReply (refused e) → a ≡ answerReply (answerOf (root p) r)
-  root-refused q g = g ∙ ap answerReply (answers.root-refused r (root p) (sym q ∙ h))
-
--- by a scan of the kinds that stand in the bytes
+-- by the kinds that stand in the bytes
 module _ {w nodes deep n : ℕ} {s : List ℕ} (f : EncodedForm w nodes deep n s) where
   valid : Checked.Valid ≡ checkedOf (reading nodes deep (kindsIn s) (argsIn w s))
   valid = ap checkedOf (sym (f .reads) ∙ decoding-sized (f .sized) deep)
 
-  answered : (p : DataType → Bool) {a : Reply} → a ≡ answerReply (answerOf p (reading nodes deep (kindsIn s) (argsIn w s))) → a ≡ answerReply (answerOf p (decoding w nodes deep s))
-  answered p h = h ∙ ap (λ (r : Reading). answerReply (answerOf p r)) (sym (decoding-sized (f .sized) deep))
+  pub some-kind : 0 < length (take (2 + n - 2) (drop 2 s))
+  some-kind = rw (kinds-part (f .sized)) (some-node (check-passed valid))
 
-  pub scan-reply : {p : ℕ → Bool} {q : DataType → Bool} {g : Fields → Bool} → Nodewise p q g → {b : Bool} {a : Reply} → b ≡ anyOf p (take (2 + n - 2) (drop 2 s)) → a ≡ answerReply (yesNo b) → a ≡ answerReply (answerOf q (decoding w nodes deep s))
-  scan-reply {p} {q} law e h = answered q (h ∙ ap answerReply (by-scan nodes deep (kindsIn s) (argsIn w s) valid law (e ∙ ap (anyOf p) (kinds-part (f .sized))) refl))
-
-  pub unless-reply : (q : DataType → Bool) {p : ℕ → Bool} {g : Fields → Bool} → Nodewise p (λ t. not (q t)) g → {b : Bool} {a : Reply} → b ≡ anyOf p (take (2 + n - 2) (drop 2 s)) → a ≡ answerReply (yesNo (not b)) → a ≡ answerReply (answerOf q (decoding w nodes deep s))
-  unless-reply q {p} law e h = answered q (h ∙ ap answerReply (unless-scan nodes deep (kindsIn s) (argsIn w s) valid q law (e ∙ ap (anyOf p) (kinds-part (f .sized))) refl))
+  pub predicate-reply : (p : Predicate) {b : Bool} {a : Reply} → b ≡ toldBy p (take (2 + n - 2) (drop 2 s)) → a ≡ answerReply (yesNo b) → a ≡ answerReply (answerOf (predicateOf p) (decoding w nodes deep s))
+  predicate-reply p e h =
+      h ∙ ap answerReply (answered p nodes deep (kindsIn s) (argsIn w s) valid (e ∙ ap (toldBy p) (kinds-part (f .sized))) refl)
+      ∙ ap (λ (r : Reading). answerReply (answerOf (predicateOf p) r)) (sym (decoding-sized (f .sized) deep))

@@ -4,32 +4,18 @@ ghost use Rattle.flat.specs.Output.{writtenOf};
 ghost use Rattle.encoding.specs.Encoding.{decoding};
 ghost use Rattle.datatypes.specs.Predicate.{root, isTemporal, isFloat, isSignedInteger, isUnsignedInteger, isInteger, isPrimitiveNumeric, isPrimitive, isNested, isString, isUnknown};
 ghost use Rattle.datatypes.specs.Recursive.{isKnown, isLogical, containsListRecursive, containsUnknown};
-ghost use Rattle.datatypes.specs.Answer.{answerOf, rootOf};
+ghost use Rattle.datatypes.specs.Predicates.{predicateOf};
+ghost use Rattle.datatypes.specs.Answer.{answerOf};
 ghost use Rattle.capi.specs.Reply.{answerReply};
 use crate::Reply;
 use crate::refusal;
 use crate::yes_no;
-use datatypes::answer::Root;
-use datatypes::kind;
-use datatypes::scan;
+use datatypes::predicate::Predicate;
+use datatypes::predicate::told_by;
 use encoding::Encoding;
 use flat::Checked;
 use flat::Flat;
 use flat::Written;
-
-// The kind of the root, which stands right after the count.
-fn root_kind(encoded: &[u8]) -> Root
-    ensures { λ r. do
-      nodes ← ⟦Flat::MAX_NODES⟧ .entry
-      deep ← ⟦Flat::MAX_DEPTH⟧ .entry
-      w ← ⟦Encoding::ARGUMENT_BYTES⟧ .entry
-      ⌜ r ≡ rootOf (decoding w nodes deep (now (encoded .entry))) ⌝ }
-{
-    match encoding::check(encoded) {
-        Checked::Valid => Root::Kind(encoded[2]),
-        Checked::Refused(e) => Root::Refused(e),
-    }
-}
 
 // The number of nodes, and so of the kinds that stand after the count.
 fn nodes(encoded: &[u8]) -> Written
@@ -45,6 +31,20 @@ fn nodes(encoded: &[u8]) -> Written
     }
 }
 
+// What a predicate says of the type, told by the kinds where they stand.
+fn reply(p: Predicate, encoded: &[u8]) -> Reply
+    ensures { λ r. do
+      nodes ← ⟦Flat::MAX_NODES⟧ .entry
+      deep ← ⟦Flat::MAX_DEPTH⟧ .entry
+      w ← ⟦Encoding::ARGUMENT_BYTES⟧ .entry
+      ⌜ r ≡ answerReply (answerOf (predicateOf p) (decoding w nodes deep (now (encoded .entry)))) ⌝ }
+{
+    match nodes(encoded) {
+        Written::Nodes(n) => yes_no(told_by(p, &encoded[2..2 + n])),
+        Written::Refused(e) => refusal(e),
+    }
+}
+
 // Whether it is a List, an Array or a Struct.
 #[no_mangle]
 pub extern "C" fn lz_is_nested(encoded: &[u8]) -> Reply
@@ -54,13 +54,10 @@ pub extern "C" fn lz_is_nested(encoded: &[u8]) -> Reply
       w ← ⟦Encoding::ARGUMENT_BYTES⟧ .entry
       ⌜ r ≡ answerReply (answerOf (root isNested) (decoding w nodes deep (now (encoded .entry)))) ⌝ }
 {
-    match root_kind(encoded) {
-        Root::Kind(k) => yes_no(kind::is_nested(k)),
-        Root::Refused(e) => refusal(e),
-    }
+    reply(Predicate::IsNested, encoded)
 }
 
-// Whether it is neither nested nor logical.
+// Whether it is a primitive numeric type, Boolean, String or Binary.
 #[no_mangle]
 pub extern "C" fn lz_is_primitive(encoded: &[u8]) -> Reply
     ensures { λ r. do
@@ -69,10 +66,7 @@ pub extern "C" fn lz_is_primitive(encoded: &[u8]) -> Reply
       w ← ⟦Encoding::ARGUMENT_BYTES⟧ .entry
       ⌜ r ≡ answerReply (answerOf (root isPrimitive) (decoding w nodes deep (now (encoded .entry)))) ⌝ }
 {
-    match root_kind(encoded) {
-        Root::Kind(k) => yes_no(kind::is_primitive(k)),
-        Root::Refused(e) => refusal(e),
-    }
+    reply(Predicate::IsPrimitive, encoded)
 }
 
 // Whether it is a float or an integer; a Decimal is neither.
@@ -84,10 +78,7 @@ pub extern "C" fn lz_is_primitive_numeric(encoded: &[u8]) -> Reply
       w ← ⟦Encoding::ARGUMENT_BYTES⟧ .entry
       ⌜ r ≡ answerReply (answerOf (root isPrimitiveNumeric) (decoding w nodes deep (now (encoded .entry)))) ⌝ }
 {
-    match root_kind(encoded) {
-        Root::Kind(k) => yes_no(kind::is_primitive_numeric(k)),
-        Root::Refused(e) => refusal(e),
-    }
+    reply(Predicate::IsPrimitiveNumeric, encoded)
 }
 
 #[no_mangle]
@@ -98,10 +89,7 @@ pub extern "C" fn lz_is_temporal(encoded: &[u8]) -> Reply
       w ← ⟦Encoding::ARGUMENT_BYTES⟧ .entry
       ⌜ r ≡ answerReply (answerOf (root isTemporal) (decoding w nodes deep (now (encoded .entry)))) ⌝ }
 {
-    match root_kind(encoded) {
-        Root::Kind(k) => yes_no(kind::is_temporal(k)),
-        Root::Refused(e) => refusal(e),
-    }
+    reply(Predicate::IsTemporal, encoded)
 }
 
 // `Unknown(Float)` is one.
@@ -113,10 +101,7 @@ pub extern "C" fn lz_is_float(encoded: &[u8]) -> Reply
       w ← ⟦Encoding::ARGUMENT_BYTES⟧ .entry
       ⌜ r ≡ answerReply (answerOf (root isFloat) (decoding w nodes deep (now (encoded .entry)))) ⌝ }
 {
-    match root_kind(encoded) {
-        Root::Kind(k) => yes_no(kind::is_float(k)),
-        Root::Refused(e) => refusal(e),
-    }
+    reply(Predicate::IsFloat, encoded)
 }
 
 // `Unknown(Int(_))` is one.
@@ -128,10 +113,7 @@ pub extern "C" fn lz_is_integer(encoded: &[u8]) -> Reply
       w ← ⟦Encoding::ARGUMENT_BYTES⟧ .entry
       ⌜ r ≡ answerReply (answerOf (root isInteger) (decoding w nodes deep (now (encoded .entry)))) ⌝ }
 {
-    match root_kind(encoded) {
-        Root::Kind(k) => yes_no(kind::is_integer(k)),
-        Root::Refused(e) => refusal(e),
-    }
+    reply(Predicate::IsInteger, encoded)
 }
 
 #[no_mangle]
@@ -142,10 +124,7 @@ pub extern "C" fn lz_is_signed_integer(encoded: &[u8]) -> Reply
       w ← ⟦Encoding::ARGUMENT_BYTES⟧ .entry
       ⌜ r ≡ answerReply (answerOf (root isSignedInteger) (decoding w nodes deep (now (encoded .entry)))) ⌝ }
 {
-    match root_kind(encoded) {
-        Root::Kind(k) => yes_no(kind::is_signed_integer(k)),
-        Root::Refused(e) => refusal(e),
-    }
+    reply(Predicate::IsSignedInteger, encoded)
 }
 
 #[no_mangle]
@@ -156,10 +135,7 @@ pub extern "C" fn lz_is_unsigned_integer(encoded: &[u8]) -> Reply
       w ← ⟦Encoding::ARGUMENT_BYTES⟧ .entry
       ⌜ r ≡ answerReply (answerOf (root isUnsignedInteger) (decoding w nodes deep (now (encoded .entry)))) ⌝ }
 {
-    match root_kind(encoded) {
-        Root::Kind(k) => yes_no(kind::is_unsigned_integer(k)),
-        Root::Refused(e) => refusal(e),
-    }
+    reply(Predicate::IsUnsignedInteger, encoded)
 }
 
 // `Unknown(Str)` is one.
@@ -171,10 +147,7 @@ pub extern "C" fn lz_is_string(encoded: &[u8]) -> Reply
       w ← ⟦Encoding::ARGUMENT_BYTES⟧ .entry
       ⌜ r ≡ answerReply (answerOf (root isString) (decoding w nodes deep (now (encoded .entry)))) ⌝ }
 {
-    match root_kind(encoded) {
-        Root::Kind(k) => yes_no(kind::is_string(k)),
-        Root::Refused(e) => refusal(e),
-    }
+    reply(Predicate::IsString, encoded)
 }
 
 #[no_mangle]
@@ -185,10 +158,7 @@ pub extern "C" fn lz_is_unknown(encoded: &[u8]) -> Reply
       w ← ⟦Encoding::ARGUMENT_BYTES⟧ .entry
       ⌜ r ≡ answerReply (answerOf (root isUnknown) (decoding w nodes deep (now (encoded .entry)))) ⌝ }
 {
-    match root_kind(encoded) {
-        Root::Kind(k) => yes_no(kind::is_unknown(k)),
-        Root::Refused(e) => refusal(e),
-    }
+    reply(Predicate::IsUnknown, encoded)
 }
 
 // Whether no type in it is unknown.
@@ -200,10 +170,7 @@ pub extern "C" fn lz_is_known(encoded: &[u8]) -> Reply
       w ← ⟦Encoding::ARGUMENT_BYTES⟧ .entry
       ⌜ r ≡ answerReply (answerOf isKnown (decoding w nodes deep (now (encoded .entry)))) ⌝ }
 {
-    match nodes(encoded) {
-        Written::Nodes(n) => yes_no(!scan::contains_unknown(&encoded[2..2 + n])),
-        Written::Refused(e) => refusal(e),
-    }
+    reply(Predicate::IsKnown, encoded)
 }
 
 // Whether it differs from its physical form.
@@ -215,10 +182,7 @@ pub extern "C" fn lz_is_logical(encoded: &[u8]) -> Reply
       w ← ⟦Encoding::ARGUMENT_BYTES⟧ .entry
       ⌜ r ≡ answerReply (answerOf isLogical (decoding w nodes deep (now (encoded .entry)))) ⌝ }
 {
-    match nodes(encoded) {
-        Written::Nodes(n) => yes_no(scan::is_logical(&encoded[2..2 + n])),
-        Written::Refused(e) => refusal(e),
-    }
+    reply(Predicate::IsLogical, encoded)
 }
 
 #[no_mangle]
@@ -229,10 +193,7 @@ pub extern "C" fn lz_contains_unknown(encoded: &[u8]) -> Reply
       w ← ⟦Encoding::ARGUMENT_BYTES⟧ .entry
       ⌜ r ≡ answerReply (answerOf containsUnknown (decoding w nodes deep (now (encoded .entry)))) ⌝ }
 {
-    match nodes(encoded) {
-        Written::Nodes(n) => yes_no(scan::contains_unknown(&encoded[2..2 + n])),
-        Written::Refused(e) => refusal(e),
-    }
+    reply(Predicate::ContainsUnknown, encoded)
 }
 
 #[no_mangle]
@@ -243,8 +204,5 @@ pub extern "C" fn lz_contains_list_recursive(encoded: &[u8]) -> Reply
       w ← ⟦Encoding::ARGUMENT_BYTES⟧ .entry
       ⌜ r ≡ answerReply (answerOf containsListRecursive (decoding w nodes deep (now (encoded .entry)))) ⌝ }
 {
-    match nodes(encoded) {
-        Written::Nodes(n) => yes_no(scan::contains_list(&encoded[2..2 + n])),
-        Written::Refused(e) => refusal(e),
-    }
+    reply(Predicate::ContainsListRecursive, encoded)
 }

@@ -2,10 +2,9 @@
 use mathlib.Core.Bool.{Bool, true, false}
 use Prim.Native.Nat.{ℕ}
 use Rattle.flat.specs.Refusal.{numberOf}
-use Rattle.flat.specs.Tree.{DataType, headKind}
+use Rattle.flat.specs.Tree.{DataType}
 use Rattle.flat.specs.Reading.{Reading, refused, type}
 use Rattle.datatypes.specs.declared.answer.Answer.{Answer}
-use Rattle.datatypes.specs.declared.answer.Root.{Root}
 
 abbrev pub yesNo : Bool → Answer
 yesNo true = Answer.Yes
@@ -31,8 +30,3 @@ abbrev pub answerValue : Answer → ℕ
 answerValue Answer.No = 0
 answerValue Answer.Yes = 1
 answerValue (Answer.Refused e) = 0
-
--- the kind of a type's root
-abbrev pub rootOf : Reading → Root
-rootOf (refused e) = Root.Refused e
-rootOf (type t) = Root.Kind (headKind t)

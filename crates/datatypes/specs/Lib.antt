@@ -10,4 +10,5 @@ pub mod Recursive
 pub mod Inner
 pub mod Cast
 pub mod Scan
+pub mod Predicates
 pub mod Answer

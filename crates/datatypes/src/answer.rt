@@ -1,9 +1,6 @@
 // The answers of the calls that say yes or no.
 ghost use mathlib.Core.Path.{_≡_};
-ghost use Rattle.flat.specs.Reading.{reading};
-ghost use Rattle.datatypes.specs.Answer.{yesNo, answerNumber, answerValue, rootOf};
-use flat::Checked;
-use flat::Flat;
+ghost use Rattle.datatypes.specs.Answer.{yesNo, answerNumber, answerValue};
 use flat::error::Error;
 
 pub enum Answer {
@@ -40,22 +37,4 @@ pub fn yes_no(b: bool) -> Answer
     ensures { λ r. ⌜ r ≡ yesNo b ⌝ }
 {
     if b { Answer::Yes } else { Answer::No }
-}
-
-// The kind of a type's root.
-pub enum Root {
-    Kind(u8),
-    Refused(Error),
-}
-
-pub fn root_kind(kinds: &[u8], args: &[u64]) -> Root
-    ensures { λ r. do
-      nodes ← ⟦Flat::MAX_NODES⟧ .entry
-      deep ← ⟦Flat::MAX_DEPTH⟧ .entry
-      ⌜ r ≡ rootOf (reading nodes deep (now (kinds .entry)) (now (args .entry))) ⌝ }
-{
-    match flat::check(kinds, args) {
-        Checked::Valid => Root::Kind(kinds[0]),
-        Checked::Refused(e) => Root::Refused(e),
-    }
 }

@@ -3,12 +3,27 @@ ghost use mathlib.Core.Path.{_≡_};
 ghost use Rattle.flat.specs.Reading.{reading};
 ghost use Rattle.datatypes.specs.Predicate.{root, isTemporal, isFloat, isSignedInteger, isUnsignedInteger, isInteger, isPrimitiveNumeric, isPrimitive, isNested, isString, isUnknown};
 ghost use Rattle.datatypes.specs.Recursive.{isKnown, isLogical, containsListRecursive, containsUnknown};
+ghost use Rattle.datatypes.specs.Predicates.{predicateOf};
 ghost use Rattle.datatypes.specs.Answer.{answerOf};
 use crate::answer::Answer;
-use crate::answer::Root;
 use crate::answer::yes_no;
+use crate::predicate::Predicate;
+use crate::predicate::told_by;
 use flat::Checked;
 use flat::Flat;
+
+// What a predicate says of two arrays.
+fn answer(p: Predicate, kinds: &[u8], args: &[u64]) -> Answer
+    ensures { λ r. do
+      nodes ← ⟦Flat::MAX_NODES⟧ .entry
+      deep ← ⟦Flat::MAX_DEPTH⟧ .entry
+      ⌜ r ≡ answerOf (predicateOf p) (reading nodes deep (now (kinds .entry)) (now (args .entry))) ⌝ }
+{
+    match flat::check(kinds, args) {
+        Checked::Valid => yes_no(told_by(p, kinds)),
+        Checked::Refused(e) => Answer::Refused(e),
+    }
+}
 
 // Whether it is a List, an Array or a Struct.
 pub fn is_nested(kinds: &[u8], args: &[u64]) -> Answer
@@ -17,10 +32,7 @@ pub fn is_nested(kinds: &[u8], args: &[u64]) -> Answer
       deep ← ⟦Flat::MAX_DEPTH⟧ .entry
       ⌜ r ≡ answerOf (root isNested) (reading nodes deep (now (kinds .entry)) (now (args .entry))) ⌝ }
 {
-    match crate::answer::root_kind(kinds, args) {
-        Root::Kind(k) => yes_no(crate::kind::is_nested(k)),
-        Root::Refused(e) => Answer::Refused(e),
-    }
+    answer(Predicate::IsNested, kinds, args)
 }
 
 // Whether it is a primitive numeric type, Boolean, String or Binary.
@@ -30,10 +42,7 @@ pub fn is_primitive(kinds: &[u8], args: &[u64]) -> Answer
       deep ← ⟦Flat::MAX_DEPTH⟧ .entry
       ⌜ r ≡ answerOf (root isPrimitive) (reading nodes deep (now (kinds .entry)) (now (args .entry))) ⌝ }
 {
-    match crate::answer::root_kind(kinds, args) {
-        Root::Kind(k) => yes_no(crate::kind::is_primitive(k)),
-        Root::Refused(e) => Answer::Refused(e),
-    }
+    answer(Predicate::IsPrimitive, kinds, args)
 }
 
 // Whether it is a float or an integer; a Decimal is neither.
@@ -43,10 +52,7 @@ pub fn is_primitive_numeric(kinds: &[u8], args: &[u64]) -> Answer
       deep ← ⟦Flat::MAX_DEPTH⟧ .entry
       ⌜ r ≡ answerOf (root isPrimitiveNumeric) (reading nodes deep (now (kinds .entry)) (now (args .entry))) ⌝ }
 {
-    match crate::answer::root_kind(kinds, args) {
-        Root::Kind(k) => yes_no(crate::kind::is_primitive_numeric(k)),
-        Root::Refused(e) => Answer::Refused(e),
-    }
+    answer(Predicate::IsPrimitiveNumeric, kinds, args)
 }
 
 pub fn is_temporal(kinds: &[u8], args: &[u64]) -> Answer
@@ -55,10 +61,7 @@ pub fn is_temporal(kinds: &[u8], args: &[u64]) -> Answer
       deep ← ⟦Flat::MAX_DEPTH⟧ .entry
       ⌜ r ≡ answerOf (root isTemporal) (reading nodes deep (now (kinds .entry)) (now (args .entry))) ⌝ }
 {
-    match crate::answer::root_kind(kinds, args) {
-        Root::Kind(k) => yes_no(crate::kind::is_temporal(k)),
-        Root::Refused(e) => Answer::Refused(e),
-    }
+    answer(Predicate::IsTemporal, kinds, args)
 }
 
 // `Unknown(Float)` is one.
@@ -68,10 +71,7 @@ pub fn is_float(kinds: &[u8], args: &[u64]) -> Answer
       deep ← ⟦Flat::MAX_DEPTH⟧ .entry
       ⌜ r ≡ answerOf (root isFloat) (reading nodes deep (now (kinds .entry)) (now (args .entry))) ⌝ }
 {
-    match crate::answer::root_kind(kinds, args) {
-        Root::Kind(k) => yes_no(crate::kind::is_float(k)),
-        Root::Refused(e) => Answer::Refused(e),
-    }
+    answer(Predicate::IsFloat, kinds, args)
 }
 
 // `Unknown(Int(_))` is one.
@@ -81,10 +81,7 @@ pub fn is_integer(kinds: &[u8], args: &[u64]) -> Answer
       deep ← ⟦Flat::MAX_DEPTH⟧ .entry
       ⌜ r ≡ answerOf (root isInteger) (reading nodes deep (now (kinds .entry)) (now (args .entry))) ⌝ }
 {
-    match crate::answer::root_kind(kinds, args) {
-        Root::Kind(k) => yes_no(crate::kind::is_integer(k)),
-        Root::Refused(e) => Answer::Refused(e),
-    }
+    answer(Predicate::IsInteger, kinds, args)
 }
 
 pub fn is_signed_integer(kinds: &[u8], args: &[u64]) -> Answer
@@ -93,10 +90,7 @@ pub fn is_signed_integer(kinds: &[u8], args: &[u64]) -> Answer
       deep ← ⟦Flat::MAX_DEPTH⟧ .entry
       ⌜ r ≡ answerOf (root isSignedInteger) (reading nodes deep (now (kinds .entry)) (now (args .entry))) ⌝ }
 {
-    match crate::answer::root_kind(kinds, args) {
-        Root::Kind(k) => yes_no(crate::kind::is_signed_integer(k)),
-        Root::Refused(e) => Answer::Refused(e),
-    }
+    answer(Predicate::IsSignedInteger, kinds, args)
 }
 
 pub fn is_unsigned_integer(kinds: &[u8], args: &[u64]) -> Answer
@@ -105,10 +99,7 @@ pub fn is_unsigned_integer(kinds: &[u8], args: &[u64]) -> Answer
       deep ← ⟦Flat::MAX_DEPTH⟧ .entry
       ⌜ r ≡ answerOf (root isUnsignedInteger) (reading nodes deep (now (kinds .entry)) (now (args .entry))) ⌝ }
 {
-    match crate::answer::root_kind(kinds, args) {
-        Root::Kind(k) => yes_no(crate::kind::is_unsigned_integer(k)),
-        Root::Refused(e) => Answer::Refused(e),
-    }
+    answer(Predicate::IsUnsignedInteger, kinds, args)
 }
 
 // `Unknown(Str)` is one.
@@ -118,10 +109,7 @@ pub fn is_string(kinds: &[u8], args: &[u64]) -> Answer
       deep ← ⟦Flat::MAX_DEPTH⟧ .entry
       ⌜ r ≡ answerOf (root isString) (reading nodes deep (now (kinds .entry)) (now (args .entry))) ⌝ }
 {
-    match crate::answer::root_kind(kinds, args) {
-        Root::Kind(k) => yes_no(crate::kind::is_string(k)),
-        Root::Refused(e) => Answer::Refused(e),
-    }
+    answer(Predicate::IsString, kinds, args)
 }
 
 pub fn is_unknown(kinds: &[u8], args: &[u64]) -> Answer
@@ -130,10 +118,7 @@ pub fn is_unknown(kinds: &[u8], args: &[u64]) -> Answer
       deep ← ⟦Flat::MAX_DEPTH⟧ .entry
       ⌜ r ≡ answerOf (root isUnknown) (reading nodes deep (now (kinds .entry)) (now (args .entry))) ⌝ }
 {
-    match crate::answer::root_kind(kinds, args) {
-        Root::Kind(k) => yes_no(crate::kind::is_unknown(k)),
-        Root::Refused(e) => Answer::Refused(e),
-    }
+    answer(Predicate::IsUnknown, kinds, args)
 }
 
 // Whether no type in it is unknown.
@@ -143,10 +128,7 @@ pub fn is_known(kinds: &[u8], args: &[u64]) -> Answer
       deep ← ⟦Flat::MAX_DEPTH⟧ .entry
       ⌜ r ≡ answerOf isKnown (reading nodes deep (now (kinds .entry)) (now (args .entry))) ⌝ }
 {
-    match flat::check(kinds, args) {
-        Checked::Valid => yes_no(!crate::scan::contains_unknown(kinds)),
-        Checked::Refused(e) => Answer::Refused(e),
-    }
+    answer(Predicate::IsKnown, kinds, args)
 }
 
 pub fn contains_unknown(kinds: &[u8], args: &[u64]) -> Answer
@@ -155,10 +137,7 @@ pub fn contains_unknown(kinds: &[u8], args: &[u64]) -> Answer
       deep ← ⟦Flat::MAX_DEPTH⟧ .entry
       ⌜ r ≡ answerOf containsUnknown (reading nodes deep (now (kinds .entry)) (now (args .entry))) ⌝ }
 {
-    match flat::check(kinds, args) {
-        Checked::Valid => yes_no(crate::scan::contains_unknown(kinds)),
-        Checked::Refused(e) => Answer::Refused(e),
-    }
+    answer(Predicate::ContainsUnknown, kinds, args)
 }
 
 pub fn contains_list_recursive(kinds: &[u8], args: &[u64]) -> Answer
@@ -167,10 +146,7 @@ pub fn contains_list_recursive(kinds: &[u8], args: &[u64]) -> Answer
       deep ← ⟦Flat::MAX_DEPTH⟧ .entry
       ⌜ r ≡ answerOf containsListRecursive (reading nodes deep (now (kinds .entry)) (now (args .entry))) ⌝ }
 {
-    match flat::check(kinds, args) {
-        Checked::Valid => yes_no(crate::scan::contains_list(kinds)),
-        Checked::Refused(e) => Answer::Refused(e),
-    }
+    answer(Predicate::ContainsListRecursive, kinds, args)
 }
 
 // Whether it differs from its physical form.
@@ -180,8 +156,5 @@ pub fn is_logical(kinds: &[u8], args: &[u64]) -> Answer
       deep ← ⟦Flat::MAX_DEPTH⟧ .entry
       ⌜ r ≡ answerOf isLogical (reading nodes deep (now (kinds .entry)) (now (args .entry))) ⌝ }
 {
-    match flat::check(kinds, args) {
-        Checked::Valid => yes_no(crate::scan::is_logical(kinds)),
-        Checked::Refused(e) => Answer::Refused(e),
-    }
+    answer(Predicate::IsLogical, kinds, args)
 }

@@ -3,5 +3,6 @@
 pub mod answer;
 pub mod dtype;
 pub mod kind;
+pub mod predicate;
 pub mod scan;
 pub mod time_unit;

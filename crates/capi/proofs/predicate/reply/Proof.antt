@@ -1,0 +1,33 @@
+-- `capi::predicate::reply` meets its contract. Assumes nothing.
+use borrow.Author.Needs.{needs}
+use native.Mathlib.Omega.{arith}
+use mathlib.Core.Path.{_≡_}
+use lib.ListN.{length}
+use Rattle.datatypes.specs.Predicates.{predicateOf}
+use Rattle.encoding.specs.Encoding.{encodedSize, decoding}
+use Rattle.encoding.proofs.Opening.{written-form}
+use Rattle.capi.proofs.Replies.{some-kind, predicate-reply, answer-unwritten}
+use Rattle.capi.proofs.predicate.reply.Statement.{statement}
+use Rattle.capi.proofs.predicate.reply.Tie as tie
+
+right-size : (c : tie.After-known-told) → length (c .before .before .before .before .before .args .encoded .now) ≡ encodedSize 8 (c .before .n .given .0 .0)
+right-size c = written-form (c .before .n .given .1) (c .before .before .before .nodes .ensures) .sized .size
+
+told-by-requires : tie.Need-told-by-requires
+told-by-requires c κs = some-kind (written-form (c .before .before .n .given .1) (c .before .before .before .before .nodes .ensures))
+
+returns : tie.Need-returns
+returns c = let at = c .before .before .before in predicate-reply (written-form (at .before .n .given .1) (at .before .before .before .nodes .ensures)) (at .before .before .before .before .before .args .p) (c .before .told-by .ensures) (c .yes-no .ensures)
+
+returns-2 : tie.Need-returns-2
+returns-2 c = answer-unwritten (predicateOf (c .before .before .before .before .before .before .args .p)) (decoding _ _ _ _) (c .before .before .e .given .1) (c .before .before .before .before .nodes .ensures) (c .refusal .ensures)
+
+pub reply-spec : {M : Type 1} → statement M
+reply-spec =
+    tie.close
+    (tie.spec
+    (λ c κs. search needs) (λ c. search needs)
+    (λ c. omega (arith, right-size c)) (λ c. search needs) (λ c. search needs) (λ c. omega (arith, right-size c))
+    told-by-requires (λ c κs. search needs) (λ c. search needs) (λ c κs. search needs)
+    returns
+    returns-2)
