@@ -3,3 +3,4 @@ pub mod Runs
 pub mod Scans
 pub mod Trees
 pub mod Answers
+pub mod Pairs

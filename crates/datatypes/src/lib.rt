@@ -3,6 +3,7 @@
 pub mod answer;
 pub mod dtype;
 pub mod kind;
+pub mod node;
 pub mod predicate;
 pub mod scan;
 pub mod time_unit;

@@ -5,7 +5,7 @@ ghost use Rattle.datatypes.specs.Predicate.{isPrimitiveNumeric};
 ghost use Rattle.datatypes.specs.Cast.{castsWithBoolean};
 ghost use Rattle.datatypes_cast.specs.Walk.{earlyOf, decided, equalLeaves};
 use datatypes::kind::is_primitive_numeric;
-use datatypes::kind::is_unknown_int;
+use datatypes::node::equal_node;
 use flat::kind::Kind;
 
 pub enum Early {
@@ -21,16 +21,7 @@ fn equal_leaves(k: u8, a: u64, l: u8, b: u64) -> bool
     if k > Kind::UNKNOWN_INT_NEG {
         return false;
     }
-    if k == l {
-        if a == b {
-            return true;
-        }
-        return is_unknown_int(k);
-    }
-    if is_unknown_int(k) {
-        return is_unknown_int(l);
-    }
-    false
+    equal_node(k, a, l, b)
 }
 
 fn both_numeric(k: u8, l: u8) -> bool

@@ -16,7 +16,7 @@ use Rattle.datatypes.specs.Match.{among}
 use Rattle.datatypes.specs.Predicate.{isUnknownInt}
 use Rattle.datatypes.specs.Equality.{equalNode, equal, equalFields}
 use Rattle.datatypes_eq.specs.Nodes.{startsWith}
-use Rattle.datatypes_eq.proofs.Pairs.{same-node}
+use Rattle.datatypes.proofs.Pairs.{same-node}
 use Rattle.datatypes_eq.proofs.Scans.{never, equal-size}
 
 -- the first node of ls and ys, which is equal to the node k, a, and what stands after it

@@ -18,7 +18,7 @@ use Rattle.datatypes.specs.Predicate.{isUnknownInt}
 use Rattle.datatypes.specs.Equality.{equalNode, equal, equalFields}
 use Rattle.datatypes.specs.Recursive.{containsDtypeRecursive, anyContainsDtype}
 use Rattle.datatypes_eq.specs.Nodes.{startsWith, alike, occurs}
-use Rattle.datatypes_eq.proofs.Pairs.{left-known, right-known}
+use Rattle.datatypes.proofs.Pairs.{left-known, right-known}
 
 -- a leaf's node and one that is none
 leaf-other : (k a l b : ℕ) → k ≤ Kind.UnknownIntNeg → Kind.UnknownIntNeg < l → equalNode k a l b ≡ false

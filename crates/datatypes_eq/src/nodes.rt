@@ -1,34 +1,8 @@
 // Scans over the nodes of two flat types.
 ghost use mathlib.Core.Path.{_≡_};
 ghost use lib.ListN.{length};
-ghost use Rattle.datatypes.specs.Equality.{equalNode};
 ghost use Rattle.datatypes_eq.specs.Nodes.{startsWith, alike, occurs};
-use flat::kind::Kind;
-
-// Whether two nodes are equal: `Unknown(Int(_))` are, whatever they hold.
-fn equal_node(k: u8, a: u64, l: u8, b: u64) -> bool
-    ensures { λ r. ⌜ r ≡ equalNode k a l b ⌝ }
-{
-    if k == l {
-        if a == b {
-            return true;
-        }
-        if k < Kind::UNKNOWN_INT_POS {
-            return false;
-        }
-        return k <= Kind::UNKNOWN_INT_NEG;
-    }
-    if k < Kind::UNKNOWN_INT_POS {
-        return false;
-    }
-    if k > Kind::UNKNOWN_INT_NEG {
-        return false;
-    }
-    if l < Kind::UNKNOWN_INT_POS {
-        return false;
-    }
-    l <= Kind::UNKNOWN_INT_NEG
-}
+use datatypes::node::equal_node;
 
 // Whether the pattern's nodes stand at the front. Of two valid types: whether they are equal, since no type stands at the front of another.
 pub fn starts_with(kinds: &[u8], args: &[u64], pattern_kinds: &[u8], pattern_args: &[u64]) -> bool

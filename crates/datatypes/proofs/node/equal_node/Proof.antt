@@ -1,9 +1,9 @@
--- `datatypes_eq::nodes::equal_node` meets its contract. Assumes nothing.
+-- `datatypes::node::equal_node` meets its contract. Assumes nothing.
 use mathlib.Core.Path.{sym}
 use native.Mathlib.Omega.{arith}
-use Rattle.datatypes_eq.proofs.Pairs.{nodes-same, args-known, args-unknown, left-known, right-known, both-unknown}
-use Rattle.datatypes_eq.proofs.nodes.equal_node.Statement.{statement}
-use Rattle.datatypes_eq.proofs.nodes.equal_node.Tie as tie
+use Rattle.datatypes.proofs.Pairs.{nodes-same, args-known, args-unknown, left-known, right-known, both-unknown}
+use Rattle.datatypes.proofs.node.equal_node.Statement.{statement}
+use Rattle.datatypes.proofs.node.equal_node.Tie as tie
 
 returns-4 : tie.Need-returns-4
 returns-4 c = let h = c .if4 .taken in sym (left-known _ _ _ _ (c .before .if1 .left) (omega arith) (omega arith))
