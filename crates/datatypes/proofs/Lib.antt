@@ -4,3 +4,4 @@ pub mod Scans
 pub mod Trees
 pub mod Answers
 pub mod Pairs
+pub mod Integers
