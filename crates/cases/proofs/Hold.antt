@@ -5,7 +5,8 @@ use Rattle.datatypes.specs.Match.{among}
 use Rattle.datatypes.specs.Predicate.{isFloat, isUnknownInt, isSignedInteger, isUnsignedInteger, isInteger, isPrimitiveNumeric, isUnknown}
 use Rattle.datatypes.specs.Equality.{equalNode, equal}
 use Rattle.datatypes.specs.Cast.{castsWithBoolean, beforeNested, canCastTo}
-use Rattle.datatypes.specs.Materialize.{valueOf, materializeDynInt, materialize, materializeUnknown}
+use Rattle.datatypes.specs.DynInt.{valueOf, materializeDynInt}
+use Rattle.datatypes.specs.Materialize.{materialize, materializeUnknown}
 use Rattle.cases.specs.Cases.{CasesHold}
 
 pub cases-hold : CasesHold

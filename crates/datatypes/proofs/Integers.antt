@@ -10,7 +10,7 @@ use lib.Signed.{leZ, ltZ}
 use borrow.Author.Tests.{le-leb, lt-ltb, le-ltb, leb-true, leb-false}
 use Rattle.flat.specs.Kind
 use Rattle.datatypes.specs.Integer.{inRange}
-use Rattle.datatypes.specs.Materialize.{valueOf}
+use Rattle.datatypes.specs.DynInt.{valueOf}
 
 -- below n and from −n on, where n is not 0
 below-pos : (n a : ℕ) → 0 < n → (leZ (negℤ (pos n)) (pos a) && ltZ (pos a) (pos n)) ≡ ltb a n

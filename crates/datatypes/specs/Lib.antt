@@ -4,6 +4,7 @@ pub mod Match
 pub mod Predicate
 pub mod Equality
 pub mod Integer
+pub mod DynInt
 pub mod Materialize
 pub mod Physical
 pub mod Recursive

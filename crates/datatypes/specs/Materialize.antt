@@ -1,24 +1,13 @@
--- What becomes of unknown types: `UnknownKind::materialize` and `materialize_unknown` of dtype.rs, and `materialize_dyn_int` of supertype.rs, on which they
--- lean. Assumes nothing: these are definitions.
+-- What becomes of unknown types: `UnknownKind::materialize` and `materialize_unknown` of dtype.rs. Assumes nothing: these are definitions.
 use mathlib.Core.Bool.{Bool, true, false, cond}
-use mathlib.Core.List.{List, [], _∷_}
 use mathlib.Core.Option.{Option, none, some}
 use Prim.Native.Nat.{ℕ}
 use lib.Dec.{eqb}
-use lib.IntN.{ℤ, pos, negsuc}
 use Rattle.flat.specs.Kind
 use Rattle.flat.specs.Tree.{DataType, leaf, list, array, struct, Fields, empty, field}
 use Rattle.flat.specs.Reader.{mapO, bindO}
 use Rattle.datatypes.specs.Predicate.{isUnknown, isUnknownInt}
-use Rattle.datatypes.specs.Integer.{firstThatHolds}
-
--- the v of `Unknown(Int(v))`: kind 26 has v, kind 27 has −1 − v
-unfoldable pub valueOf : ℕ → ℕ → ℤ
-valueOf k a = cond (eqb k Kind.UnknownIntPos) (pos a) (negsuc a)
-
--- materialize_dyn_int
-unfoldable pub materializeDynInt : ℤ → ℕ
-materializeDynInt = firstThatHolds (Kind.Int32 ∷ Kind.Int64 ∷ Kind.UInt64 ∷ []) Kind.Int128
+use Rattle.datatypes.specs.DynInt.{valueOf, materializeDynInt}
 
 -- `UnknownKind::materialize`, of the unknown kinds: any has no such type
 unfoldable pub materialize : ℕ → ℕ → Option DataType

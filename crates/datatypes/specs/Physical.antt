@@ -4,7 +4,7 @@ use mathlib.Core.List.{List, [], _∷_}
 use Prim.Native.Nat.{ℕ}
 use lib.Dec.{eqb}
 use Rattle.flat.specs.Kind
-use Rattle.flat.specs.Tree.{DataType, leaf, list, array, struct, Fields, empty, field}
+use Rattle.flat.specs.Tree.{DataType, leaf, list, array, struct, Fields, empty, field, headKind}
 use Rattle.datatypes.specs.Match.{among}
 
 -- the physical form of a type that is not nested
@@ -14,6 +14,10 @@ physicalLeaf k a =
     (cond (among (Kind.Datetime ∷ Kind.Duration ∷ Kind.Time ∷ []) k) (leaf Kind.Int64 0)
     (cond (eqb k Kind.Decimal) (leaf Kind.Int128 0)
     (leaf k a)))
+
+-- its kind, in which the argument has no part
+unfoldable pub physicalKind : ℕ → ℕ
+physicalKind k = headKind (physicalLeaf k 0)
 
 -- children likewise
 unfoldable mutual

@@ -17,9 +17,10 @@ use Rattle.datatypes.proofs.Integers.{signed-holds, unsigned-holds}
 use Rattle.datatypes.specs.Match.{among}
 use Rattle.datatypes.specs.Predicate.{isUnknownInt, isSignedInteger}
 use Rattle.datatypes.specs.Integer.{holds}
-use Rattle.datatypes.specs.Materialize.{valueOf, materializeDynInt, materialize}
-use Rattle.datatypes.specs.Physical.{physicalLeaf}
-use Rattle.datatypes_build.specs.Leaf.{physicalKind, materializedLeaf, leafOf, keptArg}
+use Rattle.datatypes.specs.DynInt.{valueOf, materializeDynInt}
+use Rattle.datatypes.specs.Materialize.{materialize}
+use Rattle.datatypes.specs.Physical.{physicalLeaf, physicalKind}
+use Rattle.datatypes_build.specs.Leaf.{materializedLeaf, leafOf, keptArg}
 use Rattle.datatypes_build.specs.declared.leaf.Form.{Form}
 use Rattle.datatypes_build.specs.declared.leaf.Form.the-variants.{Physical, Materialized}
 

@@ -37,10 +37,6 @@ unfoldable mutual
   mapFields rule empty = empty
   mapFields rule (field name t fs) = field name (mapLeaves rule t) (mapFields rule fs)
 
--- the kind of a leaf's physical form, in which its argument has no part
-unfoldable pub physicalKind : ℕ → ℕ
-physicalKind k = headKind (physicalLeaf k 0)
-
 -- the argument of a leaf of the kind k and the argument a that becomes one of the kind new
 unfoldable pub keptArg : ℕ → ℕ → ℕ → ℕ
 keptArg k new a = cond (eqb new k) a 0

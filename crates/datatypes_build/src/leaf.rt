@@ -1,8 +1,9 @@
 // What becomes of a leaf in each form that a type is built in.
 ghost use mathlib.Core.Path.{_≡_};
 ghost use Rattle.flat.specs.Tree.{headKind};
-ghost use Rattle.datatypes.specs.Materialize.{valueOf, materializeDynInt};
-ghost use Rattle.datatypes_build.specs.Leaf.{physicalKind, materializedLeaf, leafOf, keptArg};
+ghost use Rattle.datatypes.specs.DynInt.{valueOf, materializeDynInt};
+ghost use Rattle.datatypes.specs.Physical.{physicalKind};
+ghost use Rattle.datatypes_build.specs.Leaf.{materializedLeaf, leafOf, keptArg};
 use flat::kind::Kind;
 
 pub enum Form {

@@ -1,7 +1,7 @@
 -- The number of each cause for which a call is refused: document 01's table. Assumes nothing: these are definitions.
 use Prim.Native.Nat.{ℕ}
 use Rattle.flat.specs.declared.error.Error.{Error}
-use Rattle.flat.specs.declared.error.Error.the-variants.{Length, Kind, Argument, Shape, Depth, Unknown, OutputTooShort}
+use Rattle.flat.specs.declared.error.Error.the-variants.{Length, Kind, Argument, Shape, Depth, Nested, Unknown, OutputTooShort, DecimalWithInteger}
 
 -- the number of a cause
 abbrev pub numberOf : Error → ℕ
@@ -10,5 +10,7 @@ numberOf Kind = 2
 numberOf Argument = 3
 numberOf Shape = 4
 numberOf Depth = 5
+numberOf Nested = 6
 numberOf Unknown = 7
 numberOf OutputTooShort = 8
+numberOf DecimalWithInteger = 13

@@ -8,8 +8,10 @@ pub enum Error {
     Argument,
     Shape,
     Depth,
+    Nested,
     Unknown,
     OutputTooShort,
+    DecimalWithInteger,
 }
 
 impl Error {
@@ -22,8 +24,10 @@ impl Error {
             Error::Argument => 3,
             Error::Shape => 4,
             Error::Depth => 5,
+            Error::Nested => 6,
             Error::Unknown => 7,
             Error::OutputTooShort => 8,
+            Error::DecimalWithInteger => 13,
         }
     }
 }

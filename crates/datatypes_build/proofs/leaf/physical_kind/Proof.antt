@@ -3,7 +3,7 @@ use native.Mathlib.Omega.{arith}
 use Rattle.flat.specs.Tree.{headKind}
 use Rattle.datatypes.specs.Match.{among}
 use Rattle.datatypes.specs.Physical.{physicalLeaf}
-use Rattle.datatypes_build.specs.Leaf.{physicalKind}
+use Rattle.datatypes.specs.Physical.{physicalKind}
 use Rattle.datatypes_build.proofs.Leaves.{physical-int64, physical-same}
 use Rattle.datatypes_build.proofs.leaf.physical_kind.Statement.{statement}
 use Rattle.datatypes_build.proofs.leaf.physical_kind.Tie as tie

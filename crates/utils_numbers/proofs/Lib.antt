@@ -1,0 +1,1 @@
+-- What the ranges are, by width and sign.

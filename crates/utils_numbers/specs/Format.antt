@@ -1,0 +1,47 @@
+-- The float formats of IEEE 754-2019 and the numbers that each has. Assumes nothing: these are definitions.
+use mathlib.Core.Path.{_≡_}
+use mathlib.Core.Bool.{cond}
+use mathlib.Core.Option.{Option, none, some}
+use Prim.Native.Nat.{ℕ, suc, _+_, _-_, _*_, _^_, _<_}
+use lib.Dec.{eqb}
+use lib.IntN.{ℤ, pos, negsuc, negℤ}
+use lib.Signed.{_≤ℤ_}
+use Rattle.flat.specs.Kind
+
+-- a binary format: the bits of its significand, and its largest exponent
+pub record Format : Type 0 where
+  pub precision : ℕ
+  pub emax : ℕ
+
+abbrev pub format : ℕ → ℕ → Format
+format p e = record { precision = p; emax = e }
+
+-- binary16, binary32 and binary64 of table 3.5
+unfoldable pub formatOf : ℕ → Option Format
+formatOf k =
+    cond (eqb k Kind.Float16) (some (format 11 15))
+    (cond (eqb k Kind.Float32) (some (format 24 127))
+    (cond (eqb k Kind.Float64) (some (format 53 1023))
+    none))
+
+-- m × 2 ^ q, with either sign, is a finite number of the format (section 3.3): q runs from emin − (p − 1) to emax − (p − 1), where emin is 1 − emax
+pub record Finite (f : Format) (m : ℕ) (q : ℤ) : Type 0 where
+  pub significand : m < 2 ^ f .precision
+  pub least : negℤ (pos (f .emax + f .precision - 2)) ≤ℤ q
+  pub most : q ≤ℤ pos (f .emax + 1 - f .precision)
+
+-- every finite number of the format g is one of the format f
+abbrev pub FormatIncludes : Format → Format → Type 0
+FormatIncludes f g = (m : ℕ) (q : ℤ) → Finite g m q → Finite f m q
+
+-- a whole number without its sign
+abbrev pub magnitude : ℤ → ℕ
+magnitude (pos n) = n
+magnitude (negsuc n) = suc n
+
+-- the whole number z is a number of the format (a whole m × 2 ^ q with q below 0 is m / 2 ^ -q × 2 ^ 0, so that q need not be below 0)
+pub record WholeIn (f : Format) (z : ℤ) : Type 0 where
+  pub m : ℕ
+  pub q : ℕ
+  pub finite : Finite f m (pos q)
+  pub is : magnitude z ≡ m * 2 ^ q

@@ -1,0 +1,84 @@
+// The ten integer types, document 01's listed ones: their widths and signs in one fixed table, and whether one holds all numbers of another.
+ghost use mathlib.Core.Path.{_≡_};
+ghost use mathlib.Core.Bool.{true};
+ghost use mathlib.Core.Logic.{_↔_};
+ghost use Rattle.utils_numbers.specs.Range.{Listed, Includes};
+ghost use Rattle.utils_numbers.specs.Table.{rowOf};
+use flat::kind::Kind;
+
+pub struct IntegerType {
+    pub width: u8,
+    pub signed: bool,
+}
+
+// From UInt8 on, in the order of the kinds.
+const INTEGERS: [IntegerType; 10] = [
+    IntegerType {
+        width: 8,
+        signed: false,
+    },
+    IntegerType {
+        width: 16,
+        signed: false,
+    },
+    IntegerType {
+        width: 32,
+        signed: false,
+    },
+    IntegerType {
+        width: 64,
+        signed: false,
+    },
+    IntegerType {
+        width: 128,
+        signed: false,
+    },
+    IntegerType {
+        width: 8,
+        signed: true,
+    },
+    IntegerType {
+        width: 16,
+        signed: true,
+    },
+    IntegerType {
+        width: 32,
+        signed: true,
+    },
+    IntegerType {
+        width: 64,
+        signed: true,
+    },
+    IntegerType {
+        width: 128,
+        signed: true,
+    },
+];
+
+// The row of a kind.
+pub fn integer(k: u8) -> IntegerType
+    requires { ⌜ Listed k ⌝ }
+    ensures { λ r. ⌜ r ≡ rowOf k ⌝ }
+{
+    let at = (k - Kind::UINT8) as usize;
+    INTEGERS[at]
+}
+
+// Whether every number of the kind k is one of the kind t.
+pub fn includes(t: u8, k: u8) -> bool
+    requires { ⌜ Listed t × Listed k ⌝ }
+    ensures { λ r. ⌜ (r ≡ true) ↔ Includes t k ⌝ }
+{
+    let a = integer(t);
+    let b = integer(k);
+    if a.signed {
+        if b.signed {
+            return b.width <= a.width;
+        }
+        return b.width < a.width;
+    }
+    if b.signed {
+        return false;
+    }
+    b.width <= a.width
+}
