@@ -1,2 +1,3 @@
--- What the coarser of two units is.
-mod Coarser
+-- What the coarser of two units is, and what a call comes to that joins two types.
+pub mod Coarser
+pub mod Joins

@@ -1,2 +1,3 @@
--- The rules of utils/mod.rs as definitions.
+-- The rules of utils/mod.rs as definitions, and what a call comes to that joins two types.
 pub mod TimeUnits
+pub mod Join

@@ -1,4 +1,6 @@
-// src/utils of the crate: the coarser of two units of time (utils/mod.rs).
+// src/utils of the crate: the coarser of two units of time (utils/mod.rs), and what a call answers that joins two types.
+pub mod join;
+
 ghost use mathlib.Core.Path.{_≡_};
 ghost use Rattle.utils.specs.TimeUnits.{getTimeUnits};
 use datatypes::time_unit::TimeUnit;

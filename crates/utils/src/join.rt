@@ -1,0 +1,68 @@
+// What a call answers that joins two types.
+ghost use mathlib.Core.Path.{_≡_};
+ghost use lib.ListN.{length};
+ghost use Rattle.utils.specs.Join.{foundOf, fittingFound, joinedNumber, joinedValue, Joins};
+use flat::error::Error;
+
+// A type that is not nested: its kind and its argument.
+pub struct Node {
+    pub kind: u8,
+    pub arg: u64,
+}
+
+// The source's Option: the type that two types have in common, where there is one.
+pub enum Supertype {
+    Some(Node),
+    Nothing,
+}
+
+// Some, with its number of nodes, None, or the refusal.
+pub enum Joined {
+    Nodes(usize),
+    Nothing,
+    Refused(Error),
+}
+
+impl Joined {
+    // Document 01's number.
+    pub fn number(self) -> u64
+        ensures { λ r. ⌜ r ≡ joinedNumber self ⌝ }
+    {
+        match self {
+            Joined::Nodes(_) => 0,
+            Joined::Nothing => 0,
+            Joined::Refused(e) => e.number(),
+        }
+    }
+
+    // The value beside the number.
+    pub fn value(self) -> u64
+        ensures { λ r. ⌜ r ≡ joinedValue self ⌝ }
+    {
+        match self {
+            Joined::Nodes(n) => n as u64,
+            Joined::Nothing => 0,
+            Joined::Refused(_) => 0,
+        }
+    }
+}
+
+// Writes the type that was found to the front of out_kinds and out_args: refusal 8.
+pub fn put(found: Supertype, out_kinds: &mut [u8], out_args: &mut [u64]) -> Joined
+    ensures { λ r. ⌜ Joins (fittingFound (length (now («out_kinds» .entry))) (length (now («out_args» .entry))) (foundOf found)) (now («out_kinds» .entry)) (now («out_args» .entry)) (now («out_kinds» .exit)) (now («out_args» .exit)) r ⌝ }
+{
+    match found {
+        Supertype::Nothing => Joined::Nothing,
+        Supertype::Some(n) => {
+            if out_kinds.len() == 0 {
+                return Joined::Refused(Error::OutputTooShort);
+            }
+            if out_args.len() == 0 {
+                return Joined::Refused(Error::OutputTooShort);
+            }
+            out_kinds[0] = n.kind;
+            out_args[0] = n.arg;
+            Joined::Nodes(1)
+        }
+    }
+}

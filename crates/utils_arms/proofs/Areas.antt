@@ -1,0 +1,107 @@
+-- A rule over two kinds: one test that antt computes, for all pairs of an area at once. Assumes nothing.
+use mathlib.Core.Path.{_≡_, refl, sym, _∙_, ap, subst}
+use mathlib.Core.Bool.{Bool, true, false, _&&_, _||_}
+use mathlib.Core.List.{List, [], _∷_}
+use Prim.Native.Nat.{ℕ, _+_, _-_, _≤_, _<_}
+use native.Mathlib.Omega.{arith}
+use lib.Dec.{T, eqb, eqb→eq}
+use lib.ListN.{getD, List·getD-eq-default}
+use Rattle.flat.specs.Tree.{headKind}
+use Rattle.flat.proofs.Rules.{run, in-run, and-left, and-right}
+use Rattle.datatypes.specs.Match.{among}
+use Rattle.datatypes.specs.Predicate.{isFloat, isUnknownInt, isSignedInteger, isUnsignedInteger, isInteger, isPrimitiveNumeric, isPrimitive, isString, isUnknown}
+use Rattle.datatypes.specs.Physical.{physicalLeaf, physicalKind}
+use Rattle.utils_arms.specs.declared.plan.Plan.{Plan}
+use Rattle.utils_arms.specs.declared.plan.Plan.the-variants.{No, Left, Right, Kind, Decimals, DatetimeDuration, Datetimes, Durations, DynNumber, DynBoolean, DynDecimal}
+use Rattle.utils_arms.specs.Node.{plain}
+use Rattle.utils_arms.specs.Supertype.{arms, unknownArms, planOf}
+use Rattle.utils_arms.specs.Rule.{turn, orPlan, norm, ruleOf, skip, Apart}
+
+-- a, or else b
+pub or-right : {a : Bool} (b : Bool) → a ≡ false → T (a || b) → T b
+or-right b e t = subst (λ (x : Bool). T (x || b)) e t
+
+-- a is in the first run and b in the second
+abbrev pub In : ℕ → ℕ → ℕ → ℕ → ℕ → ℕ → Type 0
+In i m j n a b = ((i ≤ a) × (a < i + m)) × ((j ≤ b) × (b < j + n))
+
+abbrev pub area : (ℕ → ℕ → Bool) → ℕ → ℕ → ℕ → ℕ → Bool
+area f i m j n = run (λ a. run (f a) j n) i m
+
+pub in-area : (f : ℕ → ℕ → Bool) (i m j n : ℕ) → T (area f i m j n) → (a b : ℕ) → In i m j n a b → T (f a b)
+in-area f i m j n t a b h = in-run (f a) j n (in-run (λ a. run (f a) j n) i m t a (h .0 .0) (h .0 .1)) b (h .1 .0) (h .1 .1)
+
+-- ---- plans as numbers
+
+abbrev pub codeOf : Plan → ℕ
+codeOf No = 0
+codeOf Left = 1
+codeOf Right = 2
+codeOf Decimals = 3
+codeOf DatetimeDuration = 4
+codeOf Datetimes = 5
+codeOf Durations = 6
+codeOf DynNumber = 7
+codeOf DynBoolean = 8
+codeOf DynDecimal = 9
+codeOf (Kind k) = 10 + k
+
+abbrev listed : List Plan
+listed = No ∷ Left ∷ Right ∷ Decimals ∷ DatetimeDuration ∷ Datetimes ∷ Durations ∷ DynNumber ∷ DynBoolean ∷ DynDecimal ∷ []
+
+abbrev plans : ℕ → Plan
+plans n = getD listed n (Kind (n - 10))
+
+abbrev pub alike : Plan → Plan → Bool
+alike p q = eqb (codeOf p) (codeOf q)
+
+far : (k : ℕ) → plans (10 + k) ≡ Kind k
+far k = List·getD-eq-default listed (Kind (10 + k - 10)) {n = 10 + k} (omega arith) ∙ ap Kind (omega arith)
+
+back : (p : Plan) → plans (codeOf p) ≡ p
+back No = refl
+back Left = refl
+back Right = refl
+back Decimals = refl
+back DatetimeDuration = refl
+back Datetimes = refl
+back Durations = refl
+back DynNumber = refl
+back DynBoolean = refl
+back DynDecimal = refl
+back (Kind k) = far k
+
+pub alike-eq : (p q : Plan) → T (alike p q) → p ≡ q
+alike-eq p q t = sym (back p) ∙ ap plans (eqb→eq (codeOf p) (codeOf q) t) ∙ back q
+
+-- ---- the plan of two kinds
+
+-- the plan f is that of a and b, the flag on or off
+unfoldable pub right-at : (Bool → ℕ → ℕ → Plan) → Bool → ℕ → ℕ → Bool
+unfolding norm ruleOf planOf arms unknownArms plain skip among isFloat isUnknownInt isSignedInteger isUnsignedInteger isInteger isPrimitiveNumeric isPrimitive isString isUnknown headKind physicalLeaf physicalKind
+right-at f s a b = alike (norm a b (f s a b)) (ruleOf s a b)
+
+unfoldable pub right : (Bool → ℕ → ℕ → Plan) → ℕ → ℕ → Bool
+unfolding right-at
+right f a b = right-at f true a b && right-at f false a b
+
+-- the same where they are two kinds in order
+unfoldable pub right-apart : (Bool → ℕ → ℕ → Plan) → ℕ → ℕ → Bool
+unfolding right
+right-apart f a b = skip a b || right f a b
+
+is-right : (f : Bool → ℕ → ℕ → Plan) (s : Bool) (a b : ℕ) → T (right f a b) → norm a b (f s a b) ≡ ruleOf s a b
+unfolding right right-at
+is-right f true a b u = alike-eq (norm a b (f true a b)) (ruleOf true a b) (and-left (right-at f true a b) (right-at f false a b) u)
+is-right f false a b u = alike-eq (norm a b (f false a b)) (ruleOf false a b) (and-right (right-at f true a b) (right-at f false a b) u)
+
+-- the laws that each row's answers cite: f is right all over an area
+pub rule : (f : Bool → ℕ → ℕ → Plan) (i m j n : ℕ) → T (area (right f) i m j n) → (s : Bool) (a b : ℕ) → In i m j n a b → norm a b (f s a b) ≡ ruleOf s a b
+rule f i m j n t s a b h = is-right f s a b (in-area (right f) i m j n t a b h)
+
+pub rule-apart : (f : Bool → ℕ → ℕ → Plan) (i m j n : ℕ) → T (area (right-apart f) i m j n) → (s : Bool) (a b : ℕ) → In i m j n a b → skip a b ≡ false → norm a b (f s a b) ≡ ruleOf s a b
+unfolding right-apart
+rule-apart f i m j n t s a b h e = is-right f s a b (or-right (right f a b) e (in-area (right-apart f) i m j n t a b h))
+
+pub apart-at : {k a b : ℕ} → a ≡ k → Apart a b → Apart k b
+apart-at {k} {a} {b} e h = subst (λ (i : ℕ). Apart i b) e h

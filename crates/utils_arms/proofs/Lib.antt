@@ -1,0 +1,2 @@
+-- The rows meet the definition.
+pub mod Areas
