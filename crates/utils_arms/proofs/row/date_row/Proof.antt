@@ -1,11 +1,9 @@
 -- `utils_arms::row::date_row` meets its contract. Assumes nothing.
-use mathlib.Core.Bool.{cond}
 use native.Mathlib.Omega.{arith}
-use lib.Dec.{ltb}
 use borrow.Author.Needs.{needs}
-use Rattle.flat.specs.Kind.{Date, Duration, Time, UnknownAny}
-use Rattle.utils_arms.specs.declared.plan.Plan.the-variants.{No, Right, Kind}
-use Rattle.utils_arms.proofs.Areas.{right, right-apart, rule, rule-apart}
+use Rattle.flat.specs.Kind.{Date, Duration}
+use Rattle.utils_arms.specs.declared.plan.Plan.the-variants.{Right, Kind}
+use Rattle.utils_arms.proofs.Areas.{right, right-apart, rule, rule-apart, alone-right}
 use Rattle.utils_arms.proofs.row.date_row.Statement.{statement}
 use Rattle.utils_arms.proofs.row.date_row.Tie as tie
 
@@ -16,7 +14,7 @@ returns-2 : tie.Need-returns-2
 returns-2 c = rule-apart (λ s a b. Right) Date 1 Date 2 (unfold right-apart in tt) _ _ _ (omega arith) (cc)
 
 returns-3 : tie.Need-returns-3
-returns-3 c = rw (c .alone .ensures) (rule (λ s a b. cond (ltb b UnknownAny) No (Kind UnknownAny)) Date 1 Time 6 (unfold right in tt) _ _ _ (omega arith))
+returns-3 c = rw (c .alone .ensures) (alone-right _ _ _ (omega arith) (cc))
 
 pub date-row-spec : {M : Type 1} → statement M
 date-row-spec = tie.close (tie.spec (λ c κs. search needs) returns returns-2 returns-3)

@@ -3,9 +3,9 @@ use mathlib.Core.Bool.{cond}
 use native.Mathlib.Omega.{arith}
 use lib.Dec.{ltb}
 use borrow.Author.Needs.{needs}
-use Rattle.flat.specs.Kind.{Binary, Time, UnknownAny}
+use Rattle.flat.specs.Kind.{Binary, UnknownAny}
 use Rattle.utils_arms.specs.declared.plan.Plan.the-variants.{No, Kind}
-use Rattle.utils_arms.proofs.Areas.{right-apart, rule-apart, apart-at}
+use Rattle.utils_arms.proofs.Areas.{right-apart, rule-apart, apart-at, alone-right}
 use Rattle.utils_arms.proofs.row.other_row.Statement.{statement}
 use Rattle.utils_arms.proofs.row.other_row.Tie as tie
 
@@ -31,7 +31,7 @@ returns-4 : tie.Need-returns-4
 returns-4 c = rw (c .alone .ensures) (rule-apart (λ s a b. cond (ltb b UnknownAny) No (Kind UnknownAny)) Binary 2 Binary 11 (unfold right-apart in tt) _ _ _ (omega arith) (cc))
 
 returns-5 : tie.Need-returns-5
-returns-5 c = rw (c .alone2 .ensures) (rule-apart (λ s a b. cond (ltb b UnknownAny) No (Kind UnknownAny)) Time 1 Time 6 (unfold right-apart in tt) _ _ _ (omega arith) (cc))
+returns-5 c = rw (c .alone2 .ensures) (alone-right _ _ _ (omega arith) (cc))
 
 pub other-row-spec : {M : Type 1} → statement M
 other-row-spec = tie.close (tie.spec date-row-requires datetime-row-requires duration-row-requires (λ c κs. search needs) (λ c κs. search needs) returns returns-2 returns-3 returns-4 returns-5)
