@@ -13,21 +13,26 @@ abbrev pub run : (ℕ → Bool) → ℕ → ℕ → Bool
 run f lo zero = true
 run f lo (suc n) = f lo && run f (suc lo) n
 
-first : (a b : Bool) → T (a && b) → T a
-first true b t = tt
-first false b t = t
+-- of two tests
+pub and-left : (a b : Bool) → T (a && b) → T a
+and-left true b t = tt
+and-left false b t = t
 
-later : (a b : Bool) → T (a && b) → T b
-later true b t = t
-later false b t = absurd t
+pub and-right : (a b : Bool) → T (a && b) → T b
+and-right true b t = t
+and-right false b t = absurd t
+
+pub and-both : (a b : Bool) → T a → T b → T (a && b)
+and-both true b s t = t
+and-both false b s t = s
 
 -- so of each of them
 pub in-run : (f : ℕ → Bool) (lo n : ℕ) → T (run f lo n) → (k : ℕ) → lo ≤ k → k < lo + n → T (f k)
 in-run f lo zero t k h l = absurd (omega arith)
-in-run f lo (suc n) t k h l = go (eqb k lo) refl (λ m. in-run f (suc lo) n (later (f lo) (run f (suc lo) n) t) k m (omega arith))
+in-run f lo (suc n) t k h l = go (eqb k lo) refl (λ m. in-run f (suc lo) n (and-right (f lo) (run f (suc lo) n) t) k m (omega arith))
   where
     go : (b : Bool) → eqb k lo ≡ b → (suc lo ≤ k → T (f k)) → T (f k)
-    go true e rest = subst (λ (j : ℕ). T (f j)) (sym (eqb-true k lo e)) (first (f lo) (run f (suc lo) n) t)
+    go true e rest = subst (λ (j : ℕ). T (f j)) (sym (eqb-true k lo e)) (and-left (f lo) (run f (suc lo) n) t)
     go false e rest = rest (omega (arith, eqb-false k lo e))
 
 -- the rules that several kinds share: the argument is 0, or any
