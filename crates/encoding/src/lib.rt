@@ -7,7 +7,7 @@ ghost use lib.ListN.{length};
 ghost use Rattle.flat.specs.Reading.{reading, checkedOf};
 ghost use Rattle.flat.specs.Output.{over, fitting, Writes};
 ghost use Rattle.encoding.specs.Encoding.{argsIn, decoding};
-ghost use Rattle.encoding.specs.Answer.{nodesIn, fittingBytes, Opens, Encodes, Puts};
+ghost use Rattle.encoding.specs.Answer.{nodesIn, rootOf, fittingBytes, Opens, Encodes, Puts};
 use flat::Checked;
 use flat::Flat;
 use flat::Written;
@@ -26,6 +26,12 @@ impl Encoding {
 // What encoding answers: the number of bytes written.
 pub enum Encoded {
     Bytes(usize),
+    Refused(Error),
+}
+
+// The kind and the argument at the root of a type, which are all of it where it has no children.
+pub enum Root {
+    Node(u8, u64),
     Refused(Error),
 }
 
@@ -137,6 +143,23 @@ pub fn open(encoded: &[u8], args: &mut [u64]) -> Written
     match check_with(encoded, n, args) {
         Checked::Valid => Written::Nodes(n),
         Checked::Refused(e) => Written::Refused(e),
+    }
+}
+
+// The root of an encoded type: refusals 1 to 5.
+pub fn root(encoded: &[u8]) -> Root
+    ensures { λ r. do
+      nodes ← ⟦Flat::MAX_NODES⟧ .entry
+      deep ← ⟦Flat::MAX_DEPTH⟧ .entry
+      w ← ⟦Encoding::ARGUMENT_BYTES⟧ .entry
+      ⌜ r ≡ rootOf (decoding w nodes deep (now (encoded .entry))) ⌝ }
+{
+    match check(encoded) {
+        Checked::Refused(e) => Root::Refused(e),
+        Checked::Valid => {
+            let n = bytes::count(encoded);
+            Root::Node(encoded[2], bytes::word(encoded, 2 + n))
+        }
     }
 }
 
