@@ -13,7 +13,7 @@ same true b = b
 same false true = false
 same false false = true
 
-are-same : (a b : Bool) → T (same a b) → a ≡ b
+pub are-same : (a b : Bool) → T (same a b) → a ≡ b
 are-same true true t = refl
 are-same true false t = absurd t
 are-same false true t = absurd t

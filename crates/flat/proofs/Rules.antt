@@ -13,6 +13,7 @@ abbrev pub run : (ℕ → Bool) → ℕ → ℕ → Bool
 run f lo zero = true
 run f lo (suc n) = f lo && run f (suc lo) n
 
+-- of two tests
 pub and-left : (a b : Bool) → T (a && b) → T a
 and-left true b t = tt
 and-left false b t = t
@@ -20,6 +21,10 @@ and-left false b t = t
 pub and-right : (a b : Bool) → T (a && b) → T b
 and-right true b t = t
 and-right false b t = absurd t
+
+pub and-both : (a b : Bool) → T a → T b → T (a && b)
+and-both true b s t = t
+and-both false b s t = s
 
 -- so of each of them
 pub in-run : (f : ℕ → Bool) (lo n : ℕ) → T (run f lo n) → (k : ℕ) → lo ≤ k → k < lo + n → T (f k)

@@ -1,11 +1,12 @@
 -- A rule over two kinds: one test that antt computes, for all pairs of an area at once. Assumes nothing.
 use mathlib.Core.Path.{_≡_, refl, sym, _∙_, ap, subst}
-use mathlib.Core.Bool.{Bool, true, false, _&&_, _||_}
+use mathlib.Core.Bool.{Bool, true, false, cond, _&&_, _||_}
 use mathlib.Core.List.{List, [], _∷_}
 use Prim.Native.Nat.{ℕ, _+_, _-_, _≤_, _<_}
 use native.Mathlib.Omega.{arith}
-use lib.Dec.{T, eqb, eqb→eq}
+use lib.Dec.{T, eqb, ltb, eqb→eq}
 use lib.ListN.{getD, List·getD-eq-default}
+use Rattle.flat.specs.Kind.{Date, Time, UnknownAny}
 use Rattle.flat.specs.Tree.{headKind}
 use Rattle.flat.proofs.Rules.{run, in-run, and-left, and-right}
 use Rattle.datatypes.specs.Match.{among}
@@ -15,7 +16,7 @@ use Rattle.utils_arms.specs.declared.plan.Plan.{Plan}
 use Rattle.utils_arms.specs.declared.plan.Plan.the-variants.{No, Left, Right, Kind, Decimals, DatetimeDuration, Datetimes, Durations, DynNumber, DynBoolean, DynDecimal}
 use Rattle.utils_arms.specs.Node.{plain}
 use Rattle.utils_arms.specs.Supertype.{arms, unknownArms, planOf}
-use Rattle.utils_arms.specs.Rule.{turn, orPlan, norm, ruleOf, skip, Apart}
+use Rattle.utils_arms.specs.Rule.{norm, ruleOf, skip, Apart}
 
 -- a, or else b
 pub or-right : {a : Bool} (b : Bool) → a ≡ false → T (a || b) → T b
@@ -102,6 +103,10 @@ rule f i m j n t s a b h = is-right f s a b (in-area (right f) i m j n t a b h)
 pub rule-apart : (f : Bool → ℕ → ℕ → Plan) (i m j n : ℕ) → T (area (right-apart f) i m j n) → (s : Bool) (a b : ℕ) → In i m j n a b → skip a b ≡ false → norm a b (f s a b) ≡ ruleOf s a b
 unfolding right-apart
 rule-apart f i m j n t s a b h e = is-right f s a b (or-right (right f a b) e (in-area (right-apart f) i m j n t a b h))
+
+-- what `alone` answers for a time type with Time or an Unknown kind
+pub alone-right : (s : Bool) (a b : ℕ) → In Date 4 Time 6 a b → skip a b ≡ false → norm a b (cond (ltb b UnknownAny) No (Kind UnknownAny)) ≡ ruleOf s a b
+alone-right s a b h e = rule-apart (λ s a b. cond (ltb b UnknownAny) No (Kind UnknownAny)) Date 4 Time 6 (unfold right-apart in tt) s a b h e
 
 pub apart-at : {k a b : ℕ} → a ≡ k → Apart a b → Apart k b
 apart-at {k} {a} {b} e h = subst (λ (i : ℕ). Apart i b) e h

@@ -30,7 +30,7 @@ fn str_if(to_string: bool) -> Plan
     }
 }
 
-// Binary, BinaryOffset and Time join no known type.
+// Binary, BinaryOffset and Time join no known type from themselves on; nor do Date, Datetime and Duration from Time on.
 fn alone(b: u8) -> Plan
     ensures { λ r. ⌜ r ≡ cond (ltb b UnknownAny) Plan.No (Plan.Kind UnknownAny) ⌝ }
 {
@@ -76,8 +76,7 @@ fn date_row(to_string: bool, b: u8) -> Plan
     match b {
         Kind::NULL..=Kind::DATETIME => Plan::Right,
         Kind::DURATION => Plan::Kind(Kind::DATE),
-        Kind::TIME => Plan::No,
-        _ => Plan::Kind(Kind::UNKNOWN_ANY),
+        _ => alone(b),
     }
 }
 
@@ -88,8 +87,7 @@ fn datetime_row(to_string: bool, b: u8) -> Plan
     match b {
         Kind::NULL..=Kind::DATETIME => Plan::Datetimes,
         Kind::DURATION => Plan::DatetimeDuration,
-        Kind::TIME => Plan::No,
-        _ => Plan::Kind(Kind::UNKNOWN_ANY),
+        _ => alone(b),
     }
 }
 
@@ -99,8 +97,7 @@ fn duration_row(to_string: bool, b: u8) -> Plan
 {
     match b {
         Kind::NULL..=Kind::DURATION => Plan::Durations,
-        Kind::TIME => Plan::No,
-        _ => Plan::Kind(Kind::UNKNOWN_ANY),
+        _ => alone(b),
     }
 }
 

@@ -1,1 +1,6 @@
--- What the ranges are, by width and sign.
+-- The laws behind the ranges and the formats. Those that other crates' proofs cite are `pub`.
+pub mod Tests
+pub mod Ranges
+pub mod Formats
+mod Rows
+mod DynInts

@@ -14,43 +14,43 @@ pub struct IntegerType {
 // From UInt8 on, in the order of the kinds.
 const INTEGERS: [IntegerType; 10] = [
     IntegerType {
-        width: 8,
+        width: 8, // UInt8
         signed: false,
     },
     IntegerType {
-        width: 16,
+        width: 16, // UInt16
         signed: false,
     },
     IntegerType {
-        width: 32,
+        width: 32, // UInt32
         signed: false,
     },
     IntegerType {
-        width: 64,
+        width: 64, // UInt64
         signed: false,
     },
     IntegerType {
-        width: 128,
+        width: 128, // UInt128
         signed: false,
     },
     IntegerType {
-        width: 8,
+        width: 8, // Int8
         signed: true,
     },
     IntegerType {
-        width: 16,
+        width: 16, // Int16
         signed: true,
     },
     IntegerType {
-        width: 32,
+        width: 32, // Int32
         signed: true,
     },
     IntegerType {
-        width: 64,
+        width: 64, // Int64
         signed: true,
     },
     IntegerType {
-        width: 128,
+        width: 128, // Int128
         signed: true,
     },
 ];

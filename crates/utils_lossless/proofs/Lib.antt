@@ -1,0 +1,1 @@
+-- The upcast by kinds, and its laws.

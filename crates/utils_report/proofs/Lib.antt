@@ -1,0 +1,1 @@
+-- The laws hold, and the report is settled.

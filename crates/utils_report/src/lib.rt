@@ -1,0 +1,123 @@
+// What joining does to the whole numbers of two columns.
+ghost use mathlib.Core.Path.{_≡_};
+ghost use mathlib.Core.Bool.{false};
+ghost use Rattle.flat.specs.Reading.{reading};
+ghost use Rattle.utils.specs.Join.{node};
+ghost use Rattle.utils.specs.declared.join.Supertype.the-variants.{Some};
+ghost use Rattle.utils_numbers.specs.Range.{Listed};
+ghost use Rattle.utils_arms.specs.Supertype.{supertype};
+ghost use Rattle.utils_report.specs.Report.{Says, Reports, reportNumber, reportValue};
+use flat::Checked;
+use flat::Flat;
+use flat::error::Error;
+use flat::kind::Kind;
+use utils_arms::number::numeric;
+use utils_lossless::upcast::Upcast;
+use utils_lossless::upcast::upcast_kinds;
+use utils_numbers::integer::includes;
+
+// Whether the supertype of two integer types keeps every whole number of both; where it doesn't, whether an integer type would.
+pub enum Report {
+    Kept,
+    Avoidable,
+    Unavoidable,
+    NotIntegers,
+    Refused(Error),
+}
+
+impl Report {
+    // Document 01's number.
+    pub fn number(self) -> u64
+        ensures { λ r. ⌜ r ≡ reportNumber self ⌝ }
+    {
+        match self {
+            Report::Kept => 0,
+            Report::Avoidable => 0,
+            Report::Unavoidable => 0,
+            Report::NotIntegers => 0,
+            Report::Refused(e) => e.number(),
+        }
+    }
+
+    // The value beside the number.
+    pub fn value(self) -> u64
+        ensures { λ r. ⌜ r ≡ reportValue self ⌝ }
+    {
+        match self {
+            Report::Kept => 0,
+            Report::Avoidable => 1,
+            Report::Unavoidable => 2,
+            Report::NotIntegers => 3,
+            Report::Refused(_) => 0,
+        }
+    }
+}
+
+// The kind of the supertype of two integer types.
+fn integer_supertype(a: u8, b: u8) -> u8
+    requires { ⌜ Listed a × Listed b ⌝ }
+    ensures { λ r. ⌜ supertype false false (node a 0) (node b 0) ≡ Some (node r 0) ⌝ }
+{
+    if a == b {
+        return a;
+    }
+    if a < b {
+        return numeric(a, b);
+    }
+    numeric(b, a)
+}
+
+// Of two integer types.
+fn report_integers(a: u8, b: u8) -> Report
+    requires { ⌜ Listed a × Listed b ⌝ }
+    ensures { λ r. ⌜ Says a b r ⌝ }
+{
+    let t = integer_supertype(a, b);
+    if t <= Kind::INT128 {
+        if includes(t, a) {
+            if includes(t, b) {
+                return Report::Kept;
+            }
+        }
+    }
+    match upcast_kinds(a, b) {
+        Upcast::To(_) => Report::Avoidable,
+        Upcast::Nothing => Report::Unavoidable,
+    }
+}
+
+// Of the kinds of two valid types.
+pub fn report_kinds(a: u8, b: u8) -> Report
+    ensures { λ r. ⌜ Says a b r ⌝ }
+{
+    match a {
+        Kind::UINT8..=Kind::INT128 => match b {
+            Kind::UINT8..=Kind::INT128 => report_integers(a, b),
+            _ => Report::NotIntegers,
+        },
+        _ => Report::NotIntegers,
+    }
+}
+
+// Of two types: refusals 1 to 5 of the left type, then of the right.
+pub fn join_report(
+    left_kinds: &[u8],
+    left_args: &[u64],
+    right_kinds: &[u8],
+    right_args: &[u64],
+) -> Report
+    ensures { λ r. do
+      nodes ← ⟦Flat::MAX_NODES⟧ .entry
+      deep ← ⟦Flat::MAX_DEPTH⟧ .entry
+      ⌜ Reports (reading nodes deep (now («left_kinds» .entry)) (now («left_args» .entry))) (reading nodes deep (now («right_kinds» .entry)) (now («right_args» .entry))) r ⌝ }
+{
+    match flat::check(left_kinds, left_args) {
+        Checked::Valid => {}
+        Checked::Refused(e) => return Report::Refused(e),
+    }
+    match flat::check(right_kinds, right_args) {
+        Checked::Valid => {}
+        Checked::Refused(e) => return Report::Refused(e),
+    }
+    report_kinds(left_kinds[0], right_kinds[0])
+}

@@ -1,0 +1,2 @@
+-- What a supertype call comes to.
+pub mod Pair
