@@ -6,7 +6,7 @@ use Rattle.datatypes.specs.declared.time_unit.TimeUnit.{TimeUnit}
 use Rattle.datatypes.specs.declared.time_unit.TimeUnit.the-variants.{Nanoseconds, Microseconds, Milliseconds}
 use Rattle.utils.specs.TimeUnits.{getTimeUnits}
 
-coarser : (l r : TimeUnit) → unitNumber (getTimeUnits l r) ≡ max (unitNumber l) (unitNumber r)
+pub coarser : (l r : TimeUnit) → unitNumber (getTimeUnits l r) ≡ max (unitNumber l) (unitNumber r)
 unfolding getTimeUnits
 coarser Nanoseconds Nanoseconds = refl
 coarser Nanoseconds Microseconds = refl

@@ -1,2 +1,4 @@
--- The rows meet the definition.
+-- The rows meet the definition, and what the definition comes to.
 pub mod Areas
+pub mod Answers
+pub mod Recursive

@@ -1,4 +1,5 @@
--- `get_supertype_with_options` of supertype.rs as a definition, and what the rows by kinds come to.
+-- `get_supertype_with_options` of supertype.rs as a definition, what the rows by kinds come to, and its laws.
 pub mod Node
 pub mod Supertype
 pub mod Rule
+pub mod Laws

@@ -1,0 +1,12 @@
+-- What holds of the supertype of any two types that are not nested. Assumes nothing: these are statements, proved in proofs/Recursive.antt.
+use mathlib.Core.Path.{_≡_}
+use mathlib.Core.Bool.{Bool, true, false}
+use Rattle.utils.specs.declared.join.Node.{Node}
+use Rattle.utils_arms.specs.Node.{fits}
+use Rattle.utils_arms.specs.Supertype.{supertypeWith, supertype}
+
+pub record SupertypeLaws : Type 0 where
+  -- the implode flag changes no answer: the source reads it in its nested arms alone, and the definition has none of them
+  pub implode : (i j s : Bool) (l r : Node) → supertype i s l r ≡ supertype j s l r
+  -- the source's own recursion: the calls that its arms make are calls of the function itself, with its default flags
+  pub recursive : (i s : Bool) (l r : Node) → fits l ≡ true → fits r ≡ true → supertype i s l r ≡ supertypeWith (supertype false true) s l r
