@@ -64,6 +64,11 @@ abbrev pub rootOf : Reading → Root
 rootOf (refused e) = Root.Refused e
 rootOf (type t) = Root.Node (headKind t) (headArg t)
 
+-- a root of a valid type: no field, and its argument follows its kind's rule
+abbrev pub RootFits : Root → Type 0
+RootFits (Root.Node k a) = (k ≤ Kind.Struct) × (argumentFits k a ≡ true)
+RootFits (Root.Refused e) = Unit {0}
+
 -- A tree that keeps document 01's rules: a leaf's kind has no child, and every argument follows its kind's rule, a Struct's number of fields and a
 -- field's name among them.
 unfoldable mutual

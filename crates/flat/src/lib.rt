@@ -9,7 +9,7 @@ ghost use mathlib.Core.List.{_∷_, []};
 ghost use Prim.Native.Nat.{_<_};
 ghost use lib.ListN.{length};
 ghost use Rattle.flat.specs.Reader.{nodeAt};
-ghost use Rattle.flat.specs.Reading.{kindsFit, argumentsFit, shaped, reading, checkedOf, rootOf};
+ghost use Rattle.flat.specs.Reading.{kindsFit, argumentsFit, shaped, reading, checkedOf, rootOf, RootFits};
 use argument::argument_fits;
 use error::Error;
 use kind::Kind;
@@ -156,7 +156,7 @@ pub fn check_root_one(kind: u8, arg: u64) -> Root
     ensures { λ r. do
       nodes ← ⟦Flat::MAX_NODES⟧ .entry
       deep ← ⟦Flat::MAX_DEPTH⟧ .entry
-      ⌜ r ≡ rootOf (reading nodes deep (kind ∷ []) (arg ∷ [])) ⌝ }
+      ⌜ (r ≡ rootOf (reading nodes deep (kind ∷ []) (arg ∷ []))) × RootFits r ⌝ }
 {
     match check_one(kind, arg) {
         Checked::Valid => Root::Node(kind, arg),
@@ -169,7 +169,7 @@ pub fn check_root(kinds: &[u8], args: &[u64]) -> Root
     ensures { λ r. do
       nodes ← ⟦Flat::MAX_NODES⟧ .entry
       deep ← ⟦Flat::MAX_DEPTH⟧ .entry
-      ⌜ r ≡ rootOf (reading nodes deep (now (kinds .entry)) (now (args .entry))) ⌝ }
+      ⌜ (r ≡ rootOf (reading nodes deep (now (kinds .entry)) (now (args .entry)))) × RootFits r ⌝ }
 {
     // the common case: one node needs no scan and no walk
     if kinds.len() == 1 {
