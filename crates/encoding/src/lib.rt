@@ -2,6 +2,7 @@
 mod bytes;
 
 ghost use mathlib.Core.Path.{_≡_};
+ghost use mathlib.Core.List.{_∷_, []};
 ghost use Prim.Native.Nat.{_≤_};
 ghost use lib.ListN.{length};
 ghost use Rattle.flat.specs.Reading.{reading, checkedOf};
@@ -146,20 +147,34 @@ pub fn open(encoded: &[u8], args: &mut [u64]) -> Written
     }
 }
 
+// The root of a type of one node.
+fn one_root(kind: u8, arg: u64) -> Root
+    ensures { λ r. do
+      nodes ← ⟦Flat::MAX_NODES⟧ .entry
+      deep ← ⟦Flat::MAX_DEPTH⟧ .entry
+      ⌜ r ≡ rootOf (reading nodes deep (kind ∷ []) (arg ∷ [])) ⌝ }
+{
+    match flat::check_one(kind, arg) {
+        Checked::Refused(e) => Root::Refused(e),
+        Checked::Valid => Root::Node(kind, arg),
+    }
+}
+
 // The root of an encoded type: refusals 1 to 5.
-pub fn root(encoded: &[u8]) -> Root
+pub fn read_root(encoded: &[u8]) -> Root
     ensures { λ r. do
       nodes ← ⟦Flat::MAX_NODES⟧ .entry
       deep ← ⟦Flat::MAX_DEPTH⟧ .entry
       w ← ⟦Encoding::ARGUMENT_BYTES⟧ .entry
       ⌜ r ≡ rootOf (decoding w nodes deep (now (encoded .entry))) ⌝ }
 {
+    let n = node_count(encoded);
+    if n == 1 {
+        return one_root(encoded[2], bytes::word(encoded, 3));
+    }
     match check(encoded) {
         Checked::Refused(e) => Root::Refused(e),
-        Checked::Valid => {
-            let n = bytes::count(encoded);
-            Root::Node(encoded[2], bytes::word(encoded, 2 + n))
-        }
+        Checked::Valid => Root::Node(encoded[2], bytes::word(encoded, 2 + n)),
     }
 }
 

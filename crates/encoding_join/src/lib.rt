@@ -54,9 +54,9 @@ pub fn get_supertype_with_options(
       w ← ⟦Encoding::ARGUMENT_BYTES⟧ .entry
       ⌜ JoinsBytes w (fittingFoundBytes w (length (now (out .entry))) (joining (supertypeOf «allow_implode_list» «allow_primitive_to_string») (decoding w nodes deep (now (left .entry))) (decoding w nodes deep (now (right .entry))))) (now (out .entry)) (now (out .exit)) r ⌝ }
 {
-    match encoding::root(left) {
+    match encoding::read_root(left) {
         Root::Refused(e) => Joined::Refused(e),
-        Root::Node(k, a) => match encoding::root(right) {
+        Root::Node(k, a) => match encoding::read_root(right) {
             Root::Refused(e) => Joined::Refused(e),
             Root::Node(l, b) => match check_pair(k, l) {
                 Checked::Refused(e) => Joined::Refused(e),
@@ -81,9 +81,9 @@ pub fn get_numeric_upcast_supertype_lossless(left: &[u8], right: &[u8], out: &mu
       w ← ⟦Encoding::ARGUMENT_BYTES⟧ .entry
       ⌜ JoinsBytes w (fittingFoundBytes w (length (now (out .entry))) (joining losslessOf (decoding w nodes deep (now (left .entry))) (decoding w nodes deep (now (right .entry))))) (now (out .entry)) (now (out .exit)) r ⌝ }
 {
-    match encoding::root(left) {
+    match encoding::read_root(left) {
         Root::Refused(e) => Joined::Refused(e),
-        Root::Node(k, _) => match encoding::root(right) {
+        Root::Node(k, _) => match encoding::read_root(right) {
             Root::Refused(e) => Joined::Refused(e),
             Root::Node(l, _) => match upcast_kinds(k, l) {
                 Upcast::To(t) => put(Supertype::Some(Node { kind: t, arg: 0 }), out),
@@ -101,9 +101,9 @@ pub fn join_report(left: &[u8], right: &[u8]) -> Report
       w ← ⟦Encoding::ARGUMENT_BYTES⟧ .entry
       ⌜ Reports (decoding w nodes deep (now (left .entry))) (decoding w nodes deep (now (right .entry))) r ⌝ }
 {
-    match encoding::root(left) {
+    match encoding::read_root(left) {
         Root::Refused(e) => Report::Refused(e),
-        Root::Node(k, _) => match encoding::root(right) {
+        Root::Node(k, _) => match encoding::read_root(right) {
             Root::Refused(e) => Report::Refused(e),
             Root::Node(l, _) => report_kinds(k, l),
         },
