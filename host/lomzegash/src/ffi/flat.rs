@@ -47,6 +47,36 @@ extern "C" {
         out_args: *mut u64,
         out_args_len: usize,
     ) -> Reply;
+    fn lz_flat_get_numeric_upcast_supertype_lossless(
+        left_kinds: *const u8,
+        left_kinds_len: usize,
+        left_args: *const u64,
+        left_args_len: usize,
+        right_kinds: *const u8,
+        right_kinds_len: usize,
+        right_args: *const u64,
+        right_args_len: usize,
+        out_kinds: *mut u8,
+        out_kinds_len: usize,
+        out_args: *mut u64,
+        out_args_len: usize,
+    ) -> Reply;
+    fn lz_flat_get_supertype_with_options(
+        left_kinds: *const u8,
+        left_kinds_len: usize,
+        left_args: *const u64,
+        left_args_len: usize,
+        right_kinds: *const u8,
+        right_kinds_len: usize,
+        right_args: *const u64,
+        right_args_len: usize,
+        allow_implode_list: u8,
+        allow_primitive_to_string: u8,
+        out_kinds: *mut u8,
+        out_kinds_len: usize,
+        out_args: *mut u64,
+        out_args_len: usize,
+    ) -> Reply;
 }
 
 pub(crate) fn is_known((kinds, args): Nodes) -> Result<bool, Error> {
@@ -102,4 +132,58 @@ pub(crate) fn to_physical((kinds, args): Nodes, (ok, oa): Output) -> Result<usiz
         )
     }
     .always_written()
+}
+
+pub(crate) fn get_numeric_upcast_supertype_lossless(
+    (lk, la): Nodes,
+    (rk, ra): Nodes,
+    (ok, oa): Output,
+) -> Result<Option<usize>, Error> {
+    // SAFETY: each pointer and length are those of one slice; the two written are borrowed mutably, so none overlaps them.
+    unsafe {
+        lz_flat_get_numeric_upcast_supertype_lossless(
+            lk.as_ptr(),
+            lk.len(),
+            la.as_ptr(),
+            la.len(),
+            rk.as_ptr(),
+            rk.len(),
+            ra.as_ptr(),
+            ra.len(),
+            ok.as_mut_ptr(),
+            ok.len(),
+            oa.as_mut_ptr(),
+            oa.len(),
+        )
+    }
+    .written()
+}
+
+/// Either flag is off where it is 0 and else on.
+pub(crate) fn get_supertype_with_options(
+    (lk, la): Nodes,
+    (rk, ra): Nodes,
+    (allow_implode_list, allow_primitive_to_string): (u8, u8),
+    (ok, oa): Output,
+) -> Result<Option<usize>, Error> {
+    // SAFETY: each pointer and length are those of one slice; the two written are borrowed mutably, so none overlaps them.
+    unsafe {
+        lz_flat_get_supertype_with_options(
+            lk.as_ptr(),
+            lk.len(),
+            la.as_ptr(),
+            la.len(),
+            rk.as_ptr(),
+            rk.len(),
+            ra.as_ptr(),
+            ra.len(),
+            allow_implode_list,
+            allow_primitive_to_string,
+            ok.as_mut_ptr(),
+            ok.len(),
+            oa.as_mut_ptr(),
+            oa.len(),
+        )
+    }
+    .written()
 }
