@@ -88,10 +88,15 @@ pub fn round(differential: &mut Differential, random: &mut Random) {
 
 /// One round of the run of joins: both rules on two types of one node, in most cases, and the report.
 pub fn join_leaves(differential: &mut Differential, random: &mut Random) {
-    let (left, right) = leaves(random);
-    let [left, right] = [left, right].map(|leaf| nested_at_times(leaf, random));
+    let (left, right) = leaf_pair(random);
     let (left, right) = (damaged_at_times(left, random, 2), damaged_at_times(right, random, 2));
     join(differential, random, &left, &right);
+}
+
+/// Two types of one node, in most cases.
+pub fn leaf_pair(random: &mut Random) -> (Flat, Flat) {
+    let (left, right) = leaves(random);
+    (nested_at_times(left, random), nested_at_times(right, random))
 }
 
 /// Both rules and the report, with some flags and lengths of output.
