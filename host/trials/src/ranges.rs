@@ -75,8 +75,7 @@ mod tests {
     fn float64_keeps_whole_numbers_up_to_53_bits() {
         assert!((0..=1 << 20).chain((1 << 53) - (1 << 20)..=1 << 53).all(is_float64));
         assert!(!is_float64((1 << 53) + 1) && is_float64((1 << 53) + 2));
-        let kept: Vec<u8> =
-            INTEGERS.iter().filter(|(_, range)| range.is_in_float64()).map(|(kind, _)| *kind).collect();
+        let kept: Vec<u8> = INTEGERS.iter().filter(|(_, range)| range.is_in_float64()).map(|(kind, _)| *kind).collect();
         assert_eq!(kept, [UINT8, UINT16, UINT32, INT8, INT16, INT32]);
     }
 
