@@ -1,7 +1,7 @@
 //! The rules that join two types, on types of one node, beside the crate's own text.
 //!
-//! Each is timed as those of `rules` are, from bytes and from what either keeps a type in; where there is no result, none is
-//! made. A time is that of one pair, over all pairs of the set in turn.
+//! Each is timed as those of `rules` are, from bytes and from what either keeps a type in; where there is no result, none
+//! is made. A time is that of one pair, over all pairs of the set in turn.
 
 use crate::rules::{Row, Times};
 use crate::timing::best;

@@ -1,4 +1,5 @@
-//! The question of the two tanks: what becomes of probe numbers where old probes, Int32, and new ones, UInt64, are joined.
+//! The question of the two tanks: what becomes of probe numbers where Int32, of old probes, and UInt64, of new ones, are
+//! joined.
 
 use crate::answer;
 use lomzegash::kind::{INT32, UINT64};

@@ -1,5 +1,5 @@
-//! `lomzegash [HEX...]`: what each encoded type says, or why it is refused; without arguments, what becomes of probe numbers
-//! where Int32 and UInt64 are joined, and a few worked types.
+//! `lomzegash [HEX...]`: what each encoded type says, or why it is refused; without arguments, what becomes of probe
+//! numbers where Int32 and UInt64 are joined, and a few worked types.
 
 #![forbid(unsafe_code)]
 

@@ -25,8 +25,8 @@
 //! 8, is_integer 9, is_signed_integer 10, is_unsigned_integer 11, is_string 12, is_unknown 13, contains_unknown 14,
 //! contains_list_recursive 15.
 //!
-//! Numbers 1 to 5 are document 01's by the plain Rust, 6 and 13 are its by the kinds, 8 follows from the room, and the reports follow
-//! from the ranges of integers and the oracle's supertype; all else is the oracle's.
+//! Numbers 1 to 5 are document 01's by the plain Rust, 6 and 13 are its by the kinds, 8 follows from the room, and the
+//! reports follow from the ranges of integers and the oracle's supertype; all else is the oracle's.
 
 use lomzegash::Error;
 use oracle::Type;

@@ -16,8 +16,8 @@ const ROOMS: [Room; 4] = [|_| 0, |nodes| nodes - 1, |nodes| nodes, |nodes| nodes
 /// Sizes of the types that are drawn: lines stay short.
 const SIZES: [usize; 9] = [1, 1, 2, 3, 4, 5, 6, 8, 12];
 
-/// At least so many lines, the same ones every time: first each limit, refusal, kind of leaf and join of two kinds, then random calls of each
-/// entry point in turn, then the last line.
+/// At least so many lines, the same ones every time: first each limit, refusal, kind of leaf and join of two kinds, then
+/// random calls of each entry point in turn, then the last line.
 pub fn lines(count: usize) -> Vec<String> {
     let mut answers = Answers::default();
     limits(&mut answers);

@@ -1,5 +1,5 @@
-//! The rules of polars-core's supertype.rs that join two types into one, on encoded types, by the names of the source, and
-//! what is lost where they join two integer types.
+//! The rules of polars-core's supertype.rs that join two types into one, on encoded types, by the names of the source,
+//! and what is lost where they join two integer types.
 //!
 //! All are refused by [`Error::Length`] to [`Error::Depth`], numbers 1 to 5, where a type isn't one; the left is looked at
 //! first. What else refuses a call is said where it does. Where a function writes a type to `out`, it gives the number of
@@ -68,8 +68,8 @@ pub fn get_numeric_upcast_supertype_lossless(
     ffi::supertype::get_numeric_upcast_supertype_lossless(left, right, out)
 }
 
-/// Writes the type that both can be cast to, with loss where the source takes it for reasonable; None where there is none.
-/// Not every answer is the same with left and right exchanged.
+/// Writes the type that both can be cast to, with loss where the source takes it for reasonable; None where there is
+/// none. Not every answer is the same with left and right exchanged.
 ///
 /// Refused by numbers 1 to 5 of the left type, then of the right, by [`Error::Nested`] where either is nested, by
 /// [`Error::DecimalWithInteger`], then by [`Error::OutputTooShort`].

@@ -1,4 +1,5 @@
-//! The differential comparison: every entry point that the crate has too, beside the oracle.
+//! The differential comparison: every entry point that the crate has too, beside the oracle, and the report of what a join
+//! loses, beside the ranges of integers.
 //!
 //! One comparison is one call of one entry point of the port, on one input (a type, two types or two units) and with one
 //! length of output: its number, its value and every byte of the output, written or left alone, are held to what the
@@ -52,7 +53,7 @@ impl Differential {
         self.flat_one(input);
     }
 
-    /// Every entry point of two types.
+    /// Every entry point that says yes or no of two types.
     pub fn two(&mut self, left: &Input, right: &Input) {
         let _shown = Shown(&[left, right]);
         for (relation, at) in RELATIONS.iter().zip(0..) {

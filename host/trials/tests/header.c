@@ -48,7 +48,8 @@ static int joins(void) {
     uint8_t out[12];
     memset(out, 9, sizeof out);
 
-    if (!is(lz_get_numeric_upcast_supertype_lossless(uint128, 11, int32, 11, out, 12), LZ_OK, 0) || out[0] != 9) return 28;
+    if (!is(lz_get_numeric_upcast_supertype_lossless(uint128, 11, int32, 11, out, 12), LZ_OK, 0)) return 28;
+    if (out[0] != 9) return 28;
     if (!is(lz_get_numeric_upcast_supertype_lossless(list, 20, decimal, 11, out, 0), LZ_OK, 0)) return 29;
     if (!is(lz_get_numeric_upcast_supertype_lossless(int32, 11, uint64, 11, out, 12), LZ_OK, 11)) return 30;
     if (out[0] != 1 || out[2] != 0x0B || out[10] != 0 || out[11] != 9) return 31;
@@ -72,14 +73,16 @@ static int flat_joins(void) {
     const uint64_t zero = 0, five = 5;
     uint8_t kinds[2] = {9, 9};
     uint64_t args[2] = {9, 9};
+    lz_reply reply;
 
-    if (!is(lz_flat_get_supertype_with_options(&str, 1, &zero, 1, &dyn, 1, &five, 1, 1, 0, kinds, 2, args, 2), LZ_OK, 1)) return 41;
-    if (kinds[0] != 23 || kinds[1] != 9 || args[0] != 0 || args[1] != 9) return 42;
-    if (!is(lz_flat_get_supertype_with_options(&str, 1, &zero, 1, &dyn, 1, &five, 1, 0, 1, kinds, 2, args, 2), LZ_OK, 1)) return 43;
-    if (kinds[0] != 24) return 44;
-    if (!is(lz_flat_get_numeric_upcast_supertype_lossless(&int8, 1, &zero, 1, &int16, 1, &zero, 1, kinds, 2, args, 0), LZ_OUTPUT_TOO_SHORT, 0)) return 45;
-    if (!is(lz_flat_get_numeric_upcast_supertype_lossless(&int8, 1, &zero, 1, &int16, 1, &zero, 1, kinds, 1, args, 1), LZ_OK, 1)) return 46;
-    if (kinds[0] != 8 || args[0] != 0) return 47;
+    reply = lz_flat_get_supertype_with_options(&str, 1, &zero, 1, &dyn, 1, &five, 1, 1, 0, kinds, 2, args, 2);
+    if (!is(reply, LZ_OK, 1) || kinds[0] != 23 || kinds[1] != 9 || args[0] != 0 || args[1] != 9) return 41;
+    reply = lz_flat_get_supertype_with_options(&str, 1, &zero, 1, &dyn, 1, &five, 1, 0, 1, kinds, 2, args, 2);
+    if (!is(reply, LZ_OK, 1) || kinds[0] != 24) return 42;
+    reply = lz_flat_get_numeric_upcast_supertype_lossless(&int8, 1, &zero, 1, &int16, 1, &zero, 1, kinds, 2, args, 0);
+    if (!is(reply, LZ_OUTPUT_TOO_SHORT, 0) || kinds[0] != 24) return 43;
+    reply = lz_flat_get_numeric_upcast_supertype_lossless(&int8, 1, &zero, 1, &int16, 1, &zero, 1, kinds, 1, args, 1);
+    if (!is(reply, LZ_OK, 1) || kinds[0] != 8 || args[0] != 0) return 44;
     return 0;
 }
 

@@ -117,7 +117,7 @@ fn types_as_the_long_run_draws_them() {
         return;
     }
     let (mut differential, mut random) = (Differential::default(), Random::new(16));
-    for _ in 0..800_000 {
+    for _ in 0..600_000 {
         draw::round(&mut differential, &mut random);
     }
     let of_number = differential.report("types as the long run draws them");

@@ -31,7 +31,7 @@ pub(crate) fn get_numeric_upcast_supertype_lossless(
     right: &[u8],
     out: &mut [u8],
 ) -> Result<Option<usize>, Error> {
-    // SAFETY: each pointer and length are those of one slice; the one written is borrowed mutably, so none overlaps it.
+    // SAFETY: each pointer and length are those of one slice; the one written is borrowed mutably, so none overlap it.
     unsafe {
         lz_get_numeric_upcast_supertype_lossless(
             left.as_ptr(),
@@ -52,7 +52,7 @@ pub(crate) fn get_supertype_with_options(
     (allow_implode_list, allow_primitive_to_string): (u8, u8),
     out: &mut [u8],
 ) -> Result<Option<usize>, Error> {
-    // SAFETY: each pointer and length are those of one slice; the one written is borrowed mutably, so none overlaps it.
+    // SAFETY: each pointer and length are those of one slice; the one written is borrowed mutably, so none overlap it.
     unsafe {
         lz_get_supertype_with_options(
             left.as_ptr(),
