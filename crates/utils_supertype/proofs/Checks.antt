@@ -1,30 +1,30 @@
 -- What the checks of two kinds say, and what a call comes to after them. Assumes nothing.
-use mathlib.Core.Path.{_≡_, refl, sym, _∙_, ap, ap₂}
+use mathlib.Core.Path.{_≡_, refl, sym, _∙_, ap₂}
 use mathlib.Core.Bool.{Bool, true, false, cond, _&&_, _||_, and-true, and-false, or-true, or-false, true≢false}
-use mathlib.Core.List.{List}
 use mathlib.Core.Option.{Option, some}
-use Prim.Native.Nat.{ℕ, _≤_, _<_}
+use Prim.Native.Nat.{ℕ, _≤_}
 use native.Mathlib.Omega.{arith}
-use lib.ListN.{length, getD}
+use native.Mathlib.Decide.{decLe}
+use lib.Dec.{leb}
 use borrow.Author.Tests.{ne-eqb, le-leb}
 use Rattle.flat.specs.Kind
-use Rattle.flat.specs.Tree.{DataType, leaf, list, array, struct, headKind, headArg}
-use Rattle.flat.specs.Reading.{Reading, refused, type, reading, checkedOf, Ruled}
+use Rattle.flat.specs.Argument.{argumentFits}
+use Rattle.flat.specs.Tree.{headKind}
+use Rattle.flat.specs.Reading.{Reading, refused, rootOf, RootFits}
 use Rattle.flat.specs.declared.error.Error.{Error}
 use Rattle.flat.specs.declared.error.Error.the-variants.{Nested, DecimalWithInteger}
 use Rattle.flat.specs.declared.Checked.the-variants as checked
-use Rattle.flat.proofs.Walks.{type-kind, type-arg}
-use Rattle.flat.proofs.Meaning.{Passed, checked-refused}
-use Rattle.datatypes.specs.Match.{among}
+use Rattle.flat.specs.declared.Root.{Root}
 use Rattle.datatypes.specs.Predicate.{isNested}
 use Rattle.datatypes.proofs.Runs.{says, of-run}
-use Rattle.utils.specs.Join.{node, rootOf, foundOf, joining}
+use Rattle.utils.specs.Join.{rootNode, foundOf, joining, joiningRoots}
 use Rattle.utils.specs.declared.join.Node.{Node}
 use Rattle.utils.specs.declared.join.Supertype.{Supertype}
+use Rattle.utils.proofs.Joins.{joining-roots}
 use Rattle.utils_arms.specs.Node.{fits}
 use Rattle.utils_arms.specs.Supertype.{supertype}
 use Rattle.utils_arms.proofs.Recursive.{supertype-laws}
-use Rattle.utils_supertype.specs.Pair.{isListed, decimalWithInteger, pairChecked, afterCheck, supertypeOf}
+use Rattle.utils_supertype.specs.Pair.{isListed, decimalWithInteger, pairChecked, afterCheck, rootSupertype, supertypeOf}
 
 -- ---- two kinds
 
@@ -68,41 +68,29 @@ none-nested k l = go (isNested k) (isNested l) (decimalWithInteger k l)
     go false true d e = absurd (let z : _≡_ {A = ℕ} 0 1 = cc in omega arith)
     go false false d e = (refl, refl)
 
--- ---- two types
+-- ---- two roots
 
--- the root of a valid type that is not nested is the whole type
-root-fits : (t : DataType) → Ruled t → isNested (headKind t) ≡ false → fits (rootOf t) ≡ true
-unfolding Ruled headKind headArg fits isNested among
-root-fits (leaf k a) r n = rw (le-leb k Kind.UnknownIntNeg (r .0)) (r .1)
-root-fits (list t) r n = absurd (true≢false n)
-root-fits (array w t) r n = absurd (true≢false n)
-root-fits (struct fs) r n = absurd (true≢false n)
+-- a root that is not nested is a type of its own
+pub root-fits : (n : Node) → RootFits (Root.Node (n .kind) (n .arg)) → isNested (n .kind) ≡ false → fits n ≡ true
+unfolding fits
+root-fits n h e = go (decLe (n .kind) Kind.UnknownIntNeg)
+  where
+    go : Dec (n .kind ≤ Kind.UnknownIntNeg) → (leb (n .kind) Kind.UnknownIntNeg && argumentFits (n .kind) (n .arg)) ≡ true
+    go (yes l) = rw (le-leb (n .kind) Kind.UnknownIntNeg l) (h .1)
+    go (no m) = absurd (true≢false (of-run isNested true Kind.List 3 (unfold says in tt) (n .kind) (omega (arith, h .0)) ∙ e))
 
-module _ {nodes deep : ℕ} {ks xs : List ℕ} (v : Passed nodes deep ks xs) where
-  root-is : rootOf (v .tree) ≡ node (getD ks 0 0) (getD xs 0 0)
-  root-is = λ i. node ((ap headKind (sym (v .front)) ∙ type-kind ks xs (v .valid)) i) ((ap headArg (sym (v .front)) ∙ type-arg ks xs (v .valid)) i)
+module _ (s : Bool) (l r : Node) where
+  pub pair-refused : (e : Error) → checked.Refused e ≡ pairChecked (l .kind) (r .kind) → some (refused e) ≡ rootSupertype false s l r
+  unfolding rootSupertype
+  pair-refused e p = rw (← p)
 
-  pub node-fits : isNested (getD ks 0 0) ≡ false → fits (node (getD ks 0 0) (getD xs 0 0)) ≡ true
-  node-fits n = ap fits (sym root-is) ∙ root-fits (v .tree) (v .form .is-type .ruled) (ap (λ (n : Node). isNested (n .kind)) root-is ∙ n)
+  pub pair-joined : checked.Valid ≡ pairChecked (l .kind) (r .kind) → (t : Supertype) → t ≡ supertype false s l r → foundOf t ≡ rootSupertype false s l r
+  unfolding rootSupertype
+  pair-joined p t e = rw (← p, ← e)
 
-module _ (rule : DataType → DataType → Option Reading) (l r : Reading) where
-  pub left-refused : (e : Error) → checked.Refused e ≡ checkedOf l → joining rule l r ≡ some (refused e)
-  unfolding joining
-  left-refused e p = rw (checked-refused l e p)
-
-module _ (i s : Bool) {nodes deep : ℕ} {ks xs : List ℕ} (ls ys : List ℕ) (v : Passed nodes deep ks xs) where
-  pub right-refused : (e : Error) → checked.Refused e ≡ checkedOf (reading nodes deep ls ys) → joining (supertypeOf i s) (reading nodes deep ks xs) (reading nodes deep ls ys) ≡ some (refused e)
-  unfolding joining
-  right-refused e p = rw (v .reads, checked-refused (reading nodes deep ls ys) e p)
-
-  module _ (w : Passed nodes deep ls ys) where
-    after : joining (supertypeOf i s) (reading nodes deep ks xs) (reading nodes deep ls ys) ≡ afterCheck (pairChecked (getD ks 0 0) (getD ls 0 0)) (foundOf (supertype i s (node (getD ks 0 0) (getD xs 0 0)) (node (getD ls 0 0) (getD ys 0 0))))
-    unfolding joining supertypeOf
-    after = rw (v .reads, w .reads) (ap₂ (λ (l r : Node). afterCheck (pairChecked (l .kind) (r .kind)) (foundOf (supertype i s l r))) (root-is v) (root-is w))
-
-    pub pair-refused : (e : Error) → checked.Refused e ≡ pairChecked (getD ks 0 0) (getD ls 0 0) → joining (supertypeOf i s) (reading nodes deep ks xs) (reading nodes deep ls ys) ≡ some (refused e)
-    pair-refused e p = after ∙ rw (← p)
-
-    -- the implode flag has no part in it
-    pub joined : checked.Valid ≡ pairChecked (getD ks 0 0) (getD ls 0 0) → (t : Supertype) → t ≡ supertype false s (node (getD ks 0 0) (getD xs 0 0)) (node (getD ls 0 0) (getD ys 0 0)) → joining (supertypeOf i s) (reading nodes deep ks xs) (reading nodes deep ls ys) ≡ foundOf t
-    joined p t e = after ∙ rw (← p) (ap foundOf (supertype-laws .implode i false s _ _ ∙ sym e))
+-- what is found of the roots of two readings; the implode flag has no part in it
+pub joined : (i s : Bool) (left right : Reading) {found : Option Reading} {l r : Root} → l ≡ rootOf left → r ≡ rootOf right → found ≡ joiningRoots (rootSupertype false s) l r → found ≡ joining (supertypeOf i s) left right
+unfolding supertypeOf rootSupertype
+joined i s left right p q e =
+    e ∙ ap₂ (joiningRoots (rootSupertype false s)) p q ∙ sym (joining-roots (rootSupertype false s) left right)
+    ∙ (λ j. joining (λ t u. afterCheck (pairChecked (headKind t) (headKind u)) (foundOf (supertype-laws .implode false i s (rootNode t) (rootNode u) j))) left right)
