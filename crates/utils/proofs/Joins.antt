@@ -2,7 +2,7 @@
 use mathlib.Core.Path.{_≡_, refl, ap}
 use mathlib.Core.List.{List, [], _∷_}
 use mathlib.Core.Option.{Option, none, some}
-use Prim.Native.Nat.{ℕ, _≤_, _<_}
+use Prim.Native.Nat.{ℕ, _≤_}
 use native.Mathlib.Omega.{arith}
 use lib.ListN.{length, set}
 use Rattle.flat.specs.Tree.{leaf, size, kindsOf, argsOf}
@@ -12,7 +12,7 @@ use Rattle.flat.specs.declared.error.Error.{Error}
 use Rattle.flat.specs.declared.error.Error.the-variants.{OutputTooShort}
 use Rattle.flat.specs.declared.Root.{Root}
 use Rattle.flat.proofs.Outputs.{few-kinds, few-args, room}
-use Rattle.utils.specs.Join.{node, rootNode, resultOf, joining, joiningRoots, fittingFound, kindsFound, argsFound, Joins}
+use Rattle.utils.specs.Join.{node, rootNode, resultOf, joining, joiningRoots, fittingFound, Joins}
 use Rattle.utils.specs.declared.join.Node.{Node}
 use Rattle.utils.specs.declared.join.Found.{Found}
 use Rattle.utils.specs.declared.join.Joined.{Joined}
