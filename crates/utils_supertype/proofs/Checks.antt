@@ -1,24 +1,22 @@
 -- What the checks of two kinds say, and what a call comes to after them. Assumes nothing.
 use mathlib.Core.Path.{_≡_, refl, sym, _∙_, ap, ap₂}
 use mathlib.Core.Bool.{Bool, true, false, cond, _&&_, _||_, and-true, and-false, or-true, or-false, true≢false}
-use mathlib.Core.List.{List}
-use mathlib.Core.Option.{Option, some}
+use mathlib.Core.Option.{some}
 use Prim.Native.Nat.{ℕ, _≤_, _<_}
 use native.Mathlib.Omega.{arith}
-use lib.ListN.{length, getD}
-use borrow.Author.Tests.{ne-eqb, le-leb}
+use lib.Dec.{leb}
+use borrow.Author.Tests.{ne-eqb, leb-false}
 use Rattle.flat.specs.Kind
-use Rattle.flat.specs.Tree.{DataType, leaf, list, array, struct, headKind, headArg}
-use Rattle.flat.specs.Reading.{Reading, refused, type, reading, checkedOf, Ruled}
+use Rattle.flat.specs.Argument.{argumentFits}
+use Rattle.flat.specs.Tree.{headKind, headArg}
+use Rattle.flat.specs.Reading.{Reading, refused, type, rootOf, RootFits}
 use Rattle.flat.specs.declared.error.Error.{Error}
 use Rattle.flat.specs.declared.error.Error.the-variants.{Nested, DecimalWithInteger}
 use Rattle.flat.specs.declared.Checked.the-variants as checked
-use Rattle.flat.proofs.Walks.{type-kind, type-arg}
-use Rattle.flat.proofs.Meaning.{Passed, checked-refused}
-use Rattle.datatypes.specs.Match.{among}
+use Rattle.flat.specs.declared.Root.{Root}
 use Rattle.datatypes.specs.Predicate.{isNested}
 use Rattle.datatypes.proofs.Runs.{says, of-run}
-use Rattle.utils.specs.Join.{node, rootOf, foundOf, joining}
+use Rattle.utils.specs.Join.{node, foundOf, joining}
 use Rattle.utils.specs.declared.join.Node.{Node}
 use Rattle.utils.specs.declared.join.Supertype.{Supertype}
 use Rattle.utils_arms.specs.Node.{fits}
@@ -70,39 +68,37 @@ none-nested k l = go (isNested k) (isNested l) (decimalWithInteger k l)
 
 -- ---- two types
 
--- the root of a valid type that is not nested is the whole type
-root-fits : (t : DataType) → Ruled t → isNested (headKind t) ≡ false → fits (rootOf t) ≡ true
-unfolding Ruled headKind headArg fits isNested among
-root-fits (leaf k a) r n = rw (le-leb k Kind.UnknownIntNeg (r .0)) (r .1)
-root-fits (list t) r n = absurd (true≢false n)
-root-fits (array w t) r n = absurd (true≢false n)
-root-fits (struct fs) r n = absurd (true≢false n)
+-- a checked root that is not nested is a type of its own
+node-fits : (k a : ℕ) → RootFits (Root.Node k a) → isNested k ≡ false → fits (node k a) ≡ true
+unfolding fits
+node-fits k a f n = go (leb k Kind.UnknownIntNeg) refl
+  where
+    go : (b : Bool) → leb k Kind.UnknownIntNeg ≡ b → (b && argumentFits k a) ≡ true
+    go true e = f .1
+    go false e = absurd (true≢false (of-run isNested true Kind.List 3 (unfold says in tt) k (omega (arith, f .0, leb-false k Kind.UnknownIntNeg e)) ∙ n))
 
-module _ {nodes deep : ℕ} {ks xs : List ℕ} (v : Passed nodes deep ks xs) where
-  root-is : rootOf (v .tree) ≡ node (getD ks 0 0) (getD xs 0 0)
-  root-is = λ i. node ((ap headKind (sym (v .front)) ∙ type-kind ks xs (v .valid)) i) ((ap headArg (sym (v .front)) ∙ type-arg ks xs (v .valid)) i)
+pub pair-fits : (k a l b : ℕ) → RootFits (Root.Node k a) → RootFits (Root.Node l b) → checked.Valid ≡ pairChecked k l → (fits (node k a) ≡ true) × (fits (node l b) ≡ true)
+pair-fits k a l b f g v = let n = none-nested k l v in (node-fits k a f (n .0), node-fits l b g (n .1))
 
-  pub node-fits : isNested (getD ks 0 0) ≡ false → fits (node (getD ks 0 0) (getD xs 0 0)) ≡ true
-  node-fits n = ap fits (sym root-is) ∙ root-fits (v .tree) (v .form .is-type .ruled) (ap (λ (n : Node). isNested (n .kind)) root-is ∙ n)
+-- what is found rests on the roots
+by-roots : (i s : Bool) (left right : Reading) {k a l b : ℕ} → Root.Node k a ≡ rootOf left → Root.Node l b ≡ rootOf right →
+    joining (supertypeOf i s) left right ≡ afterCheck (pairChecked k l) (foundOf (supertype i s (node k a) (node l b)))
+unfolding joining supertypeOf
+by-roots i s (refused e) right p q = absurd (let z : _≡_ {A = ℕ} 0 1 = cc in omega arith)
+by-roots i s (type t) (refused e) p q = absurd (let z : _≡_ {A = ℕ} 0 1 = cc in omega arith)
+by-roots i s (type t) (type u) {k} {a} {l} {b} p q =
+    let n : node k a ≡ node (headKind t) (headArg t) = ap rootNode p in
+    let m : node l b ≡ node (headKind u) (headArg u) = ap rootNode q in
+    sym (ap₂ (λ (n m : Node). afterCheck (pairChecked (n .kind) (m .kind)) (foundOf (supertype i s n m))) n m)
+  where
+    rootNode : Root → Node
+    rootNode (Root.Node k a) = node k a
+    rootNode (Root.Refused e) = node 0 0
 
-module _ (rule : DataType → DataType → Option Reading) (l r : Reading) where
-  pub left-refused : (e : Error) → checked.Refused e ≡ checkedOf l → joining rule l r ≡ some (refused e)
-  unfolding joining
-  left-refused e p = rw (checked-refused l e p)
+module _ (i s : Bool) (left right : Reading) {k a l b : ℕ} (p : Root.Node k a ≡ rootOf left) (q : Root.Node l b ≡ rootOf right) where
+  pub pair-refused : {e : Error} → checked.Refused e ≡ pairChecked k l → joining (supertypeOf i s) left right ≡ some (refused e)
+  pair-refused h = by-roots i s left right p q ∙ rw (← h)
 
-module _ (i s : Bool) {nodes deep : ℕ} {ks xs : List ℕ} (ls ys : List ℕ) (v : Passed nodes deep ks xs) where
-  pub right-refused : (e : Error) → checked.Refused e ≡ checkedOf (reading nodes deep ls ys) → joining (supertypeOf i s) (reading nodes deep ks xs) (reading nodes deep ls ys) ≡ some (refused e)
-  unfolding joining
-  right-refused e p = rw (v .reads, checked-refused (reading nodes deep ls ys) e p)
-
-  module _ (w : Passed nodes deep ls ys) where
-    after : joining (supertypeOf i s) (reading nodes deep ks xs) (reading nodes deep ls ys) ≡ afterCheck (pairChecked (getD ks 0 0) (getD ls 0 0)) (foundOf (supertype i s (node (getD ks 0 0) (getD xs 0 0)) (node (getD ls 0 0) (getD ys 0 0))))
-    unfolding joining supertypeOf
-    after = rw (v .reads, w .reads) (ap₂ (λ (l r : Node). afterCheck (pairChecked (l .kind) (r .kind)) (foundOf (supertype i s l r))) (root-is v) (root-is w))
-
-    pub pair-refused : (e : Error) → checked.Refused e ≡ pairChecked (getD ks 0 0) (getD ls 0 0) → joining (supertypeOf i s) (reading nodes deep ks xs) (reading nodes deep ls ys) ≡ some (refused e)
-    pair-refused e p = after ∙ rw (← p)
-
-    -- the implode flag has no part in it
-    pub joined : checked.Valid ≡ pairChecked (getD ks 0 0) (getD ls 0 0) → (t : Supertype) → t ≡ supertype false s (node (getD ks 0 0) (getD xs 0 0)) (node (getD ls 0 0) (getD ys 0 0)) → joining (supertypeOf i s) (reading nodes deep ks xs) (reading nodes deep ls ys) ≡ foundOf t
-    joined p t e = after ∙ rw (← p) (ap foundOf (supertype-laws .implode i false s _ _ ∙ sym e))
+  -- the implode flag has no part in it
+  pub pair-joined : checked.Valid ≡ pairChecked k l → (t : Supertype) → t ≡ supertype false s (node k a) (node l b) → joining (supertypeOf i s) left right ≡ foundOf t
+  pair-joined h t e = by-roots i s left right p q ∙ rw (← h) (ap foundOf (supertype-laws .implode i false s (node k a) (node l b) ∙ sym e))
