@@ -13,21 +13,21 @@ use lib.Dec.{leb}
 use lib.ListN.{length, getD, take, drop, length-drop}
 use lib.Seq.{length-take-le, take-at, drop-cons, getD-take, getD-drop}
 use Rattle.flat.specs.Tree.{DataType, size, headKind, headArg, kindsOf, argsOf}
-use Rattle.flat.specs.Reading.{Reading, refused, type, unless, reading, checkedOf}
+use Rattle.flat.specs.Reading.{Reading, refused, type, unless, reading, checkedOf, rootOf, RootFits}
 use Rattle.flat.specs.declared.Checked.{Checked}
 use Rattle.flat.specs.declared.Checked.the-variants.{Valid}
 use Rattle.flat.specs.Output.{over, Writes}
 use Rattle.flat.specs.declared.error.Error.{Error}
 use Rattle.flat.specs.declared.error.Error.the-variants.{Length, OutputTooShort}
 use Rattle.flat.proofs.Sizes.{length-kinds}
-use Rattle.flat.proofs.Walks.{type-kind, type-arg}
-use Rattle.flat.proofs.Meaning.{holds, checked-type, checked-refused, Passed, check-passed}
+use Rattle.flat.proofs.Meaning.{holds, checked-type, check-passed}
+use Rattle.flat.proofs.Roots.{root-read}
 use Rattle.flat.proofs.Outputs.{writes-type}
 use Rattle.encoding.specs.Encoding.{number, argsFrom, encoding, encodedSize, countIn, kindsIn, argsIn, sizeFits, decoding}
-use Rattle.encoding.specs.Answer.{nodesIn, rootOf, fittingBytes, bytesOver, Encodes, Puts}
+use Rattle.encoding.specs.Answer.{nodesIn, fittingBytes, bytesOver, Encodes, Puts}
+use Rattle.flat.specs.declared.Root.{Root}
 use Rattle.flat.specs.declared.Written.{Written}
 use Rattle.encoding.specs.declared.Encoded.{Encoded}
-use Rattle.encoding.specs.declared.Root.{Root}
 use Rattle.encoding.proofs.Laws.{argsFrom-length, argsFrom-at, size-parts}
 
 -- ---- the number of nodes
@@ -151,21 +151,14 @@ counted-form {w} {nodes} {deep} {n} {s} v e c = let f : EncodedForm w nodes deep
 
 -- ---- the root, where a check answers Valid
 
-pub passed-root : {nodes deep : ℕ} {ks xs : List ℕ} → Passed nodes deep ks xs → Root.Node (getD ks 0 0) (getD xs 0 0) ≡ rootOf (reading nodes deep ks xs)
-passed-root {nodes} {deep} {ks} {xs} p =
-    rw (p .reads) (ap₂ Root.Node (sym (type-kind ks xs (p .valid)) ∙ ap headKind (p .front)) (sym (type-arg ks xs (p .valid)) ∙ ap headArg (p .front)))
-
-pub root-refused : (r : Reading) {e : Error} → Checked.Refused e ≡ checkedOf r → Root.Refused e ≡ rootOf r
-root-refused r {e} q = ap rootOf (sym (checked-refused r e q))
-
 -- where its two values stand in the bytes
-pub form-root : {w nodes deep n : ℕ} {s : List ℕ} → EncodedForm w nodes deep n s → Root.Node (getD s 2 0) (number (take w (drop (2 + n) s))) ≡ rootOf (decoding w nodes deep s)
+pub form-root : {w nodes deep n : ℕ} {s : List ℕ} → EncodedForm w nodes deep n s → (Root.Node (getD s 2 0) (number (take w (drop (2 + n) s))) ≡ rootOf (decoding w nodes deep s)) × RootFits (Root.Node (getD s 2 0) (number (take w (drop (2 + n) s))))
 form-root {w} {nodes} {deep} {n} {s} f =
     let z = f .sized in
     let e = decoding-sized z deep in
     let k : getD (kindsIn s) 0 0 ≡ getD s 2 0 = rw (← kinds-part z) (getD-take (2 + n - 2) (drop 2 s) 0 0 (omega (arith, z .some)) ∙ getD-drop 2 s 0 0) in
     let a : getD (argsIn w s) 0 0 ≡ number (take w (drop (2 + n) s)) = rw (← args-part z, part-to-end) (argsFrom-at w n (drop (2 + n) s) 0 (z .some) ∙ rw zero-mul) in
-    ap₂ Root.Node (sym k) (sym a) ∙ passed-root (check-passed (ap checkedOf (sym (f .reads) ∙ e))) ∙ ap rootOf (sym e)
+    rw (← k, ← a, e) (root-read (check-passed (ap checkedOf (sym (f .reads) ∙ e))))
 
 -- ---- what `decode` and `encode` come to
 
