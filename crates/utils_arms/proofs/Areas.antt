@@ -8,7 +8,7 @@ use lib.Dec.{T, eqb, ltb, eqb→eq}
 use lib.ListN.{getD, List·getD-eq-default}
 use Rattle.flat.specs.Kind.{String, Date, Time, UnknownAny, UnknownStr, UnknownFloat}
 use Rattle.flat.specs.Tree.{headKind}
-use Rattle.flat.proofs.Rules.{in-run, In, area, in-area, and-left, and-right}
+use Rattle.flat.proofs.Rules.{In, in-run, area, in-area, and-left, and-right}
 use Rattle.datatypes.specs.Match.{among}
 use Rattle.datatypes.specs.Predicate.{isFloat, isUnknownInt, isSignedInteger, isUnsignedInteger, isInteger, isPrimitiveNumeric, isPrimitive, isString, isUnknown}
 use Rattle.datatypes.specs.Physical.{physicalLeaf, physicalKind}

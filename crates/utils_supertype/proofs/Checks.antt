@@ -1,28 +1,30 @@
 -- What the checks of two kinds say, and what a call comes to after them. Assumes nothing.
-use mathlib.Core.Path.{_≡_, refl, sym, _∙_, ap, ap₂}
+use mathlib.Core.Path.{_≡_, refl, sym, _∙_, ap₂}
 use mathlib.Core.Bool.{Bool, true, false, cond, _&&_, _||_, and-true, and-false, or-true, or-false, true≢false}
-use mathlib.Core.Option.{some}
-use Prim.Native.Nat.{ℕ, _≤_, _<_}
+use mathlib.Core.Option.{Option, some}
+use Prim.Native.Nat.{ℕ, _≤_}
 use native.Mathlib.Omega.{arith}
+use native.Mathlib.Decide.{decLe}
 use lib.Dec.{leb}
-use borrow.Author.Tests.{ne-eqb, leb-false}
+use borrow.Author.Tests.{ne-eqb, le-leb}
 use Rattle.flat.specs.Kind
 use Rattle.flat.specs.Argument.{argumentFits}
-use Rattle.flat.specs.Tree.{headKind, headArg}
-use Rattle.flat.specs.Reading.{Reading, refused, type, rootOf, RootFits}
+use Rattle.flat.specs.Tree.{headKind}
+use Rattle.flat.specs.Reading.{Reading, refused, rootOf, RootFits}
 use Rattle.flat.specs.declared.error.Error.{Error}
 use Rattle.flat.specs.declared.error.Error.the-variants.{Nested, DecimalWithInteger}
 use Rattle.flat.specs.declared.Checked.the-variants as checked
 use Rattle.flat.specs.declared.Root.{Root}
 use Rattle.datatypes.specs.Predicate.{isNested}
 use Rattle.datatypes.proofs.Runs.{says, of-run}
-use Rattle.utils.specs.Join.{node, foundOf, joining}
+use Rattle.utils.specs.Join.{rootNode, foundOf, joining, joiningRoots}
 use Rattle.utils.specs.declared.join.Node.{Node}
 use Rattle.utils.specs.declared.join.Supertype.{Supertype}
+use Rattle.utils.proofs.Joins.{joining-roots}
 use Rattle.utils_arms.specs.Node.{fits}
 use Rattle.utils_arms.specs.Supertype.{supertype}
 use Rattle.utils_arms.proofs.Recursive.{supertype-laws}
-use Rattle.utils_supertype.specs.Pair.{isListed, decimalWithInteger, pairChecked, afterCheck, supertypeOf}
+use Rattle.utils_supertype.specs.Pair.{isListed, decimalWithInteger, pairChecked, afterCheck, rootSupertype, supertypeOf}
 
 -- ---- two kinds
 
@@ -66,39 +68,29 @@ none-nested k l = go (isNested k) (isNested l) (decimalWithInteger k l)
     go false true d e = absurd (let z : _≡_ {A = ℕ} 0 1 = cc in omega arith)
     go false false d e = (refl, refl)
 
--- ---- two types
+-- ---- two roots
 
--- a checked root that is not nested is a type of its own
-node-fits : (k a : ℕ) → RootFits (Root.Node k a) → isNested k ≡ false → fits (node k a) ≡ true
+-- a root that is not nested is a type of its own
+pub root-fits : (n : Node) → RootFits (Root.Node (n .kind) (n .arg)) → isNested (n .kind) ≡ false → fits n ≡ true
 unfolding fits
-node-fits k a f n = go (leb k Kind.UnknownIntNeg) refl
+root-fits n h e = go (decLe (n .kind) Kind.UnknownIntNeg)
   where
-    go : (b : Bool) → leb k Kind.UnknownIntNeg ≡ b → (b && argumentFits k a) ≡ true
-    go true e = f .1
-    go false e = absurd (true≢false (of-run isNested true Kind.List 3 (unfold says in tt) k (omega (arith, f .0, leb-false k Kind.UnknownIntNeg e)) ∙ n))
+    go : Dec (n .kind ≤ Kind.UnknownIntNeg) → (leb (n .kind) Kind.UnknownIntNeg && argumentFits (n .kind) (n .arg)) ≡ true
+    go (yes l) = rw (le-leb (n .kind) Kind.UnknownIntNeg l) (h .1)
+    go (no m) = absurd (true≢false (of-run isNested true Kind.List 3 (unfold says in tt) (n .kind) (omega (arith, h .0)) ∙ e))
 
-pub pair-fits : (k a l b : ℕ) → RootFits (Root.Node k a) → RootFits (Root.Node l b) → checked.Valid ≡ pairChecked k l → (fits (node k a) ≡ true) × (fits (node l b) ≡ true)
-pair-fits k a l b f g v = let n = none-nested k l v in (node-fits k a f (n .0), node-fits l b g (n .1))
+module _ (s : Bool) (l r : Node) where
+  pub pair-refused : (e : Error) → checked.Refused e ≡ pairChecked (l .kind) (r .kind) → some (refused e) ≡ rootSupertype false s l r
+  unfolding rootSupertype
+  pair-refused e p = rw (← p)
 
--- what is found rests on the roots
-by-roots : (i s : Bool) (left right : Reading) {k a l b : ℕ} → Root.Node k a ≡ rootOf left → Root.Node l b ≡ rootOf right →
-    joining (supertypeOf i s) left right ≡ afterCheck (pairChecked k l) (foundOf (supertype i s (node k a) (node l b)))
-unfolding joining supertypeOf
-by-roots i s (refused e) right p q = absurd (let z : _≡_ {A = ℕ} 0 1 = cc in omega arith)
-by-roots i s (type t) (refused e) p q = absurd (let z : _≡_ {A = ℕ} 0 1 = cc in omega arith)
-by-roots i s (type t) (type u) {k} {a} {l} {b} p q =
-    let n : node k a ≡ node (headKind t) (headArg t) = ap rootNode p in
-    let m : node l b ≡ node (headKind u) (headArg u) = ap rootNode q in
-    sym (ap₂ (λ (n m : Node). afterCheck (pairChecked (n .kind) (m .kind)) (foundOf (supertype i s n m))) n m)
-  where
-    rootNode : Root → Node
-    rootNode (Root.Node k a) = node k a
-    rootNode (Root.Refused e) = node 0 0
+  pub pair-joined : checked.Valid ≡ pairChecked (l .kind) (r .kind) → (t : Supertype) → t ≡ supertype false s l r → foundOf t ≡ rootSupertype false s l r
+  unfolding rootSupertype
+  pair-joined p t e = rw (← p, ← e)
 
-module _ (i s : Bool) (left right : Reading) {k a l b : ℕ} (p : Root.Node k a ≡ rootOf left) (q : Root.Node l b ≡ rootOf right) where
-  pub pair-refused : {e : Error} → checked.Refused e ≡ pairChecked k l → joining (supertypeOf i s) left right ≡ some (refused e)
-  pair-refused h = by-roots i s left right p q ∙ rw (← h)
-
-  -- the implode flag has no part in it
-  pub pair-joined : checked.Valid ≡ pairChecked k l → (t : Supertype) → t ≡ supertype false s (node k a) (node l b) → joining (supertypeOf i s) left right ≡ foundOf t
-  pair-joined h t e = by-roots i s left right p q ∙ rw (← h) (ap foundOf (supertype-laws .implode i false s (node k a) (node l b) ∙ sym e))
+-- what is found of the roots of two readings; the implode flag has no part in it
+pub joined : (i s : Bool) (left right : Reading) {found : Option Reading} {l r : Root} → l ≡ rootOf left → r ≡ rootOf right → found ≡ joiningRoots (rootSupertype false s) l r → found ≡ joining (supertypeOf i s) left right
+unfolding supertypeOf rootSupertype
+joined i s left right p q e =
+    e ∙ ap₂ (joiningRoots (rootSupertype false s)) p q ∙ sym (joining-roots (rootSupertype false s) left right)
+    ∙ (λ j. joining (λ t u. afterCheck (pairChecked (headKind t) (headKind u)) (foundOf (supertype-laws .implode false i s (rootNode t) (rootNode u) j))) left right)
