@@ -1,11 +1,9 @@
 -- Two types in either order. Assumes nothing.
-use mathlib.Core.Path.{_≡_, refl, sym, _∙_}
-use mathlib.Core.Bool.{Bool, true, false, _&&_}
+use mathlib.Core.Path.{_≡_, sym, _∙_}
+use mathlib.Core.Bool.{Bool, true, false}
 use Prim.Native.Nat.{ℕ, _≤_, _<_}
 use native.Mathlib.Omega.{arith}
-use lib.Dec.{T}
 use Rattle.flat.specs.Kind
-use Rattle.flat.proofs.Rules.{run as all, in-run}
 use Rattle.utils.specs.Join.{node}
 use Rattle.utils.specs.declared.join.Node.{Node}
 use Rattle.utils.specs.declared.join.Supertype.{Supertype}
@@ -14,8 +12,8 @@ use Rattle.utils_arms.specs.declared.plan.Plan.the-variants as plan
 use Rattle.utils_arms.specs.Node.{same, fits}
 use Rattle.utils_arms.specs.Supertype.{planOf, run, inner, supertypeWith, knownSupertype, supertype}
 use Rattle.utils_arms.specs.Rule.{ruleOf, Apart}
-use Rattle.utils_arms.proofs.Areas.{alike, alike-eq, right-at}
-use Rattle.utils_arms.proofs.Answers.{same-sym, tries, settled, lopsided, either-order, are-apart, of-flag}
+use Rattle.utils_arms.proofs.Areas.{any-string as any-string-plan, dyn-str as dyn-str-plan}
+use Rattle.utils_arms.proofs.Answers.{same-sym, tries, settled, lopsided, either-order, are-apart}
 
 module _ (l r : Node) (pre : (fits l ≡ true) × (fits r ≡ true)) (differ : same l r ≡ false) where
   pub ready : l .kind ≤ r .kind → (fits l ≡ true) × (fits r ≡ true) × Apart (l .kind) (r .kind)
@@ -41,15 +39,12 @@ module _ (i s : Bool) (l r : Node) where
         e ∙ sym (settled knownSupertype s r l (pre .1) (pre .0) turned (same-sym r l ∙ differ)) ∙ sym (either-order knownSupertype s l r (pre .0) (pre .1) h turned n differ)
 
     -- the first try answers with a kind
-    first-try : (n : Node) (k : ℕ) → n ≡ node k 0 → T (alike (planOf s (l .kind) (r .kind)) (plan.Kind k)) → Some n ≡ supertype i s l r
+    first-try : (n : Node) (k : ℕ) → n ≡ node k 0 → planOf s (l .kind) (r .kind) ≡ plan.Kind k → Some n ≡ supertype i s l r
     unfolding supertype run
-    first-try n k e t = sym (tries knownSupertype s l r differ ∙ rw (alike-eq (planOf s (l .kind) (r .kind)) (plan.Kind k) t, e))
+    first-try n k e p = sym (tries knownSupertype s l r differ ∙ rw (p, e))
 
     pub any-string : (n : Node) → n ≡ node Kind.String 0 → l .kind ≡ Kind.UnknownAny → r .kind ≡ Kind.String → Some n ≡ supertype i s l r
-    any-string n o e f = first-try n Kind.String o (rw (e, f) (of-flag (λ s. alike (planOf s Kind.UnknownAny Kind.String) (plan.Kind Kind.String)) (unfold right-at in tt) s))
+    any-string n o e f = first-try n Kind.String o (rw (e, f) (any-string-plan s))
 
     pub dyn-str : (n : Node) → n ≡ node Kind.UnknownAny 0 → Kind.UnknownStr < l .kind → l .kind ≤ Kind.UnknownIntNeg → r .kind ≡ Kind.UnknownStr → Some n ≡ supertype i s l r
-    dyn-str n o h u f = first-try n Kind.UnknownAny o (rw f (of-flag (λ s. is-any s (l .kind)) (in-run (λ a. is-any true a && is-any false a) Kind.UnknownFloat 3 (unfold right-at in tt) (l .kind) (omega arith) (omega arith)) s))
-      where
-        is-any : Bool → ℕ → Bool
-        is-any s a = alike (planOf s a Kind.UnknownStr) (plan.Kind Kind.UnknownAny)
+    dyn-str n o h u f = first-try n Kind.UnknownAny o (rw f (dyn-str-plan s (l .kind) (omega arith) (omega arith)))
