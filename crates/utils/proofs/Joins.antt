@@ -2,7 +2,7 @@
 use mathlib.Core.Path.{_≡_, refl, ap}
 use mathlib.Core.List.{List, [], _∷_}
 use mathlib.Core.Option.{Option, none, some}
-use Prim.Native.Nat.{ℕ, _≤_, _<_}
+use Prim.Native.Nat.{ℕ, _≤_}
 use native.Mathlib.Omega.{arith}
 use lib.ListN.{length, set}
 use Rattle.flat.specs.Tree.{leaf, size, kindsOf, argsOf}
@@ -10,8 +10,9 @@ use Rattle.flat.specs.Reading.{Reading, refused, type, rootOf}
 use Rattle.flat.specs.Output.{fitting, over, kindsOver, argsOver}
 use Rattle.flat.specs.declared.error.Error.{Error}
 use Rattle.flat.specs.declared.error.Error.the-variants.{OutputTooShort}
+use Rattle.flat.specs.declared.Root.{Root}
 use Rattle.flat.proofs.Outputs.{few-kinds, few-args, room}
-use Rattle.utils.specs.Join.{rootNode, resultOf, joining, joiningRoots, fittingFound, kindsFound, argsFound, Joins}
+use Rattle.utils.specs.Join.{node, rootNode, resultOf, joining, joiningRoots, fittingFound, Joins}
 use Rattle.utils.specs.declared.join.Node.{Node}
 use Rattle.utils.specs.declared.join.Found.{Found}
 use Rattle.utils.specs.declared.join.Joined.{Joined}
@@ -34,6 +35,19 @@ unfolding joining joiningRoots
 joining-roots rule (refused e) right = refl
 joining-roots rule (type t) (refused e) = refl
 joining-roots rule (type t) (type u) = refl
+
+module _ (rule : Node → Node → Option Reading) (l r : Root) where
+  pub left-refused : {e : Error} → l ≡ Root.Refused e → some (refused e) ≡ joiningRoots rule l r
+  unfolding joiningRoots
+  left-refused h = rw h
+
+  pub right-refused : {k a : ℕ} {e : Error} → l ≡ Root.Node k a → r ≡ Root.Refused e → some (refused e) ≡ joiningRoots rule l r
+  unfolding joiningRoots
+  right-refused h g = rw (h, g)
+
+  pub both-roots : {k a m b : ℕ} → l ≡ Root.Node k a → r ≡ Root.Node m b → rule (node k a) (node m b) ≡ joiningRoots rule l r
+  unfolding joiningRoots
+  both-roots h g = rw (h, g)
 
 -- ---- what is written
 -- one node over the front

@@ -10,7 +10,7 @@ use lib.Dec.{T, leb, ltb, eqb, eqb→eq}
 use borrow.Author.Tests.{eq-eqb, ne-eqb, eqb-true, leb-true, le-ltb, lt-leb}
 use Rattle.flat.specs.Kind.{Duration, Datetime, String, UnknownAny, UnknownStr, UnknownFloat, UnknownIntPos, UnknownIntNeg, Field}
 use Rattle.flat.specs.Argument.{follows, argumentFits, ruleOf as argumentRule}
-use Rattle.flat.proofs.Rules.{in-run, area, in-area, and-left, and-right, isZero, zero-follows}
+use Rattle.flat.proofs.Rules.{in-run, area, in-area, and-left, and-right, or-right, isZero, zero-follows}
 use Rattle.datatypes.specs.Match.{among}
 use Rattle.datatypes.specs.Predicate.{isUnknownInt}
 use Rattle.datatypes.specs.Equality.{equalNode}
@@ -28,7 +28,7 @@ use Rattle.utils_arms.specs.declared.plan.Plan.the-variants.{No, Left, R
 use Rattle.utils_arms.specs.Node.{unitAt, unit, zone, same, plain, fits}
 use Rattle.utils_arms.specs.Supertype.{is, planOf, pick, Call, sameZone, run, orElse, inner, supertypeWith}
 use Rattle.utils_arms.specs.Rule.{turn, orPlan, pickPlan, norm, ruleOf, skip, Apart}
-use Rattle.utils_arms.proofs.Areas.{or-right, alike, alike-eq, right-at}
+use Rattle.utils_arms.proofs.Areas.{alike, alike-eq, right-at}
 
 -- ---- Booleans and answers
 

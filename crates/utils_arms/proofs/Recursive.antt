@@ -10,7 +10,7 @@ use lib.IntN.{ℤ}
 use lib.Signed.{nonNeg}
 use borrow.Author.Tests.{le-ltb}
 use Rattle.flat.specs.Kind.{Null, UInt8, UInt16, UInt32, UInt64, Int8, Int16, Int32, Int64, Int128, UnknownAny, UnknownIntNeg}
-use Rattle.flat.proofs.Rules.{area, in-area, and-left, and-right}
+use Rattle.flat.proofs.Rules.{area, in-area, and-left, and-right, or-right}
 use Rattle.datatypes.specs.Predicate.{isUnknownInt, isUnsignedInteger}
 use Rattle.datatypes.specs.Integer.{holds, firstThatHolds}
 use Rattle.datatypes.specs.DynInt.{materializeDynInt, materializeDynIntPos, materializeSmallestDynInt}
@@ -22,7 +22,7 @@ use Rattle.utils_arms.specs.declared.plan.Plan.the-variants.{No, Left, R
 use Rattle.utils_arms.specs.Node.{value, same, fits}
 use Rattle.utils_arms.specs.Supertype.{planOf, smallestFitting, dynNumber, pick, Call, run, orElse, inner, supertypeWith, knownSupertype, supertype}
 use Rattle.utils_arms.specs.Laws.{SupertypeLaws}
-use Rattle.utils_arms.proofs.Areas.{or-right, alike, alike-eq, right-at}
+use Rattle.utils_arms.proofs.Areas.{alike, alike-eq, right-at}
 use Rattle.utils_arms.proofs.Answers.{is-true, to-T, in-range, of-flag}
 
 -- ---- which plans call
