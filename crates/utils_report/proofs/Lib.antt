@@ -1,1 +1,4 @@
 -- The laws hold, and the report is settled.
+mod Rounding
+mod Pairs
+mod Laws
