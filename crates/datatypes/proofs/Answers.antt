@@ -9,8 +9,7 @@ use Rattle.flat.specs.Tree.{DataType, headKind}
 use Rattle.flat.specs.Reading.{Reading, refused, type, reading, checkedOf}
 use Rattle.flat.specs.declared.error.Error.{Error}
 use Rattle.flat.specs.declared.Checked.{Checked}
-use Rattle.flat.proofs.Walks.{type-kind}
-use Rattle.flat.proofs.Meaning.{Passed, check-passed, checked-refused}
+use Rattle.flat.proofs.Meaning.{Passed, check-passed, checked-refused, root-kind}
 use Rattle.datatypes.specs.Predicate.{isTemporal, isFloat, isSignedInteger, isUnsignedInteger, isInteger, isPrimitiveNumeric, isPrimitive, isNested, isString, isUnknown}
 use Rattle.datatypes.specs.Predicates.{predicateOf, toldBy}
 use Rattle.datatypes.specs.Answer.{yesNo, answerOf}
@@ -25,7 +24,7 @@ module _ {nodes deep : ℕ} {ks xs : List ℕ} (v : Passed nodes deep ks xs) whe
   some-node = omega (arith, v .valid)
 
   at-root : (p : ℕ → Bool) → p (getD ks 0 0) ≡ p (headKind (v .tree))
-  at-root p = ap p (sym (type-kind ks xs (v .valid)) ∙ ap headKind (v .front))
+  at-root p = ap p (sym (root-kind v))
 
   pub told : (p : Predicate) → toldBy p ks ≡ predicateOf p (v .tree)
   told IsNested = at-root isNested

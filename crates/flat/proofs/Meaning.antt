@@ -7,10 +7,10 @@ use Prim.Native.Nat.{ℕ, _≤_}
 use native.Mathlib.Omega.{arith}
 use borrow.Author.Tests.{le-leb, lt-ltb, eq-eqb, leb-true, eqb-true}
 use lib.Dec.{leb, ltb, eqb}
-use lib.ListN.{length, drop-of-length-le}
+use lib.ListN.{length, getD, drop-of-length-le}
 use Rattle.flat.specs.Kind
 use Rattle.flat.specs.Argument.{argumentFits, ruleOf}
-use Rattle.flat.specs.Tree.{DataType, leaf, list, array, struct, Fields, empty, field, size, depth, kindsOf, kindsOfs, argsOf, argsOfs, count}
+use Rattle.flat.specs.Tree.{DataType, leaf, list, array, struct, Fields, empty, field, size, depth, kindsOf, kindsOfs, argsOf, argsOfs, count, headKind, headArg}
 use Rattle.flat.specs.Reader.{nodeAt}
 use Rattle.flat.specs.Reading.{Reading, refused, type, unless, lengthFits, kindsFit, argumentsFit, shaped, reading, checkedOf, Ruled, RuledFields, IsType}
 use Rattle.flat.specs.declared.error.Error.{Error}
@@ -18,7 +18,7 @@ use Rattle.flat.specs.declared.error.Error.the-variants.{Length, Kind, A
 use Rattle.flat.specs.declared.Checked.the-variants as answer
 use Rattle.flat.specs.Walk.{Valid, typeAt}
 use Rattle.flat.proofs.Sizes.{length-kinds, length-args, size-pos}
-use Rattle.flat.proofs.Walks.{node-of, valid-of, type-is}
+use Rattle.flat.proofs.Walks.{node-of, valid-of, type-is, type-kind, type-arg}
 use Rattle.flat.proofs.ReadBack.{Good, Goods, read-back, Sound, sound}
 
 -- ---- a valid type passes
@@ -178,3 +178,11 @@ check-passed {nodes} {deep} {ks} {xs} e =
     let k = ap length (h .kinds) ∙ length-kinds (r .0) in
     let s = stands nodes deep ks xs (r .0) (r .1) in
     record { tree = r .0; reads = r .1; form = h; even = k ∙ sym (ap length (h .args) ∙ length-args (r .0)); whole = sym k; valid = s .0; front = s .1 }
+
+-- and their first node is the type's root
+module _ {nodes deep : ℕ} {ks xs : List ℕ} (v : Passed nodes deep ks xs) where
+  pub root-kind : headKind (v .tree) ≡ getD ks 0 0
+  root-kind = ap headKind (sym (v .front)) ∙ type-kind ks xs (v .valid)
+
+  pub root-arg : headArg (v .tree) ≡ getD xs 0 0
+  root-arg = ap headArg (sym (v .front)) ∙ type-arg ks xs (v .valid)

@@ -1,4 +1,4 @@
--- A rule that a run of kinds has: one test that antt computes over the run. Assumes nothing.
+-- A rule that a run of kinds has, or two runs: one test that antt computes over them. Assumes nothing.
 use mathlib.Core.Path.{_≡_, refl, sym, subst}
 use mathlib.Core.Bool.{Bool, true, false, _&&_}
 use Prim.Native.Nat.{ℕ, zero, suc, _+_, _≤_, _<_}
@@ -34,6 +34,16 @@ in-run f lo (suc n) t k h l = go (eqb k lo) refl (λ m. in-run f (suc lo) n (and
     go : (b : Bool) → eqb k lo ≡ b → (suc lo ≤ k → T (f k)) → T (f k)
     go true e rest = subst (λ (j : ℕ). T (f j)) (sym (eqb-true k lo e)) (and-left (f lo) (run f (suc lo) n) t)
     go false e rest = rest (omega (arith, eqb-false k lo e))
+
+-- two kinds: a is in the first run and b in the second
+abbrev pub In : ℕ → ℕ → ℕ → ℕ → ℕ → ℕ → Type 0
+In i m j n a b = ((i ≤ a) × (a < i + m)) × ((j ≤ b) × (b < j + n))
+
+abbrev pub area : (ℕ → ℕ → Bool) → ℕ → ℕ → ℕ → ℕ → Bool
+area f i m j n = run (λ a. run (f a) j n) i m
+
+pub in-area : (f : ℕ → ℕ → Bool) (i m j n : ℕ) → T (area f i m j n) → (a b : ℕ) → In i m j n a b → T (f a b)
+in-area f i m j n t a b h = in-run (f a) j n (in-run (λ a. run (f a) j n) i m t a (h .0 .0) (h .0 .1)) b (h .1 .0) (h .1 .1)
 
 -- the rules that several kinds share: the argument is 0, or any
 abbrev pub isZero : Rule → Bool

@@ -8,7 +8,7 @@ use lib.Dec.{T, eqb, ltb, eqb→eq}
 use lib.ListN.{getD, List·getD-eq-default}
 use Rattle.flat.specs.Kind.{Date, Time, UnknownAny}
 use Rattle.flat.specs.Tree.{headKind}
-use Rattle.flat.proofs.Rules.{run, in-run, and-left, and-right}
+use Rattle.flat.proofs.Rules.{In, area, in-area, and-left, and-right}
 use Rattle.datatypes.specs.Match.{among}
 use Rattle.datatypes.specs.Predicate.{isFloat, isUnknownInt, isSignedInteger, isUnsignedInteger, isInteger, isPrimitiveNumeric, isPrimitive, isString, isUnknown}
 use Rattle.datatypes.specs.Physical.{physicalLeaf, physicalKind}
@@ -21,16 +21,6 @@ use Rattle.utils_arms.specs.Rule.{norm, ruleOf, skip, Apart}
 -- a, or else b
 pub or-right : {a : Bool} (b : Bool) → a ≡ false → T (a || b) → T b
 or-right b e t = subst (λ (x : Bool). T (x || b)) e t
-
--- a is in the first run and b in the second
-abbrev pub In : ℕ → ℕ → ℕ → ℕ → ℕ → ℕ → Type 0
-In i m j n a b = ((i ≤ a) × (a < i + m)) × ((j ≤ b) × (b < j + n))
-
-abbrev pub area : (ℕ → ℕ → Bool) → ℕ → ℕ → ℕ → ℕ → Bool
-area f i m j n = run (λ a. run (f a) j n) i m
-
-pub in-area : (f : ℕ → ℕ → Bool) (i m j n : ℕ) → T (area f i m j n) → (a b : ℕ) → In i m j n a b → T (f a b)
-in-area f i m j n t a b h = in-run (f a) j n (in-run (λ a. run (f a) j n) i m t a (h .0 .0) (h .0 .1)) b (h .1 .0) (h .1 .1)
 
 -- ---- plans as numbers
 
