@@ -22,7 +22,7 @@ use Rattle.utils_arms.specs.Supertype.{supertype}
 use Rattle.utils_arms.proofs.Answers.{to-T}
 use Rattle.utils_report.specs.Laws.{uint128WithSigned, uint64WithSigned, Logged, left, right, Merged, NumberLaws}
 use Rattle.utils_report.proofs.Rounding.{merged}
-use Rattle.utils_report.proofs.Pairs.{isListed, is-listed, joined, is-joined, Answered, float, integer, answered}
+use Rattle.utils_report.proofs.Pairs.{isListed, is-listed, joined, is-joined, Answered, float64, integral, answered}
 
 -- ---- the pairs that the laws name
 
@@ -84,15 +84,15 @@ module _ (i s : Bool) (a b : ℕ) (p : Listed a) (q : Listed b) where
   answers = (joined a b, is-joined a b p q i s, go (answered a b p q))
     where
       go : {t : ℕ} → Answered a b t → (t ≡ Float64 → ⊥) → Listed t
-      go (float e f u x y) n = absurd (n f)
-      go (integer e l k) n = l
+      go (float64 e f u x y) n = absurd (n f)
+      go (integral e l k) n = l
 
   integers : (t : ℕ) → Listed t → supertype i s (node a 0) (node b 0) ≡ Some (node t 0) → (Includes t a × Includes t b) ↔ (uint128WithSigned a b ≡ false)
   integers t l e = go (subst (Answered a b) (kind-is t e) (answered a b p q))
     where
       go : Answered a b t → (Includes t a × Includes t b) ↔ (uint128WithSigned a b ≡ false)
-      go (float d f u x y) = absurd (omega arith)
-      go (integer d l k) = k
+      go (float64 d f u x y) = absurd (omega arith)
+      go (integral d l k) = k
 
   floats : (supertype i s (node a 0) (node b 0) ≡ Some (node Float64 0)) ↔ (uint64WithSigned a b ≡ true)
   floats = (there, back (answered a b p q))
@@ -101,12 +101,12 @@ module _ (i s : Bool) (a b : ℕ) (p : Listed a) (q : Listed b) where
       there e = go (subst (Answered a b) (kind-is Float64 e) (answered a b p q))
         where
           go : Answered a b Float64 → uint64WithSigned a b ≡ true
-          go (float d f u x y) = d
-          go (integer d l k) = absurd (omega arith)
+          go (float64 d f u x y) = d
+          go (integral d l k) = absurd (omega arith)
 
       back : Answered a b (joined a b) → uint64WithSigned a b ≡ true → supertype i s (node a 0) (node b 0) ≡ Some (node Float64 0)
-      back (float d f u x y) e = is-joined a b p q i s ∙ ap (λ (t : ℕ). Some (node t 0)) f
-      back (integer d l k) e = absurd (subst T (sym e ∙ d) tt)
+      back (float64 d f u x y) e = is-joined a b p q i s ∙ ap (λ (t : ℕ). Some (node t 0)) f
+      back (integral d l k) e = absurd (subst T (sym e ∙ d) tt)
 
 uint128 : (i s : Bool) (a b : ℕ) → uint128WithSigned a b ≡ true → supertype i s (node a 0) (node b 0) ≡ Some (node Int128 0)
 unfolding joined
@@ -116,8 +116,8 @@ avoidable : (a b : ℕ) → uint64WithSigned a b ≡ true → (upcastOf a b ≡ 
 avoidable a b e = let l = uint64-listed a b e in go (answered a b (l .0) (l .1))
   where
     go : {t : ℕ} → Answered a b t → (upcastOf a b ≡ To Int128) × Includes Int128 a × Includes Int128 b
-    go (float d f u x y) = (u, x, y)
-    go (integer d l k) = absurd (subst T (sym e ∙ d) tt)
+    go (float64 d f u x y) = (u, x, y)
+    go (integral d l k) = absurd (subst T (sym e ∙ d) tt)
 
 merges : (a b : ℕ) → uint64WithSigned a b ≡ true → Merged a b
 unfolding isSignedInteger among

@@ -2,3 +2,5 @@
 mod Rounding
 mod Pairs
 mod Laws
+mod Keeping
+mod Settled

@@ -2,8 +2,9 @@
 use mathlib.Core.Path.{_≡_, refl, sym, ap, subst}
 use mathlib.Core.Bool.{Bool, true, false, cond, not, _&&_, _||_}
 use mathlib.Core.Logic.{_↔_}
-use Prim.Native.Nat.{ℕ}
+use Prim.Native.Nat.{ℕ, _<_}
 use native.Mathlib.Omega.{arith}
+use borrow.Author.Tests.{lt-leb}
 use lib.Dec.{T, leb, eqb, leb→le, eqb→eq}
 use Rattle.flat.specs.Kind.{UInt8, Int128, Float64}
 use Rattle.flat.proofs.Rules.{and-left, and-right, and-both}
@@ -14,14 +15,20 @@ use Rattle.utils.specs.Join.{node}
 use Rattle.utils.specs.declared.join.Supertype.{Supertype}
 use Rattle.utils.specs.declared.join.Supertype.the-variants.{Some, Nothing}
 use Rattle.utils_numbers.specs.Range.{Listed, Includes}
-use Rattle.utils_numbers.proofs.Tests.{pairs, at-pair}
+use Rattle.utils_numbers.proofs.Tests.{at, pairs, at-pair}
 use Rattle.utils_numbers.proofs.Ranges.{inside, includes}
 use Rattle.utils_lossless.specs.Lossless.{choose, floats, signed, unsigned, mixed, upcastWhere, upcastOf}
 use Rattle.utils_lossless.specs.declared.upcast.Upcast.{Upcast}
 use Rattle.utils_lossless.specs.declared.upcast.Upcast.the-variants.{To, Nothing as NoUpcast}
+use Rattle.utils_arms.specs.declared.plan.Plan.the-variants.{Kind}
+use Rattle.utils_arms.specs.Rule.{norm, ruleOf, skip, Apart, Settles}
 use Rattle.utils_arms.specs.Supertype.{run, inner, supertypeWith, knownSupertype, supertype}
-use Rattle.utils_arms.proofs.Areas.{right-at}
+use Rattle.utils_arms.proofs.Areas.{or-right, alike, alike-eq, right-at}
 use Rattle.utils_report.specs.Laws.{uint128WithSigned, uint64WithSigned}
+
+not-true : (x : Bool) → T (not x) → x ≡ false
+not-true true h = absurd h
+not-true false h = refl
 
 -- a listed kind, as a test
 abbrev pub isListed : ℕ → Bool
@@ -66,8 +73,8 @@ joined-hold = tt
 
 -- t is the kind of the supertype: Float64, although Int128 includes both ranges, or an integer type, which includes them unless UInt128 meets a signed type
 pub data Answered (a b t : ℕ) : Type 0 where
-  float : uint64WithSigned a b ≡ true → t ≡ Float64 → upcastOf a b ≡ To Int128 → Includes Int128 a → Includes Int128 b → Answered a b t
-  integer : uint64WithSigned a b ≡ false → Listed t → (Includes t a × Includes t b) ↔ (uint128WithSigned a b ≡ false) → Answered a b t
+  float64 : uint64WithSigned a b ≡ true → t ≡ Float64 → upcastOf a b ≡ To Int128 → Includes Int128 a → Includes Int128 b → Answered a b t
+  integral : uint64WithSigned a b ≡ false → Listed t → (Includes t a × Includes t b) ↔ (uint128WithSigned a b ≡ false) → Answered a b t
 
 -- the same as tests
 abbrev isFloat : ℕ → ℕ → ℕ → Bool
@@ -97,21 +104,17 @@ module _ (a b : ℕ) (p : Listed a) (q : Listed b) where
   to-float t e u =
       let v = and-right (eqb t Float64) _ u in
       let w = and-right (eqb (kindOf (upcastOf a b)) Int128) _ v in
-      float e (eqb→eq t Float64 (and-left (eqb t Float64) _ u)) (is-int128 (upcastOf a b) (and-left (eqb (kindOf (upcastOf a b)) Int128) _ v))
+      float64 e (eqb→eq t Float64 (and-left (eqb t Float64) _ u)) (is-int128 (upcastOf a b) (and-left (eqb (kindOf (upcastOf a b)) Int128) _ v))
       (includes Int128 a (omega arith) p .1 (and-left (inside Int128 a) _ w)) (includes Int128 b (omega arith) q .1 (and-right (inside Int128 a) _ w))
 
   to-integer : (t : ℕ) → uint64WithSigned a b ≡ false → T (isInteger a b t) → Answered a b t
-  to-integer t e u = integer e l (there, back)
+  to-integer t e u = integral e l (there, back)
     where
       l : Listed t
       l = is-listed t (and-left (isListed t) _ u)
 
       alike : (inside t a && inside t b) ≡ not (uint128WithSigned a b)
       alike = are-same _ _ (and-right (isListed t) _ u)
-
-      not-true : (x : Bool) → T (not x) → x ≡ false
-      not-true true h = absurd h
-      not-true false h = refl
 
       there : Includes t a × Includes t b → uint128WithSigned a b ≡ false
       there h = not-true _ (subst T alike (and-both (inside t a) _ (includes t a l p .0 (h .0)) (includes t b l q .0 (h .1))))
@@ -128,3 +131,33 @@ module _ (a b : ℕ) (p : Listed a) (q : Listed b) where
       go : (x : Bool) → uint64WithSigned a b ≡ x → T (cond x (isFloat a b (joined a b)) (isInteger a b (joined a b))) → Answered a b (joined a b)
       go true e t = to-float (joined a b) e t
       go false e t = to-integer (joined a b) e t
+
+-- ---- it is the code's
+
+pub joined-same : (a : ℕ) → Listed a → joined a a ≡ a
+unfolding joined
+joined-same a p = eqb→eq (joined a a) a (at (λ k. eqb (joined k k) k) tt a p)
+
+-- of two kinds in order, the plan's and the same in either order
+unfoldable ordered-at : ℕ → ℕ → Bool
+unfolding joined skip
+ordered-at a b = leb b a || (not (skip a b) && (alike (Kind (joined a b)) (ruleOf false a b) && eqb (joined b a) (joined a b)))
+
+ordered-hold : T (pairs ordered-at)
+unfolding ordered-at
+ordered-hold = tt
+
+module _ (a b : ℕ) (p : Listed a) (q : Listed b) (h : a < b) where
+  ordered : T (not (skip a b) && (alike (Kind (joined a b)) (ruleOf false a b) && eqb (joined b a) (joined a b)))
+  unfolding ordered-at
+  ordered = or-right _ (lt-leb b a h) (at-pair ordered-at ordered-hold a b p q)
+
+  pub apart : Apart a b
+  apart = record { in-order = omega arith; in-range = omega arith; two = not-true _ (and-left (not (skip a b)) _ ordered) }
+
+  pub either-way : joined b a ≡ joined a b
+  either-way = eqb→eq (joined b a) (joined a b) (and-right (alike (Kind (joined a b)) (ruleOf false a b)) _ (and-right (not (skip a b)) _ ordered))
+
+  pub planned : {r : ℕ} → Settles a b (Kind r) → joined a b ≡ r
+  unfolding norm
+  planned {r} f = let e = alike-eq (Kind (joined a b)) (ruleOf false a b) (and-left (alike (Kind (joined a b)) (ruleOf false a b)) _ (and-right (not (skip a b)) _ ordered)) in let g = f false in cc
