@@ -1,11 +1,13 @@
 -- Whether the supertype of two integer types keeps their numbers, and what each report says then. Assumes nothing.
-use mathlib.Core.Path.{_≡_, refl, sym, ap, subst, _∙_}
-use mathlib.Core.Bool.{true, false}
+use mathlib.Core.Path.{_≡_, sym, subst, _∙_}
+use mathlib.Core.Bool.{Bool, true, false}
+use mathlib.Core.Logic.{_↔_}
 use mathlib.Core.List.{[], _∷_}
 use mathlib.Core.Option.{some}
 use Prim.Native.Nat.{ℕ, zero, suc, _+_, _*_, _^_, _≤_, _<_}
 use native.Mathlib.Nat.{pow-succ', mul-left-comm}
 use native.Mathlib.Omega.{arith}
+use lib.Dec.{T}
 use lib.IntN.{ℤ, pos}
 use borrow.Author.Tests.{ne-eqb}
 use Rattle.flat.specs.Kind.{Int128, Float16, Float32, Float64}
@@ -16,15 +18,19 @@ use Rattle.utils.specs.declared.join.Supertype.the-variants.{Some}
 use Rattle.utils_numbers.specs.Range.{Listed, Holds, Includes, Room}
 use Rattle.utils_numbers.specs.Format.{Format, format, formatOf, WholeIn}
 use Rattle.utils_lossless.specs.Lossless.{upcastOf}
-use Rattle.utils_lossless.specs.Laws.{LosslessLaws}
 use Rattle.utils_lossless.specs.declared.upcast.Upcast.the-variants.{To, Nothing}
+use Rattle.utils_lossless.proofs.Laws.{lossless-laws}
 use Rattle.utils_arms.specs.Supertype.{supertype}
 use Rattle.utils_report.specs.Kept.{Has, integer, float, Kept}
 use Rattle.utils_report.specs.Laws.{uint64WithSigned, Logged, left, right}
 use Rattle.utils_report.specs.Report.{Says}
 use Rattle.utils_report.specs.declared.Report.{Report}
-use Rattle.utils_report.proofs.Pairs.{joined, is-joined, joined-same, Answered, float64, integral, answered}
+use Rattle.utils_report.proofs.Pairs.{of-equal, Answered, float64, integral, answered}
 use Rattle.utils_report.proofs.Laws.{kind-is, uint64-logged}
+
+-- a test that says no
+pub no : {r : Bool} {X : Type 0} → (r ≡ true) ↔ X → r ≡ false → X → ⊥
+no i e x = subst T (sym (i .1 x) ∙ e) tt
 
 -- an integer type has only the numbers of its range
 in-range : (t : ℕ) → t ≤ Int128 → (z : ℤ) → Has t z → Holds t z
@@ -57,6 +63,13 @@ module _ (a b : ℕ) (p : Listed a) (q : Listed b) (t : ℕ) (is : supertype fal
   has : (k : Kept a b) (z : ℤ) → Has (k .kind) z → Has t z
   has k z h = subst (λ (j : ℕ). Has j z) (sym (kind-is false false a b p q (k .kind) (k .is-supertype)) ∙ kind-is false false a b p q t is) h
 
+  pub listed : t ≤ Int128 → Listed t
+  listed l = go (subst (Answered a b) (kind-is false false a b p q t is) (answered a b p q))
+    where
+      go : Answered a b t → Listed t
+      go (float64 e f u x y) = absurd (omega arith)
+      go (integral e m x) = m
+
   -- an integer type that misses one of the ranges
   pub misses : t ≤ Int128 → (Includes t a → Includes t b → ⊥) → Kept a b → ⊥
   misses l n k = n (λ z h. in-range t l z (has k z (k .left z h))) (λ z h. in-range t l z (has k z (k .right z h)))
@@ -76,13 +89,13 @@ module _ (a b : ℕ) (p : Listed a) (q : Listed b) (t : ℕ) (is : supertype fal
 
 -- ---- what is reported
 
-module _ (laws : LosslessLaws) {a b : ℕ} (p : Listed a) (q : Listed b) (lost : Kept a b → ⊥) where
+module _ {a b : ℕ} (p : Listed a) (q : Listed b) (lost : Kept a b → ⊥) where
   -- of one type with itself nothing is lost
   differ : a ≡ b → ⊥
-  differ e = lost (keeps a b p q a (is-joined a b p q false false ∙ ap (λ (k : ℕ). Some (node k 0)) (subst (λ (k : ℕ). joined a k ≡ a) e (joined-same a p))) (λ z h. h) (λ z h. subst (λ (k : ℕ). Holds k z) (sym e) h))
+  differ e = lost (keeps a b p q a (of-equal (p, q) e) (λ z h. h) (λ z h. subst (λ (k : ℕ). Holds k z) (sym e) h))
 
   pub avoidable : {k : ℕ} → upcastOf a b ≡ To k → Says a b Report.Avoidable
-  avoidable {k} e = let l = laws .least a b p q differ k .0 e in ((p, q), lost, (k, l .is-listed, l .covers))
+  avoidable {k} e = let l = lossless-laws .least a b p q differ k .0 e in ((p, q), lost, (k, l .is-listed, l .covers))
 
   pub unavoidable : upcastOf a b ≡ Nothing → Says a b Report.Unavoidable
-  unavoidable e = ((p, q), lost, laws .none a b p q differ .0 e)
+  unavoidable e = ((p, q), lost, lossless-laws .none a b p q differ .0 e)

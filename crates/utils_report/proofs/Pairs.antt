@@ -1,5 +1,5 @@
 -- The supertype of two integer types, by tests that antt computes over all pairs of the ten. Assumes nothing.
-use mathlib.Core.Path.{_≡_, refl, sym, ap, subst}
+use mathlib.Core.Path.{_≡_, refl, ap, subst, _∙_}
 use mathlib.Core.Bool.{Bool, true, false, cond, not, _&&_, _||_}
 use mathlib.Core.Logic.{_↔_}
 use Prim.Native.Nat.{ℕ, _<_}
@@ -7,7 +7,7 @@ use native.Mathlib.Omega.{arith}
 use borrow.Author.Tests.{lt-leb}
 use lib.Dec.{T, leb, eqb, leb→le, eqb→eq}
 use Rattle.flat.specs.Kind.{UInt8, Int128, Float64}
-use Rattle.flat.proofs.Rules.{and-left, and-right, and-both}
+use Rattle.flat.proofs.Rules.{and-left, and-right, and-both, or-right}
 use Rattle.datatypes.specs.Predicate.{isNested}
 use Rattle.datatypes.specs.Equality.{equalNode}
 use Rattle.datatypes.proofs.Runs.{same, are-same}
@@ -23,7 +23,7 @@ use Rattle.utils_lossless.specs.declared.upcast.Upcast.the-variants.{To, Nothin
 use Rattle.utils_arms.specs.declared.plan.Plan.the-variants.{Kind}
 use Rattle.utils_arms.specs.Rule.{norm, ruleOf, skip, Apart, Settles}
 use Rattle.utils_arms.specs.Supertype.{run, inner, supertypeWith, knownSupertype, supertype}
-use Rattle.utils_arms.proofs.Areas.{or-right, alike, alike-eq, right-at}
+use Rattle.utils_arms.proofs.Areas.{alike, alike-eq, right-at}
 use Rattle.utils_report.specs.Laws.{uint128WithSigned, uint64WithSigned}
 
 not-true : (x : Bool) → T (not x) → x ≡ false
@@ -134,11 +134,7 @@ module _ (a b : ℕ) (p : Listed a) (q : Listed b) where
 
 -- ---- it is the code's
 
-pub joined-same : (a : ℕ) → Listed a → joined a a ≡ a
-unfolding joined
-joined-same a p = eqb→eq (joined a a) a (at (λ k. eqb (joined k k) k) tt a p)
-
--- of two kinds in order, the plan's and the same in either order
+-- of two kinds in order, the plan's, and the same in either order
 unfoldable ordered-at : ℕ → ℕ → Bool
 unfolding joined skip
 ordered-at a b = leb b a || (not (skip a b) && (alike (Kind (joined a b)) (ruleOf false a b) && eqb (joined b a) (joined a b)))
@@ -155,9 +151,26 @@ module _ (a b : ℕ) (p : Listed a) (q : Listed b) (h : a < b) where
   pub apart : Apart a b
   apart = record { in-order = omega arith; in-range = omega arith; two = not-true _ (and-left (not (skip a b)) _ ordered) }
 
-  pub either-way : joined b a ≡ joined a b
+  either-way : joined b a ≡ joined a b
   either-way = eqb→eq (joined b a) (joined a b) (and-right (alike (Kind (joined a b)) (ruleOf false a b)) _ (and-right (not (skip a b)) _ ordered))
 
-  pub planned : {r : ℕ} → Settles a b (Kind r) → joined a b ≡ r
+  planned : {r : ℕ} → Settles a b (Kind r) → joined a b ≡ r
   unfolding norm
-  planned {r} f = let e = alike-eq (Kind (joined a b)) (ruleOf false a b) (and-left (alike (Kind (joined a b)) (ruleOf false a b)) _ (and-right (not (skip a b)) _ ordered)) in let g = f false in cc
+  planned f =
+      let e = alike-eq (Kind (joined a b)) (ruleOf false a b) (and-left (alike (Kind (joined a b)) (ruleOf false a b)) _ (and-right (not (skip a b)) _ ordered)) in
+      let g = f false in
+      cc
+
+module _ {a b : ℕ} (l : Listed a × Listed b) where
+  of-kind : {t : ℕ} → joined a b ≡ t → supertype false false (node a 0) (node b 0) ≡ Some (node t 0)
+  of-kind e = is-joined a b (l .0) (l .1) false false ∙ ap (λ (k : ℕ). Some (node k 0)) e
+
+  pub of-equal : a ≡ b → supertype false false (node a 0) (node b 0) ≡ Some (node a 0)
+  unfolding joined
+  of-equal e = of-kind (subst (λ (k : ℕ). joined a k ≡ a) e (eqb→eq (joined a a) a (at (λ k. eqb (joined k k) k) tt a (l .0))))
+
+  pub in-order : {r : ℕ} → a < b → Settles a b (Kind r) → supertype false false (node a 0) (node b 0) ≡ Some (node r 0)
+  in-order h f = of-kind (planned a b (l .0) (l .1) h f)
+
+  pub out-of-order : {r : ℕ} → b < a → Settles b a (Kind r) → supertype false false (node a 0) (node b 0) ≡ Some (node r 0)
+  out-of-order h f = of-kind (either-way b a (l .1) (l .0) h ∙ planned b a (l .1) (l .0) h f)

@@ -12,7 +12,6 @@ use Rattle.utils.specs.Join.{node}
 use Rattle.utils.specs.declared.join.Supertype.the-variants.{Some}
 use Rattle.utils_numbers.specs.Range.{Listed}
 use Rattle.utils_lossless.specs.Lossless.{upcastOf}
-use Rattle.utils_lossless.specs.Laws.{LosslessLaws}
 use Rattle.utils_lossless.specs.declared.upcast.Upcast.{Upcast}
 use Rattle.utils_lossless.specs.declared.upcast.Upcast.the-variants.{To, Nothing}
 use Rattle.utils_arms.specs.Supertype.{supertype}
@@ -65,7 +64,7 @@ decListed k = go (decLe UInt8 k) (decLe k Int128)
     go (yes l) (no h) = no (λ m. h (m .1))
     go (no l) h = no (λ m. l (m .0))
 
-module _ (laws : LosslessLaws) (a b : ℕ) where
+module _ (a b : ℕ) where
   abbrev Some-report : Type 0
   Some-report = (r : Report) × Says a b r
 
@@ -74,8 +73,8 @@ module _ (laws : LosslessLaws) (a b : ℕ) where
     lossy lost = go (upcastOf a b) refl
       where
         go : (u : Upcast) → upcastOf a b ≡ u → Some-report
-        go (To k) e = (Report.Avoidable, avoidable laws p q lost e)
-        go Nothing e = (Report.Unavoidable, unavoidable laws p q lost e)
+        go (To k) e = (Report.Avoidable, avoidable p q lost e)
+        go Nothing e = (Report.Unavoidable, unavoidable p q lost e)
 
     integers : Some-report
     integers = go (answered a b p q) (uint128WithSigned a b) refl
@@ -96,8 +95,8 @@ module _ (laws : LosslessLaws) (a b : ℕ) where
       go (yes p) (no n) = (Report.NotIntegers, λ h. n (h .1))
       go (no n) d = (Report.NotIntegers, λ h. n (h .0))
 
-pub some-report : LosslessLaws → (l r : Reading) → (a : Report) × Reports l r a
+pub some-report : (l r : Reading) → (a : Report) × Reports l r a
 unfolding Reports
-some-report laws (refused e) r = (Report.Refused e, refl)
-some-report laws (type t) (refused e) = (Report.Refused e, refl)
-some-report laws (type t) (type u) = some laws (headKind t) (headKind u)
+some-report (refused e) r = (Report.Refused e, refl)
+some-report (type t) (refused e) = (Report.Refused e, refl)
+some-report (type t) (type u) = some (headKind t) (headKind u)
