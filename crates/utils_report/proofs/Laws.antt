@@ -16,13 +16,14 @@ use Rattle.utils.specs.Join.{node}
 use Rattle.utils.specs.declared.join.Node.{Node}
 use Rattle.utils.specs.declared.join.Supertype.the-variants.{Some}
 use Rattle.utils_numbers.specs.Range.{Listed, Holds, Includes}
+use Rattle.utils_numbers.proofs.Tests.{isListed, to-listed}
 use Rattle.utils_lossless.specs.Lossless.{upcastOf}
 use Rattle.utils_lossless.specs.declared.upcast.Upcast.the-variants.{To}
 use Rattle.utils_arms.specs.Supertype.{supertype}
 use Rattle.utils_arms.proofs.Answers.{to-T}
 use Rattle.utils_report.specs.Laws.{uint128WithSigned, uint64WithSigned, Logged, left, right, Merged, NumberLaws}
 use Rattle.utils_report.proofs.Rounding.{merged}
-use Rattle.utils_report.proofs.Pairs.{isListed, is-listed, joined, is-joined, Answered, float64, integral, answered}
+use Rattle.utils_report.proofs.Pairs.{joined, is-joined, Answered, float64, integral, answered}
 
 -- ---- the pairs that the laws name
 
@@ -36,7 +37,7 @@ among-listed [] t k u = absurd u
 among-listed (j ∷ js) t k u = go (eqb k j) refl u (among-listed js (and-right (isListed j) _ t) k)
   where
     go : (x : Bool) → eqb k j ≡ x → T (x || among js k) → (T (among js k) → Listed k) → Listed k
-    go true e v rest = subst Listed (sym (eqb-true k j e)) (is-listed j (and-left (isListed j) _ t))
+    go true e v rest = subst Listed (sym (eqb-true k j e)) (to-listed j (and-left (isListed j) _ t))
     go false e v rest = rest v
 
 -- one of a and b is u, the other one of js

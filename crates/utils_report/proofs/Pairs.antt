@@ -5,8 +5,8 @@ use mathlib.Core.Logic.{_↔_}
 use Prim.Native.Nat.{ℕ, _<_}
 use native.Mathlib.Omega.{arith}
 use borrow.Author.Tests.{lt-leb}
-use lib.Dec.{T, leb, eqb, leb→le, eqb→eq}
-use Rattle.flat.specs.Kind.{UInt8, Int128, Float64}
+use lib.Dec.{T, leb, eqb, eqb→eq}
+use Rattle.flat.specs.Kind.{Int128, Float64}
 use Rattle.flat.proofs.Rules.{and-left, and-right, and-both, or-right}
 use Rattle.datatypes.specs.Predicate.{isNested}
 use Rattle.datatypes.specs.Equality.{equalNode}
@@ -15,7 +15,7 @@ use Rattle.utils.specs.Join.{node}
 use Rattle.utils.specs.declared.join.Supertype.{Supertype}
 use Rattle.utils.specs.declared.join.Supertype.the-variants.{Some, Nothing}
 use Rattle.utils_numbers.specs.Range.{Listed, Includes}
-use Rattle.utils_numbers.proofs.Tests.{at, pairs, at-pair}
+use Rattle.utils_numbers.proofs.Tests.{isListed, to-listed, at, pairs, at-pair}
 use Rattle.utils_numbers.proofs.Ranges.{inside, includes}
 use Rattle.utils_lossless.specs.Lossless.{choose, floats, signed, unsigned, mixed, upcastWhere, upcastOf}
 use Rattle.utils_lossless.specs.declared.upcast.Upcast.{Upcast}
@@ -29,13 +29,6 @@ use Rattle.utils_report.specs.Laws.{uint128WithSigned, uint64WithSigned}
 not-true : (x : Bool) → T (not x) → x ≡ false
 not-true true h = absurd h
 not-true false h = refl
-
--- a listed kind, as a test
-abbrev pub isListed : ℕ → Bool
-isListed k = leb UInt8 k && leb k Int128
-
-pub is-listed : (k : ℕ) → T (isListed k) → Listed k
-is-listed k t = (leb→le UInt8 k (and-left (leb UInt8 k) _ t), leb→le k Int128 (and-right (leb UInt8 k) _ t))
 
 abbrev kindOf : Upcast → ℕ
 kindOf (To k) = k
@@ -111,7 +104,7 @@ module _ (a b : ℕ) (p : Listed a) (q : Listed b) where
   to-integer t e u = integral e l (there, back)
     where
       l : Listed t
-      l = is-listed t (and-left (isListed t) _ u)
+      l = to-listed t (and-left (isListed t) _ u)
 
       alike : (inside t a && inside t b) ≡ not (uint128WithSigned a b)
       alike = are-same _ _ (and-right (isListed t) _ u)
