@@ -2,8 +2,6 @@
 use mathlib.Core.Path.{_≡_, sym, subst, _∙_}
 use mathlib.Core.Bool.{Bool, true, false}
 use mathlib.Core.Logic.{_↔_}
-use mathlib.Core.List.{[], _∷_}
-use mathlib.Core.Option.{some}
 use Prim.Native.Nat.{ℕ, zero, suc, _+_, _*_, _^_, _≤_, _<_}
 use native.Mathlib.Nat.{pow-succ', mul-left-comm}
 use native.Mathlib.Omega.{arith}
@@ -15,18 +13,18 @@ use Rattle.datatypes.specs.Match.{among}
 use Rattle.datatypes.specs.Predicate.{isSignedInteger}
 use Rattle.utils.specs.Join.{node}
 use Rattle.utils.specs.declared.join.Supertype.the-variants.{Some}
-use Rattle.utils_numbers.specs.Range.{Listed, Holds, Includes, Room}
+use Rattle.utils_numbers.specs.Range.{Listed, Holds, Includes}
 use Rattle.utils_numbers.specs.Format.{Format, format, formatOf, WholeIn}
 use Rattle.utils_lossless.specs.Lossless.{upcastOf}
 use Rattle.utils_lossless.specs.declared.upcast.Upcast.the-variants.{To, Nothing}
 use Rattle.utils_lossless.proofs.Laws.{lossless-laws}
 use Rattle.utils_arms.specs.Supertype.{supertype}
 use Rattle.utils_report.specs.Kept.{Has, integer, float, Kept}
-use Rattle.utils_report.specs.Laws.{uint64WithSigned, Logged, left, right}
+use Rattle.utils_report.specs.Laws.{Logged, left, right}
 use Rattle.utils_report.specs.Report.{Says}
 use Rattle.utils_report.specs.declared.Report.{Report}
-use Rattle.utils_report.proofs.Pairs.{of-equal, Answered, float64, integral, answered}
-use Rattle.utils_report.proofs.Laws.{kind-is, uint64-logged}
+use Rattle.utils_report.proofs.Pairs.{Answered, float64, integral, kind-is, told, of-equal}
+use Rattle.utils_report.proofs.Laws.{uint64-logged}
 
 -- a test that says no
 pub no : {r : Bool} {X : Type 0} → (r ≡ true) ↔ X → r ≡ false → X → ⊥
@@ -61,10 +59,10 @@ module _ (a b : ℕ) (p : Listed a) (q : Listed b) (t : ℕ) (is : supertype fal
   keeps f g = record { kind = t; is-supertype = is; left = λ z h. integer (f z h); right = λ z h. integer (g z h) }
 
   has : (k : Kept a b) (z : ℤ) → Has (k .kind) z → Has t z
-  has k z h = subst (λ (j : ℕ). Has j z) (sym (kind-is false false a b p q (k .kind) (k .is-supertype)) ∙ kind-is false false a b p q t is) h
+  has k z h = subst (λ (j : ℕ). Has j z) (sym (kind-is a b p q false false (k .kind) (k .is-supertype)) ∙ kind-is a b p q false false t is) h
 
   pub listed : t ≤ Int128 → Listed t
-  listed l = go (subst (Answered a b) (kind-is false false a b p q t is) (answered a b p q))
+  listed l = go (told a b p q false false t is)
     where
       go : Answered a b t → Listed t
       go (float64 e f u x y) = absurd (omega arith)
@@ -77,7 +75,7 @@ module _ (a b : ℕ) (p : Listed a) (q : Listed b) (t : ℕ) (is : supertype fal
   -- Float64, which has not every number of UInt64
   pub rounds : Int128 < t → Kept a b → ⊥
   unfolding isSignedInteger among
-  rounds l k = go (subst (Answered a b) (kind-is false false a b p q t is) (answered a b p q))
+  rounds l k = go (told a b p q false false t is)
     where
       logged : t ≡ Float64 → Logged a b odd → ⊥
       logged f (left h) = not-float64 (subst (λ (j : ℕ). Has j odd) f (has k odd (k .left odd h)))

@@ -13,7 +13,6 @@ use Rattle.flat.proofs.Rules.{and-left, and-right}
 use Rattle.datatypes.specs.Match.{among}
 use Rattle.datatypes.specs.Predicate.{isSignedInteger}
 use Rattle.utils.specs.Join.{node}
-use Rattle.utils.specs.declared.join.Node.{Node}
 use Rattle.utils.specs.declared.join.Supertype.the-variants.{Some}
 use Rattle.utils_numbers.specs.Range.{Listed, Holds, Includes}
 use Rattle.utils_numbers.proofs.Tests.{isListed, to-listed}
@@ -23,7 +22,7 @@ use Rattle.utils_arms.specs.Supertype.{supertype}
 use Rattle.utils_arms.proofs.Answers.{to-T}
 use Rattle.utils_report.specs.Laws.{uint128WithSigned, uint64WithSigned, Logged, left, right, Merged, NumberLaws}
 use Rattle.utils_report.proofs.Rounding.{merged}
-use Rattle.utils_report.proofs.Pairs.{joined, is-joined, Answered, float64, integral, answered}
+use Rattle.utils_report.proofs.Pairs.{joined, is-joined, Answered, float64, integral, answered, told}
 
 -- ---- the pairs that the laws name
 
@@ -78,9 +77,6 @@ uint64-logged a b e z h = go (uint64-is a b e)
 -- ---- the laws
 
 module _ (i s : Bool) (a b : ℕ) (p : Listed a) (q : Listed b) where
-  pub kind-is : (t : ℕ) → supertype i s (node a 0) (node b 0) ≡ Some (node t 0) → joined a b ≡ t
-  kind-is t e = let f = is-joined a b p q i s in let n : node (joined a b) 0 ≡ node t 0 = cc in ap (λ (m : Node). m .kind) n
-
   answers : (t : ℕ) × (supertype i s (node a 0) (node b 0) ≡ Some (node t 0)) × ((t ≡ Float64 → ⊥) → Listed t)
   answers = (joined a b, is-joined a b p q i s, go (answered a b p q))
     where
@@ -89,7 +85,7 @@ module _ (i s : Bool) (a b : ℕ) (p : Listed a) (q : Listed b) where
       go (integral e l k) n = l
 
   integers : (t : ℕ) → Listed t → supertype i s (node a 0) (node b 0) ≡ Some (node t 0) → (Includes t a × Includes t b) ↔ (uint128WithSigned a b ≡ false)
-  integers t l e = go (subst (Answered a b) (kind-is t e) (answered a b p q))
+  integers t l e = go (told a b p q i s t e)
     where
       go : Answered a b t → (Includes t a × Includes t b) ↔ (uint128WithSigned a b ≡ false)
       go (float64 d f u x y) = absurd (omega arith)
@@ -99,7 +95,7 @@ module _ (i s : Bool) (a b : ℕ) (p : Listed a) (q : Listed b) where
   floats = (there, back (answered a b p q))
     where
       there : supertype i s (node a 0) (node b 0) ≡ Some (node Float64 0) → uint64WithSigned a b ≡ true
-      there e = go (subst (Answered a b) (kind-is Float64 e) (answered a b p q))
+      there e = go (told a b p q i s Float64 e)
         where
           go : Answered a b Float64 → uint64WithSigned a b ≡ true
           go (float64 d f u x y) = d

@@ -12,6 +12,7 @@ use Rattle.datatypes.specs.Predicate.{isNested}
 use Rattle.datatypes.specs.Equality.{equalNode}
 use Rattle.datatypes.proofs.Runs.{same, are-same}
 use Rattle.utils.specs.Join.{node}
+use Rattle.utils.specs.declared.join.Node.{Node}
 use Rattle.utils.specs.declared.join.Supertype.{Supertype}
 use Rattle.utils.specs.declared.join.Supertype.the-variants.{Some, Nothing}
 use Rattle.utils_numbers.specs.Range.{Listed, Includes}
@@ -124,6 +125,13 @@ module _ (a b : ℕ) (p : Listed a) (q : Listed b) where
       go : (x : Bool) → uint64WithSigned a b ≡ x → T (cond x (isFloat a b (joined a b)) (isInteger a b (joined a b))) → Answered a b (joined a b)
       go true e t = to-float (joined a b) e t
       go false e t = to-integer (joined a b) e t
+
+  -- whatever the flags, there is one such kind
+  pub kind-is : (i s : Bool) (t : ℕ) → supertype i s (node a 0) (node b 0) ≡ Some (node t 0) → joined a b ≡ t
+  kind-is i s t e = let f = is-joined i s in let n : node (joined a b) 0 ≡ node t 0 = cc in ap (λ (m : Node). m .kind) n
+
+  pub told : (i s : Bool) (t : ℕ) → supertype i s (node a 0) (node b 0) ≡ Some (node t 0) → Answered a b t
+  told i s t e = subst (Answered a b) (kind-is i s t e) answered
 
 -- ---- it is the code's
 

@@ -48,13 +48,14 @@ module _ (x y : ℕ) where
   one Report.NotIntegers (Report.Refused e) h k = absurd k
   one (Report.Refused e) b h k = absurd h
 
+-- two reports that the contract allows are one
 pub one-report : (l r : Reading) (a b : Report) → Reports l r a → Reports l r b → a ≡ b
 unfolding Reports
 one-report (refused e) r a b h k = h ∙ sym k
 one-report (type t) (refused e) a b h k = h ∙ sym k
 one-report (type t) (type u) a b h k = one (headKind t) (headKind u) a b h k
 
--- ---- and one
+-- ---- at least one
 
 decListed : (k : ℕ) → Dec (Listed k)
 decListed k = go (decLe UInt8 k) (decLe k Int128)
@@ -95,6 +96,7 @@ module _ (a b : ℕ) where
       go (yes p) (no n) = (Report.NotIntegers, λ h. n (h .1))
       go (no n) d = (Report.NotIntegers, λ h. n (h .0))
 
+-- and it always allows one
 pub some-report : (l r : Reading) → (a : Report) × Reports l r a
 unfolding Reports
 some-report (refused e) r = (Report.Refused e, refl)
