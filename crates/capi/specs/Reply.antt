@@ -1,6 +1,7 @@
 -- The answers of the C entry points: document 01's number, and a value beside it. Assumes nothing: these are definitions.
 use mathlib.Core.Path.{_≡_}
 use mathlib.Core.List.{List}
+use mathlib.Core.Option.{Option}
 use Prim.Native.Nat.{ℕ}
 use Rattle.flat.specs.Refusal.{numberOf}
 use Rattle.flat.specs.Tree.{DataType, size}
@@ -17,6 +18,11 @@ use Rattle.datatypes_cast.specs.Verdict.{verdictNumber, verdictValue}
 use Rattle.datatypes_cast.specs.declared.Verdict.{Verdict}
 use Rattle.datatypes_cast.specs.declared.dtype.Cast.{Cast}
 use Rattle.utils.specs.TimeUnits.{getTimeUnits}
+use Rattle.utils.specs.Join.{joinedOf, joinedNumber, joinedValue, kindsFound, argsFound}
+use Rattle.utils.specs.declared.join.Joined.{Joined}
+use Rattle.utils_report.specs.Report.{Reports, reportNumber, reportValue}
+use Rattle.utils_report.specs.declared.Report.{Report}
+use Rattle.encoding_join.specs.Join.{joinedBytes, bytesFound}
 use Rattle.flat.specs.declared.Written.{Written}
 use Rattle.capi.specs.declared.Reply.{Reply}
 
@@ -58,6 +64,30 @@ unitsReply (Unit.Of l) (Unit.Of r) = record { number = 0; value = unitNumber (ge
 abbrev pub writtenReply : Written → Reply
 writtenReply (Written.Nodes n) = record { number = 0; value = n }
 writtenReply (Written.Refused e) = record { number = numberOf e; value = 0 }
+
+-- what a call answers that joins two types: the number of nodes or of bytes, 0 for None
+abbrev pub joinedReply : Joined → Reply
+joinedReply j = record { number = joinedNumber j; value = joinedValue j }
+
+-- What such a call comes to, of flat types and of encoded ones.
+pub record FlatJoinReply (found : Option Reading) (ks xs ks′ xs′ : List ℕ) (reply : Reply) : Type 0 where
+  pub replies : reply ≡ joinedReply (joinedOf found)
+  pub kinds : ks′ ≡ kindsFound found ks
+  pub args : xs′ ≡ argsFound found xs
+
+pub record JoinReply (w : ℕ) (found : Option Reading) (out out′ : List ℕ) (reply : Reply) : Type 0 where
+  pub replies : reply ≡ joinedReply (joinedBytes w found)
+  pub bytes : out′ ≡ bytesFound w found out
+
+-- what a report says
+abbrev pub reportReply : Report → Reply
+reportReply a = record { number = reportNumber a; value = reportValue a }
+
+-- The reply to a call for one: that of a report which says what is so, and there is exactly one.
+pub record ReportReply (left right : Reading) (reply : Reply) : Type 0 where
+  pub report : Report
+  pub reports : Reports left right report
+  pub replies : reply ≡ reportReply report
 
 -- What a call comes to that writes a flat type: the number of nodes, and the two lent arrays, ks and xs before the call and ks′ and xs′ after it.
 pub record DecodeReply (r : Reading) (ks xs ks′ xs′ : List ℕ) (reply : Reply) : Type 0 where

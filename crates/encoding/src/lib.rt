@@ -4,12 +4,13 @@ mod bytes;
 ghost use mathlib.Core.Path.{_≡_};
 ghost use Prim.Native.Nat.{_≤_};
 ghost use lib.ListN.{length};
-ghost use Rattle.flat.specs.Reading.{reading, checkedOf};
+ghost use Rattle.flat.specs.Reading.{reading, checkedOf, rootOf, RootFits};
 ghost use Rattle.flat.specs.Output.{over, fitting, Writes};
 ghost use Rattle.encoding.specs.Encoding.{argsIn, decoding};
 ghost use Rattle.encoding.specs.Answer.{nodesIn, fittingBytes, Opens, Encodes, Puts};
 use flat::Checked;
 use flat::Flat;
+use flat::Root;
 use flat::Written;
 use flat::error::Error;
 
@@ -137,6 +138,24 @@ pub fn open(encoded: &[u8], args: &mut [u64]) -> Written
     match check_with(encoded, n, args) {
         Checked::Valid => Written::Nodes(n),
         Checked::Refused(e) => Written::Refused(e),
+    }
+}
+
+// Checks an encoded type, and gives its root: refusals 1 to 5.
+pub fn check_root(encoded: &[u8]) -> Root
+    ensures { λ r. do
+      nodes ← ⟦Flat::MAX_NODES⟧ .entry
+      deep ← ⟦Flat::MAX_DEPTH⟧ .entry
+      w ← ⟦Encoding::ARGUMENT_BYTES⟧ .entry
+      ⌜ (r ≡ rootOf (decoding w nodes deep (now (encoded .entry)))) × RootFits r ⌝ }
+{
+    let n = node_count(encoded);
+    if n == 1 {
+        return flat::check_root_one(encoded[2], bytes::word(encoded, 3));
+    }
+    match check(encoded) {
+        Checked::Refused(e) => Root::Refused(e),
+        Checked::Valid => Root::Node(encoded[2], bytes::word(encoded, 2 + n)),
     }
 }
 

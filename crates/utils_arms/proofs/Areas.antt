@@ -6,9 +6,9 @@ use Prim.Native.Nat.{ℕ, _+_, _-_}
 use native.Mathlib.Omega.{arith}
 use lib.Dec.{T, eqb, ltb, eqb→eq}
 use lib.ListN.{getD, List·getD-eq-default}
-use Rattle.flat.specs.Kind.{Date, Time, UnknownAny}
+use Rattle.flat.specs.Kind.{String, Date, Time, UnknownAny, UnknownStr, UnknownFloat}
 use Rattle.flat.specs.Tree.{headKind}
-use Rattle.flat.proofs.Rules.{In, area, in-area, and-left, and-right, or-right}
+use Rattle.flat.proofs.Rules.{In, in-run, area, in-area, and-left, and-right, or-right}
 use Rattle.datatypes.specs.Match.{among}
 use Rattle.datatypes.specs.Predicate.{isFloat, isUnknownInt, isSignedInteger, isUnsignedInteger, isInteger, isPrimitiveNumeric, isPrimitive, isString, isUnknown}
 use Rattle.datatypes.specs.Physical.{physicalLeaf, physicalKind}
@@ -96,3 +96,20 @@ alone-right s a b h e = rule-apart (λ s a b. cond (ltb b UnknownAny) No (Kind U
 
 pub apart-at : {k a b : ℕ} → a ≡ k → Apart a b → Apart k b
 apart-at {k} {a} {b} e h = subst (λ (i : ℕ). Apart i b) e h
+
+-- ---- the plans of the pairs whose two orders differ, against the order of their kinds
+
+-- any with String: the String arm's guard holds whichever the flag
+pub any-string : (s : Bool) → planOf s UnknownAny String ≡ Kind String
+unfolding right-at
+any-string true = refl
+any-string false = refl
+
+-- dyn float or a dyn int with str
+pub dyn-str : (s : Bool) (a : ℕ) → UnknownFloat ≤ a → a < UnknownFloat + 3 → planOf s a UnknownStr ≡ Kind UnknownAny
+unfolding right-at
+dyn-str s a h u = alike-eq (planOf s a UnknownStr) (Kind UnknownAny) (go s)
+  where
+    go : (s : Bool) → T (alike (planOf s a UnknownStr) (Kind UnknownAny))
+    go true = in-run (λ a. alike (planOf true a UnknownStr) (Kind UnknownAny)) UnknownFloat 3 tt a h u
+    go false = in-run (λ a. alike (planOf false a UnknownStr) (Kind UnknownAny)) UnknownFloat 3 tt a h u

@@ -30,7 +30,7 @@ fn str_if(to_string: bool) -> Plan
     }
 }
 
-// Binary, BinaryOffset and Time join no known type from themselves on; nor do Date, Datetime and Duration from Time on.
+// Binary, BinaryOffset and Time join no known type; Date, Datetime and Duration none from Time on.
 fn alone(b: u8) -> Plan
     ensures { λ r. ⌜ r ≡ cond (ltb b UnknownAny) Plan.No (Plan.Kind UnknownAny) ⌝ }
 {

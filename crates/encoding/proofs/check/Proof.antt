@@ -3,11 +3,9 @@ use borrow.Author.Needs.{needs}
 use native.Mathlib.Omega.{arith}
 use mathlib.Core.Path.{_≡_, sym, ap}
 use lib.ListN.{length}
-use lib.Seq.{drop-cons}
-use borrow.Rule.Slice.PartAt.{part-to-end}
 use Rattle.flat.specs.Reading.{checkedOf}
-use Rattle.encoding.specs.Encoding.{argsFrom, encodedSize}
-use Rattle.encoding.proofs.Answers.{nodes-some, kinds-part, args-part, decoding-sized, decoding-none}
+use Rattle.encoding.specs.Encoding.{encodedSize}
+use Rattle.encoding.proofs.Answers.{nodes-some, decoding-one, decoding-none}
 use Rattle.encoding.proofs.check.Statement.{statement}
 use Rattle.encoding.proofs.check.Tie as tie
 
@@ -20,11 +18,9 @@ right-size c = nodes-some (c .before .node-count .ensures) (c .if1 .left) .size
 
 -- one node
 returns-2 : tie.Need-returns-2
-unfolding argsFrom
 returns-2 c =
-    let s = c .before .before .before .before .before .before .before .args .encoded .now in
     let sized = rw (c .before .before .before .if2 .taken) at (nodes-some (c .before .before .before .before .before .node-count .ensures) (c .before .before .before .before .if1 .left)) in
-    rw (c .check-one .ensures, c .before .word .ensures, decoding-sized sized, ← kinds-part sized, ← args-part sized, part-to-end, drop-cons s 2 0 (omega (arith, sized .size)))
+    rw (c .check-one .ensures, c .before .word .ensures, decoding-one sized)
 
 -- few, and more
 check-with-requires : tie.Need-check-with-requires

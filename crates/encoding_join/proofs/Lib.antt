@@ -1,0 +1,1 @@
+-- What a call comes to that joins two encoded types.
