@@ -4,4 +4,3 @@ mod Pairs
 mod Laws
 mod Keeping
 mod Settled
-mod Readings

@@ -6,7 +6,7 @@ use native.Mathlib.Omega.{arith}
 use native.Mathlib.Decide.{decLe}
 use lib.Dec.{T}
 use Rattle.flat.specs.Kind.{UInt8, Int128}
-use Rattle.flat.specs.Tree.{headKind}
+use Rattle.flat.specs.Tree.{headKind, headArg}
 use Rattle.flat.specs.Reading.{Reading, refused, type}
 use Rattle.utils.specs.Join.{node}
 use Rattle.utils.specs.declared.join.Supertype.the-variants.{Some}
@@ -17,7 +17,7 @@ use Rattle.utils_lossless.specs.declared.upcast.Upcast.the-variants.{To, Nothin
 use Rattle.utils_arms.specs.Supertype.{supertype}
 use Rattle.utils_report.specs.Kept.{Kept}
 use Rattle.utils_report.specs.Laws.{uint128WithSigned}
-use Rattle.utils_report.specs.Report.{Says, Reports}
+use Rattle.utils_report.specs.Report.{Says, RootsReport, Reports}
 use Rattle.utils_report.specs.declared.Report.{Report}
 use Rattle.utils_report.proofs.Pairs.{joined, is-joined, Answered, float64, integral, answered}
 use Rattle.utils_report.proofs.Keeping.{keeps, misses, rounds, avoidable, unavoidable}
@@ -50,7 +50,7 @@ module _ (x y : ℕ) where
 
 -- two reports that the contract allows are one
 pub one-report : (l r : Reading) (a b : Report) → Reports l r a → Reports l r b → a ≡ b
-unfolding Reports
+unfolding Reports RootsReport headKind headArg
 one-report (refused e) r a b h k = h ∙ sym k
 one-report (type t) (refused e) a b h k = h ∙ sym k
 one-report (type t) (type u) a b h k = one (headKind t) (headKind u) a b h k
@@ -98,7 +98,7 @@ module _ (a b : ℕ) where
 
 -- and it always allows one
 pub some-report : (l r : Reading) → (a : Report) × Reports l r a
-unfolding Reports
+unfolding Reports RootsReport headKind headArg
 some-report (refused e) r = (Report.Refused e, refl)
 some-report (type t) (refused e) = (Report.Refused e, refl)
 some-report (type t) (type u) = some (headKind t) (headKind u)
