@@ -8,7 +8,7 @@ use lib.Dec.{T, leb, eqb, leb→le, eqb→eq}
 use borrow.Author.Tests.{eq-eqb, ne-eqb, ltb-true}
 use Rattle.flat.specs.Kind
 use Rattle.flat.specs.Argument.{timeUnits, argumentFits, ruleOf as argumentRule}
-use Rattle.flat.proofs.Rules.{in-run, and-left, and-right}
+use Rattle.flat.proofs.Rules.{in-run, and-left, and-right, or-right}
 use Rattle.datatypes.specs.Match.{among}
 use Rattle.datatypes.specs.Predicate.{isUnknownInt}
 use Rattle.datatypes.specs.TimeUnit.{unitNumber}
@@ -25,7 +25,7 @@ use Rattle.utils_arms.specs.declared.plan.Plan.the-variants as plan
 use Rattle.utils_arms.specs.Node.{unitAt, unit, zone, value, plain, fits}
 use Rattle.utils_arms.specs.Supertype.{dynNumber, run, knownSupertype}
 use Rattle.utils_arms.specs.Rule.{norm, ruleOf, Apart}
-use Rattle.utils_arms.proofs.Areas.{or-right, codeOf, alike}
+use Rattle.utils_arms.proofs.Areas.{codeOf, alike}
 use Rattle.utils_arms.proofs.Answers.{is-true, plain-zero, same-node, zones, normal, everywhere, at-apart}
 use Rattle.utils_arms.proofs.Recursive.{dyn-int-of}
 use Rattle.utils_supertype.proofs.Numbers.{known-boolean}
