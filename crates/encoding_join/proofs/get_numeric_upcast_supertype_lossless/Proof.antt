@@ -1,37 +1,14 @@
+-- `encoding_join::get_numeric_upcast_supertype_lossless` meets its contract. Assumes nothing.
 use borrow.Author.Needs.{needs}
+use Rattle.encoding.specs.Encoding.{decoding}
+use Rattle.utils_lossless.proofs.Roots.{joined}
 use Rattle.encoding_join.proofs.get_numeric_upcast_supertype_lossless.Statement.{statement}
 use Rattle.encoding_join.proofs.get_numeric_upcast_supertype_lossless.Tie as tie
-use Rattle.encoding_join.proofs.get_numeric_upcast_supertype_lossless.Reads as reads
-use Rattle.encoding_join.proofs.get_numeric_upcast_supertype_lossless.Lts as lts
-use Rattle.encoding.proofs.check_root.Reads as check-root-reads
-use Rattle.encoding_join.proofs.put.Reads as put-reads
-use Rattle.utils_lossless.proofs.upcast_roots.Reads as upcast-roots-reads
-
-check-root-requires : tie.Need-check-root-requires
-check-root-requires c κs = search needs
-
-check-root-requires-2 : tie.Need-check-root-requires-2
-check-root-requires-2 c κs = search needs
-
-upcast-roots-requires : tie.Need-upcast-roots-requires
-upcast-roots-requires c κs = search needs
-
-put-requires : tie.Need-put-requires
-put-requires c κs = search needs
-
-same-length : tie.Need-same-length
-same-length c = search needs
 
 returns : tie.Need-returns
-returns c = search needs
+returns c =
+    let at = c .before .before .before .before in
+    rw (← joined (decoding _ _ _ _) (decoding _ _ _ _) (at .before .before .check-root .ensures) (at .before .check-root2 .ensures) (at .upcast-roots .ensures)) (c .before .before .put .ensures)
 
 pub get-numeric-upcast-supertype-lossless-spec : {M : Type 1} → statement M
-get-numeric-upcast-supertype-lossless-spec =
-    tie.close
-    (tie.spec
-    check-root-requires
-    check-root-requires-2
-    upcast-roots-requires
-    put-requires
-    same-length
-    returns)
+get-numeric-upcast-supertype-lossless-spec = tie.close (tie.spec (λ c κs. search needs) (λ c κs. search needs) (λ c κs. search needs) (λ c κs. search needs) (λ c. search needs) returns)
