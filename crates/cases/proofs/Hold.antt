@@ -11,11 +11,11 @@ use Rattle.datatypes.specs.Materialize.{materialize, materializeUnknown}
 use Rattle.datatypes.specs.Physical.{physicalLeaf, physicalKind}
 use Rattle.utils_lossless.specs.Lossless.{choose, floats, signed, unsigned, mixed, upcastWhere, lossless, losslessOf}
 use Rattle.utils_arms.specs.Supertype.{unknownArms, arms, planOf, smallestFitting, dynNumber, run, inner, supertypeWith, knownSupertype, supertype}
-use Rattle.utils_supertype.specs.Pair.{isListed, decimalWithInteger, pairChecked, supertypeOf}
+use Rattle.utils_supertype.specs.Pair.{isListed, decimalWithInteger, pairChecked, rootSupertype, supertypeOf}
 use Rattle.cases.specs.Cases.{CasesHold}
 
 pub cases-hold : CasesHold
-unfolding count headKind headArg among isFloat isUnknownInt isSignedInteger isUnsignedInteger isInteger isPrimitiveNumeric isPrimitive isNested isString isUnknown equalNode equal castsWithBoolean beforeNested canCastTo valueOf materializeDynInt materializeDynIntPos materializeSmallestDynInt materialize materializeUnknown physicalLeaf physicalKind choose floats signed unsigned mixed upcastWhere lossless losslessOf unknownArms arms planOf smallestFitting dynNumber run inner supertypeWith knownSupertype supertype isListed decimalWithInteger pairChecked supertypeOf
+unfolding count headKind headArg among isFloat isUnknownInt isSignedInteger isUnsignedInteger isInteger isPrimitiveNumeric isPrimitive isNested isString isUnknown equalNode equal castsWithBoolean beforeNested canCastTo valueOf materializeDynInt materializeDynIntPos materializeSmallestDynInt materialize materializeUnknown physicalLeaf physicalKind choose floats signed unsigned mixed upcastWhere lossless losslessOf unknownArms arms planOf smallestFitting dynNumber run inner supertypeWith knownSupertype supertype isListed decimalWithInteger pairChecked rootSupertype supertypeOf
 cases-hold i true empty = refl
 cases-hold i false empty = refl
 cases-hold i true (field r t fs) = refl
