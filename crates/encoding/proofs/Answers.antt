@@ -12,7 +12,7 @@ use borrow.Rule.Slice.PartAt.{part-to-end}
 use lib.Dec.{leb}
 use lib.ListN.{length, getD, take, drop, length-drop}
 use lib.Seq.{length-take-le, take-at, drop-cons, getD-take, getD-drop}
-use Rattle.flat.specs.Tree.{DataType, size, headKind, headArg, kindsOf, argsOf}
+use Rattle.flat.specs.Tree.{DataType, size, kindsOf, argsOf}
 use Rattle.flat.specs.Reading.{Reading, refused, type, unless, reading, checkedOf}
 use Rattle.flat.specs.declared.Checked.{Checked}
 use Rattle.flat.specs.declared.Checked.the-variants.{Valid}
@@ -20,8 +20,7 @@ use Rattle.flat.specs.Output.{over, Writes}
 use Rattle.flat.specs.declared.error.Error.{Error}
 use Rattle.flat.specs.declared.error.Error.the-variants.{Length, OutputTooShort}
 use Rattle.flat.proofs.Sizes.{length-kinds}
-use Rattle.flat.proofs.Walks.{type-kind, type-arg}
-use Rattle.flat.proofs.Meaning.{holds, checked-type, checked-refused, Passed, check-passed}
+use Rattle.flat.proofs.Meaning.{holds, checked-type, checked-refused, Passed, check-passed, root-kind, root-arg}
 use Rattle.flat.proofs.Outputs.{writes-type}
 use Rattle.encoding.specs.Encoding.{number, argsFrom, encoding, encodedSize, countIn, kindsIn, argsIn, sizeFits, decoding}
 use Rattle.encoding.specs.Answer.{nodesIn, rootOf, fittingBytes, bytesOver, Encodes, Puts}
@@ -152,8 +151,7 @@ counted-form {w} {nodes} {deep} {n} {s} v e c = let f : EncodedForm w nodes deep
 -- ---- the root, where a check answers Valid
 
 pub passed-root : {nodes deep : ℕ} {ks xs : List ℕ} → Passed nodes deep ks xs → Root.Node (getD ks 0 0) (getD xs 0 0) ≡ rootOf (reading nodes deep ks xs)
-passed-root {nodes} {deep} {ks} {xs} p =
-    rw (p .reads) (ap₂ Root.Node (sym (type-kind ks xs (p .valid)) ∙ ap headKind (p .front)) (sym (type-arg ks xs (p .valid)) ∙ ap headArg (p .front)))
+passed-root p = rw (p .reads) (ap₂ Root.Node (sym (root-kind p)) (sym (root-arg p)))
 
 pub root-refused : (r : Reading) {e : Error} → Checked.Refused e ≡ checkedOf r → Root.Refused e ≡ rootOf r
 root-refused r {e} q = ap rootOf (sym (checked-refused r e q))

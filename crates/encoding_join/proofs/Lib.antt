@@ -1,1 +1,2 @@
 -- What a call comes to that joins two encoded types.
+mod Joining
