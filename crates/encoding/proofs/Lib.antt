@@ -2,5 +2,6 @@
 pub mod Laws
 pub mod Answers
 pub mod Opening
+pub mod Roots
 pub mod RoundTrip
 mod Examples

@@ -3,7 +3,7 @@ use borrow.Author.Needs.{needs}
 use mathlib.Core.Path.{sym, _∙_}
 use Rattle.flat.specs.Reading.{reading}
 use Rattle.flat.proofs.Meaning.{check-passed}
-use Rattle.encoding.proofs.Answers.{passed-root, root-refused}
+use Rattle.encoding.proofs.Roots.{passed-root, root-refused}
 use Rattle.encoding.proofs.one_root.Statement.{statement}
 use Rattle.encoding.proofs.one_root.Tie as tie
 

@@ -3,7 +3,8 @@ use borrow.Author.Needs.{needs}
 use native.Mathlib.Omega.{arith}
 use mathlib.Core.Path.{sym, _∙_}
 use Rattle.encoding.specs.Encoding.{decoding}
-use Rattle.encoding.proofs.Answers.{Sized, nodes-some, decoding-one, EncodedForm, counted-form, root-refused, form-root}
+use Rattle.encoding.proofs.Answers.{Sized, nodes-some, decoding-one, EncodedForm, counted-form}
+use Rattle.encoding.proofs.Roots.{root-refused, form-root}
 use Rattle.encoding.proofs.read_root.Statement.{statement}
 use Rattle.encoding.proofs.read_root.Tie as tie
 
