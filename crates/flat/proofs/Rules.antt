@@ -1,6 +1,6 @@
 -- A rule that a run of kinds has, or two runs: one test that antt computes over them. Assumes nothing.
 use mathlib.Core.Path.{_≡_, refl, sym, subst}
-use mathlib.Core.Bool.{Bool, true, false, _&&_}
+use mathlib.Core.Bool.{Bool, true, false, not, _&&_, _||_}
 use Prim.Native.Nat.{ℕ, zero, suc, _+_, _≤_, _<_}
 use native.Mathlib.Omega.{arith}
 use borrow.Author.Tests.{eqb-true, eqb-false, lt-leb}
@@ -25,6 +25,13 @@ and-right false b t = absurd t
 pub and-both : (a b : Bool) → T a → T b → T (a && b)
 and-both true b s t = t
 and-both false b s t = s
+
+pub or-right : {a : Bool} (b : Bool) → a ≡ false → T (a || b) → T b
+or-right b e t = subst (λ (x : Bool). T (x || b)) e t
+
+pub implies : (a b : Bool) → T (not a || b) → T a → T b
+implies true b t s = t
+implies false b t s = absurd s
 
 -- so of each of them
 pub in-run : (f : ℕ → Bool) (lo n : ℕ) → T (run f lo n) → (k : ℕ) → lo ≤ k → k < lo + n → T (f k)

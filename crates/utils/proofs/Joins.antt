@@ -2,18 +2,18 @@
 use mathlib.Core.Path.{_≡_, refl, ap}
 use mathlib.Core.List.{List, [], _∷_}
 use mathlib.Core.Option.{Option, none, some}
-use Prim.Native.Nat.{ℕ, _≤_, _<_}
+use Prim.Native.Nat.{ℕ, _≤_}
 use native.Mathlib.Omega.{arith}
 use lib.ListN.{length, set}
 use Rattle.flat.specs.Tree.{DataType, leaf, size, kindsOf, argsOf}
-use Rattle.flat.specs.Reading.{Reading, refused, type, reading, checkedOf}
+use Rattle.flat.specs.Reading.{Reading, refused, reading, checkedOf}
 use Rattle.flat.specs.Output.{fitting, over, kindsOver, argsOver}
 use Rattle.flat.specs.declared.error.Error.{Error}
 use Rattle.flat.specs.declared.error.Error.the-variants.{OutputTooShort}
 use Rattle.flat.specs.declared.Checked.{Checked}
 use Rattle.flat.proofs.Meaning.{Passed, checked-refused}
 use Rattle.flat.proofs.Outputs.{few-kinds, few-args, room}
-use Rattle.utils.specs.Join.{foundOf, joining, fittingFound, kindsFound, argsFound, Joins}
+use Rattle.utils.specs.Join.{foundOf, joining, fittingFound, Joins}
 use Rattle.utils.specs.declared.join.Node.{Node}
 use Rattle.utils.specs.declared.join.Supertype.{Supertype}
 use Rattle.utils.specs.declared.join.Joined.{Joined}

@@ -2,13 +2,13 @@
 use mathlib.Core.Path.{_≡_, refl, sym, _∙_, ap, subst}
 use mathlib.Core.Bool.{Bool, true, false, cond, _&&_, _||_}
 use mathlib.Core.List.{List, [], _∷_}
-use Prim.Native.Nat.{ℕ, _+_, _-_, _≤_, _<_}
+use Prim.Native.Nat.{ℕ, _+_, _-_}
 use native.Mathlib.Omega.{arith}
 use lib.Dec.{T, eqb, ltb, eqb→eq}
 use lib.ListN.{getD, List·getD-eq-default}
 use Rattle.flat.specs.Kind.{String, Date, Time, UnknownAny, UnknownStr, UnknownFloat}
 use Rattle.flat.specs.Tree.{headKind}
-use Rattle.flat.proofs.Rules.{In, area, in-area, and-left, and-right}
+use Rattle.flat.proofs.Rules.{In, area, in-area, and-left, and-right, or-right}
 use Rattle.datatypes.specs.Match.{among}
 use Rattle.datatypes.specs.Predicate.{isFloat, isUnknownInt, isSignedInteger, isUnsignedInteger, isInteger, isPrimitiveNumeric, isPrimitive, isString, isUnknown}
 use Rattle.datatypes.specs.Physical.{physicalLeaf, physicalKind}
@@ -17,10 +17,6 @@ use Rattle.utils_arms.specs.declared.plan.Plan.the-variants.{No, Left, R
 use Rattle.utils_arms.specs.Node.{plain}
 use Rattle.utils_arms.specs.Supertype.{arms, unknownArms, planOf}
 use Rattle.utils_arms.specs.Rule.{norm, ruleOf, skip, Apart}
-
--- a, or else b
-pub or-right : {a : Bool} (b : Bool) → a ≡ false → T (a || b) → T b
-or-right b e t = subst (λ (x : Bool). T (x || b)) e t
 
 -- ---- plans as numbers
 

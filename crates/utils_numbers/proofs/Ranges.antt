@@ -10,7 +10,7 @@ use lib.Dec.{T, leb, eqb, leb→le, le→leb, ltb→lt, lt→ltb, eqb→eq}
 use lib.Pow.{pow-pos, pow-mono, pow-lt}
 use lib.IntN.{ℤ, pos, negsuc}
 use lib.Signed.{mag, nonNeg}
-use Rattle.flat.proofs.Rules.{and-left, and-right, and-both}
+use Rattle.flat.proofs.Rules.{and-left, and-right, and-both, implies}
 use Rattle.datatypes.specs.Match.{among}
 use Rattle.datatypes.specs.Predicate.{isSignedInteger}
 use Rattle.datatypes.specs.Integer.{inRange, widthOf}
@@ -87,11 +87,7 @@ apart a b = not (inside a b && inside b a) || eqb a b
 
 pub same : (a b : ℕ) → Listed a → Listed b → Includes a b → Includes b a → a ≡ b
 unfolding isSignedInteger among
-same a b p q f g = eqb→eq a b (go (inside a b && inside b a) (at-pair apart tt a b p q) (and-both (inside a b) (inside b a) (includes a b p q .0 f) (includes b a q p .0 g)))
-  where
-    go : (x : Bool) → T (not x || eqb a b) → T x → T (eqb a b)
-    go true t s = t
-    go false t s = absurd s
+same a b p q f g = eqb→eq a b (implies (inside a b && inside b a) (eqb a b) (at-pair apart tt a b p q) (and-both (inside a b) (inside b a) (includes a b p q .0 f) (includes b a q p .0 g)))
 
 -- so that there is one least type
 pub least-one : {ks : List ℕ} {t u : ℕ} → Least t ks → Least u ks → t ≡ u
