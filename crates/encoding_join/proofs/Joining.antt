@@ -1,7 +1,7 @@
--- What a call comes to that joins two encoded types: None and a refusal leave all as it was, and what was found is encoded. Assumes nothing.
+-- What a call comes to that joins two encoded types: a refusal leaves all as it was, and what was found is encoded. Assumes nothing.
 use mathlib.Core.Path.{_≡_, refl, sym, ap, _∙_}
 use mathlib.Core.List.{List}
-use mathlib.Core.Option.{Option, none, some}
+use mathlib.Core.Option.{Option, some}
 use Prim.Native.Nat.{ℕ}
 use native.Mathlib.Omega.{arith}
 use Rattle.flat.specs.Reading.{Reading, refused, type}
@@ -10,9 +10,6 @@ use Rattle.encoding.specs.Answer.{fittingBytes, bytesOver, encodedOf, Encodes}
 use Rattle.encoding.specs.declared.Encoded.{Encoded}
 use Rattle.utils.specs.declared.join.Joined.{Joined}
 use Rattle.encoding_join.specs.Join.{fittingFoundBytes, joinedBytes, JoinsBytes}
-
-pub joins-nothing : (w m : ℕ) {found : Option Reading} {out : List ℕ} → found ≡ none → JoinsBytes w (fittingFoundBytes w m found) out out Joined.Nothing
-joins-nothing w m h = rw h (record { answers = refl; bytes = refl })
 
 pub joins-refused : (w m : ℕ) {found : Option Reading} {e : Error} {out : List ℕ} → found ≡ some (refused e) → JoinsBytes w (fittingFoundBytes w m found) out out (Joined.Refused e)
 unfolding fittingBytes bytesOver
