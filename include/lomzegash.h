@@ -145,6 +145,45 @@ lz_reply lz_materialize_unknown(const uint8_t *encoded, size_t encoded_len,
 lz_shape_reply lz_get_shape(const uint8_t *encoded, size_t encoded_len);
 
 /*
+ * Two types joined into one, encoded into out. Each is refused by 8, last of all, where out_len
+ * is below the length of the result. The value is that length: so many bytes of out are
+ * written, the others keep what they held. Value 0 says that there is no such type, and
+ * then, as where it is refused, a call writes nothing.
+ *
+ * The smallest numeric type that both can be cast to without loss; none where the two are
+ * equal or either isn't numeric.
+ */
+lz_reply lz_get_numeric_upcast_supertype_lossless(const uint8_t *left, size_t left_len,
+                                                  const uint8_t *right, size_t right_len,
+                                                  uint8_t *out, size_t out_len);
+
+/*
+ * The type that both can be cast to, with loss where the source takes it for reasonable.
+ * Each flag is off at 0 and else on. Refused by 6 where either type is nested, then by 13
+ * where one is a Decimal and the other an integer type, codes 2 to 11.
+ */
+lz_reply lz_get_supertype_with_options(const uint8_t *left, size_t left_len,
+                                       const uint8_t *right, size_t right_len,
+                                       uint8_t allow_implode_list,
+                                       uint8_t allow_primitive_to_string,
+                                       uint8_t *out, size_t out_len);
+
+/* What the values of lz_join_report say. */
+enum lz_join {
+    LZ_JOIN_KEEPS = 0,            /* the supertype keeps every whole number of both */
+    LZ_JOIN_LOSES_NEEDLESSLY = 1, /* it doesn't, and an integer type exists that holds both ranges */
+    LZ_JOIN_LOSES_INEVITABLY = 2, /* it doesn't, and no integer type holds both ranges */
+    LZ_JOIN_NOT_INTEGERS = 3      /* the two aren't integer types, codes 2 to 11 */
+};
+
+/*
+ * What the supertype of two integer types, both flags off, does to their whole numbers.
+ * The value is one of lz_join. Nothing is written.
+ */
+lz_reply lz_join_report(const uint8_t *left, size_t left_len,
+                        const uint8_t *right, size_t right_len);
+
+/*
  * The coarser of two time units, 0 ns, 1 us, 2 ms.
  * Refused by 3 where either is no unit, and by nothing else. The value is the unit.
  */
@@ -152,9 +191,9 @@ lz_reply lz_get_time_units(uint8_t left, uint8_t right);
 
 /*
  * Some of these on flat types, kinds and args, for callers that keep types so. Two arrays of unequal
- * length are refused by 1. lz_flat_materialize_unknown and lz_flat_to_physical write to the
- * front of out_kinds and out_args and are refused by 8 where either is too short; the value is
- * the number of nodes.
+ * length are refused by 1. Those that make a type write it to the front of out_kinds and
+ * out_args and are refused by 8 where either is too short; the value is the number of nodes,
+ * 0 where there is no such type.
  */
 lz_reply lz_flat_is_known(const uint8_t *kinds, size_t kinds_len,
                           const uint64_t *args, size_t args_len);
@@ -175,6 +214,20 @@ lz_reply lz_flat_to_physical(const uint8_t *kinds, size_t kinds_len,
                              const uint64_t *args, size_t args_len,
                              uint8_t *out_kinds, size_t out_kinds_len,
                              uint64_t *out_args, size_t out_args_len);
+lz_reply lz_flat_get_numeric_upcast_supertype_lossless(const uint8_t *left_kinds, size_t left_kinds_len,
+                                                       const uint64_t *left_args, size_t left_args_len,
+                                                       const uint8_t *right_kinds, size_t right_kinds_len,
+                                                       const uint64_t *right_args, size_t right_args_len,
+                                                       uint8_t *out_kinds, size_t out_kinds_len,
+                                                       uint64_t *out_args, size_t out_args_len);
+lz_reply lz_flat_get_supertype_with_options(const uint8_t *left_kinds, size_t left_kinds_len,
+                                            const uint64_t *left_args, size_t left_args_len,
+                                            const uint8_t *right_kinds, size_t right_kinds_len,
+                                            const uint64_t *right_args, size_t right_args_len,
+                                            uint8_t allow_implode_list,
+                                            uint8_t allow_primitive_to_string,
+                                            uint8_t *out_kinds, size_t out_kinds_len,
+                                            uint64_t *out_args, size_t out_args_len);
 
 #ifdef __cplusplus
 }

@@ -1,15 +1,22 @@
 -- The worked cases hold, of the definitions. Assumes nothing.
 use mathlib.Core.Path.{_≡_, refl}
-use Rattle.flat.specs.Tree.{Fields, empty, field, count, headKind}
+use mathlib.Core.Bool.{true, false}
+use Rattle.flat.specs.Tree.{Fields, empty, field, count, headKind, headArg}
 use Rattle.datatypes.specs.Match.{among}
-use Rattle.datatypes.specs.Predicate.{isFloat, isUnknownInt, isSignedInteger, isUnsignedInteger, isInteger, isPrimitiveNumeric, isUnknown}
+use Rattle.datatypes.specs.Predicate.{isFloat, isUnknownInt, isSignedInteger, isUnsignedInteger, isInteger, isPrimitiveNumeric, isPrimitive, isNested, isString, isUnknown}
 use Rattle.datatypes.specs.Equality.{equalNode, equal}
 use Rattle.datatypes.specs.Cast.{castsWithBoolean, beforeNested, canCastTo}
-use Rattle.datatypes.specs.DynInt.{valueOf, materializeDynInt}
+use Rattle.datatypes.specs.DynInt.{valueOf, materializeDynInt, materializeDynIntPos, materializeSmallestDynInt}
 use Rattle.datatypes.specs.Materialize.{materialize, materializeUnknown}
+use Rattle.datatypes.specs.Physical.{physicalLeaf, physicalKind}
+use Rattle.utils_lossless.specs.Lossless.{choose, floats, signed, unsigned, mixed, upcastWhere, lossless, losslessOf}
+use Rattle.utils_arms.specs.Supertype.{unknownArms, arms, planOf, smallestFitting, dynNumber, run, inner, supertypeWith, knownSupertype, supertype}
+use Rattle.utils_supertype.specs.Pair.{isListed, decimalWithInteger, pairChecked, supertypeOf}
 use Rattle.cases.specs.Cases.{CasesHold}
 
 pub cases-hold : CasesHold
-unfolding count headKind among isFloat isUnknownInt isSignedInteger isUnsignedInteger isInteger isPrimitiveNumeric isUnknown equalNode equal castsWithBoolean beforeNested canCastTo valueOf materializeDynInt materialize materializeUnknown
-cases-hold empty = refl
-cases-hold (field r t fs) = refl
+unfolding count headKind headArg among isFloat isUnknownInt isSignedInteger isUnsignedInteger isInteger isPrimitiveNumeric isPrimitive isNested isString isUnknown equalNode equal castsWithBoolean beforeNested canCastTo valueOf materializeDynInt materializeDynIntPos materializeSmallestDynInt materialize materializeUnknown physicalLeaf physicalKind choose floats signed unsigned mixed upcastWhere lossless losslessOf unknownArms arms planOf smallestFitting dynNumber run inner supertypeWith knownSupertype supertype isListed decimalWithInteger pairChecked supertypeOf
+cases-hold i true empty = refl
+cases-hold i false empty = refl
+cases-hold i true (field r t fs) = refl
+cases-hold i false (field r t fs) = refl

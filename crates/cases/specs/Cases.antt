@@ -8,19 +8,31 @@ use lib.IntN.{ℤ, pos, negsuc, negℤ}
 use Rattle.flat.specs.Kind
 use Rattle.flat.specs.Tree.{DataType, leaf, struct, Fields, empty, field}
 use Rattle.datatypes.specs.Cast.{canCastTo}
+use Rattle.flat.specs.Reading.{Reading, type}
+use Rattle.datatypes.specs.DynInt.{materializeSmallestDynInt}
 use Rattle.datatypes.specs.Materialize.{materializeUnknown}
+use Rattle.utils_lossless.specs.Lossless.{losslessOf}
+use Rattle.utils_supertype.specs.Pair.{supertypeOf}
 
 -- what is asked of the rules
 pub data Asked : Type 0 where
+  supertype : (implode toString : Bool) → DataType → DataType → Asked
+  lossless : DataType → DataType → Asked
+  smallest-dyn-int : ℤ → Asked
   can-cast : DataType → DataType → Asked
   materialize : (allow : Bool) → DataType → Asked
 
--- what they answer: yes, no or no verdict; a type, or that the call is refused
+-- what they answer: some type, None or a refusal; a kind; yes, no or no verdict; a type, or that the call is refused
 pub data Answered : Type 0 where
+  joined : Option Reading → Answered
+  kind : ℕ → Answered
   verdict : Option Bool → Answered
   result : Option DataType → Answered
 
 abbrev pub answer : Asked → Answered
+answer (supertype implode toString l r) = joined (supertypeOf implode toString l r)
+answer (lossless l r) = joined (losslessOf l r)
+answer (smallest-dyn-int v) = kind (materializeSmallestDynInt v)
 answer (can-cast from to) = verdict (canCastTo from to)
 answer (materialize allow t) = result (materializeUnknown allow t)
 
@@ -31,6 +43,12 @@ pub record Case : Type 0 where
 
 abbrev pub case : ℕ → Asked → Answered → Case
 case n q a = record { corner = n; asked = q; answered = a }
+
+abbrev pub joins : DataType → Answered
+joins t = joined (some (type t))
+
+abbrev pub no-type : Answered
+no-type = joined none
 
 abbrev pub yes : Answered
 yes = verdict (some true)
@@ -63,11 +81,35 @@ one n t = struct (field n t empty)
 abbrev pub two : ℕ → DataType → DataType → DataType
 two n t u = struct (field n t (field (n + 1) u empty))
 
--- The table, for any fields fs.
-abbrev pub table : Fields → List Case
-table fs =
+-- The table, for any flags i (implode) and s (primitive to string) and any fields fs.
+abbrev pub table : Bool → Bool → Fields → List Case
+table i s fs =
+    -- 1: Ints are equal whatever they hold, so the left one returns
+    case 1 (supertype i s (dyn (pos 1)) (dyn (pos 300))) (joins (dyn (pos 1)))
+    ∷ case 1 (supertype i s (dyn (pos 300)) (dyn (pos 1))) (joins (dyn (pos 300)))
+    -- 2: flags off or on
+    ∷ case 2 (supertype i s (of Kind.UnknownAny) (of Kind.String)) (joins (of Kind.String))
+    ∷ case 2 (supertype i s (of Kind.String) (of Kind.UnknownAny)) (joins (of Kind.UnknownAny))
+    -- 3: primitive to string on, then off
+    ∷ case 3 (supertype i true (dyn (pos 5)) (of Kind.UnknownStr)) (joins (of Kind.UnknownAny))
+    ∷ case 3 (supertype i true (of Kind.UnknownStr) (dyn (pos 5))) (joins (of Kind.UnknownStr))
+    ∷ case 3 (supertype i false (dyn (pos 5)) (of Kind.UnknownStr)) (joins (of Kind.UnknownAny))
+    ∷ case 3 (supertype i false (of Kind.UnknownStr) (dyn (pos 5))) (joins (of Kind.UnknownAny))
+    -- 4: the smallest-type helper answers Null below −2^63
+    ∷ case 4 (supertype i s (of Kind.UInt64) (dyn (negℤ (pos 1)))) (joins (of Kind.Int64))
+    ∷ case 4 (supertype i s (of Kind.UInt64) (dyn (negℤ (pos (2 ^ 63 + 1))))) (joins (of Kind.UInt64))
+    ∷ case 4 (smallest-dyn-int (negℤ (pos (2 ^ 63 + 1)))) (kind Kind.Null)
+    -- 5
+    ∷ case 5 (supertype i s (of Kind.UInt128) (of Kind.Int8)) (joins (of Kind.Int128))
+    ∷ case 5 (lossless (of Kind.UInt128) (of Kind.Int8)) no-type
+    -- 7
+    ∷ case 7 (supertype i s (of Kind.Boolean) (of Kind.UnknownFloat)) (joins (of Kind.UnknownAny))
+    ∷ case 7 (supertype i s (of Kind.Date) (dyn (pos 5))) (joins (of Kind.UnknownAny))
+    -- 9
+    ∷ case 9 (supertype i s (of Kind.Int64) (dyn (pos (2 ^ 63 - 1)))) (joins (of Kind.Int64))
+    ∷ case 9 (supertype i s (of Kind.Int64) (dyn (pos (2 ^ 63)))) (joins (of Kind.Float64))
     -- 11: an empty Struct to any Struct; otherwise unequal lengths
-    case 11 (can-cast (struct empty) (struct fs)) yes
+    ∷ case 11 (can-cast (struct empty) (struct fs)) yes
     ∷ case 11 (can-cast (one 1 (of Kind.Int8)) (struct empty)) no
     ∷ case 11 (can-cast (one 1 (of Kind.Int8)) (two 5 (of Kind.String) (of Kind.Null))) no
     ∷ case 11 (can-cast (two 1 (of Kind.Null) (of Kind.Int8)) (one 5 (of Kind.Null))) no
@@ -93,4 +135,4 @@ table fs =
 
 -- The claim: every row's answer is what the definitions answer.
 abbrev pub CasesHold : Type 0
-CasesHold = (fs : Fields) → map (λ (c : Case). answer (c .asked)) (table fs) ≡ map (λ (c : Case). c .answered) (table fs)
+CasesHold = (i s : Bool) (fs : Fields) → map (λ (c : Case). answer (c .asked)) (table i s fs) ≡ map (λ (c : Case). c .answered) (table i s fs)

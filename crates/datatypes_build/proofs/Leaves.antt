@@ -1,21 +1,20 @@
 -- The rules of the leaves, by bounds on their kinds and arguments. Assumes nothing.
 use mathlib.Core.Path.{_≡_, refl, sym, ap, _∙_}
-use mathlib.Core.Bool.{Bool, true, false, cond, _&&_, true≢false}
+use mathlib.Core.Bool.{Bool, true, false, cond, true≢false}
 use mathlib.Core.List.{[], _∷_}
-use Prim.Native.Nat.{ℕ, _+_, _≤_, _<_, _^_}
+use Prim.Native.Nat.{ℕ, _+_, _≤_, _<_}
 use native.Mathlib.Omega.{arith}
 use lib.IntN.{ℤ}
-use lib.Dec.{T, ltb, eqb}
-use borrow.Author.Tests.{eq-eqb, eqb-true, ne-eqb, lt-ltb, le-ltb}
+use lib.Dec.{T, eqb}
+use borrow.Author.Tests.{eq-eqb, eqb-true, ne-eqb}
 use Rattle.flat.specs.Kind
 use Rattle.flat.specs.Argument.{argumentFits, ruleOf}
 use Rattle.flat.specs.Tree.{DataType, leaf, headKind, size, depth}
 use Rattle.flat.specs.Reading.{Ruled}
 use Rattle.flat.specs.Walk.{orElse}
 use Rattle.flat.proofs.Rules.{run, in-run}
-use Rattle.datatypes.proofs.Integers.{signed-holds, unsigned-holds}
 use Rattle.datatypes.specs.Match.{among}
-use Rattle.datatypes.specs.Predicate.{isUnknownInt, isSignedInteger}
+use Rattle.datatypes.specs.Predicate.{isUnknownInt}
 use Rattle.datatypes.specs.Integer.{holds}
 use Rattle.datatypes.specs.DynInt.{valueOf, materializeDynInt}
 use Rattle.datatypes.specs.Materialize.{materialize}
@@ -49,24 +48,6 @@ physical-int64 k l h = eqb-true _ _ (passes (λ k. eqb Kind.Int64 (physicalKind 
 pub physical-same : (k : ℕ) → (k ≡ Kind.Decimal → ⊥) → (k ≡ Kind.Date → ⊥) → (k ≡ Kind.Datetime → ⊥) → (k ≡ Kind.Duration → ⊥) → (k ≡ Kind.Time → ⊥) → k ≡ physicalKind k
 unfolding physicalKind physicalLeaf headKind among
 physical-same k a b c d e = rw (ne-eqb k Kind.Decimal a, ne-eqb k Kind.Date b, ne-eqb k Kind.Datetime c, ne-eqb k Kind.Duration d, ne-eqb k Kind.Time e)
-
--- ---- dyn integers: the first of the types that holds v, by the law of its width
-module _ (k a : ℕ) where
-  firsts : materializeDynInt (valueOf k a) ≡ cond (ltb a (2 ^ 31)) Kind.Int32 (cond (ltb a (2 ^ 63)) Kind.Int64 (cond (eqb k Kind.UnknownIntPos && ltb a (2 ^ 64)) Kind.UInt64 Kind.Int128))
-  unfolding materializeDynInt isSignedInteger among
-  firsts = rw (signed-holds 32 k a, signed-holds 64 k a, unsigned-holds 64 k a)
-
-  pub dyn-int32 : a < 2 ^ 31 → Kind.Int32 ≡ materializeDynInt (valueOf k a)
-  dyn-int32 h = sym (firsts ∙ rw (lt-ltb a (2 ^ 31) h))
-
-  pub dyn-int64 : 2 ^ 31 ≤ a → a < 2 ^ 63 → Kind.Int64 ≡ materializeDynInt (valueOf k a)
-  dyn-int64 l h = sym (firsts ∙ rw (le-ltb a (2 ^ 31) l, lt-ltb a (2 ^ 63) h))
-
-  pub dyn-uint64 : k ≡ Kind.UnknownIntPos → 2 ^ 63 ≤ a → a < 2 ^ 64 → Kind.UInt64 ≡ materializeDynInt (valueOf k a)
-  dyn-uint64 e l h = sym (firsts ∙ rw (le-ltb a (2 ^ 31) (omega arith), le-ltb a (2 ^ 63) l, eq-eqb k Kind.UnknownIntPos e, lt-ltb a (2 ^ 64) h))
-
-  pub dyn-int128 : (k ≡ Kind.UnknownIntPos → ⊥) → 2 ^ 63 ≤ a → Kind.Int128 ≡ materializeDynInt (valueOf k a)
-  dyn-int128 e l = sym (firsts ∙ rw (le-ltb a (2 ^ 31) (omega arith), le-ltb a (2 ^ 63) l, ne-eqb k Kind.UnknownIntPos e))
 
 -- ---- unknown types
 pub materialized-str : (k a : ℕ) → k ≡ Kind.UnknownStr → Kind.String ≡ headKind (materializedLeaf k a)

@@ -1,10 +1,10 @@
 // What becomes of a leaf in each form that a type is built in.
 ghost use mathlib.Core.Path.{_≡_};
 ghost use Rattle.flat.specs.Tree.{headKind};
-ghost use Rattle.datatypes.specs.DynInt.{valueOf, materializeDynInt};
 ghost use Rattle.datatypes.specs.Physical.{physicalKind};
 ghost use Rattle.datatypes_build.specs.Leaf.{materializedLeaf, leafOf, keptArg};
 use flat::kind::Kind;
+use utils_numbers::dyn_int::materialize_dyn_int;
 
 pub enum Form {
     Physical,
@@ -20,22 +20,6 @@ fn physical_kind(k: u8) -> u8
         Kind::DATETIME..=Kind::TIME => Kind::INT64,
         _ => k,
     }
-}
-
-// Of `Unknown(Int(v))`: a signed type that holds v holds −1 − v too, so that the sign counts only past the largest of them.
-fn materialize_dyn_int(kind: u8, arg: u64) -> u8
-    ensures { λ r. ⌜ r ≡ materializeDynInt (valueOf kind arg) ⌝ }
-{
-    if arg < 0x8000_0000 {
-        return Kind::INT32;
-    }
-    if arg < 0x8000_0000_0000_0000 {
-        return Kind::INT64;
-    }
-    if kind == Kind::UNKNOWN_INT_POS {
-        return Kind::UINT64;
-    }
-    Kind::INT128
 }
 
 fn materialized_kind(k: u8, a: u64) -> u8

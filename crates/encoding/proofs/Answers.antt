@@ -1,32 +1,34 @@
 -- What the answers tell, and what answers come to: bytes of the right length hold as many kinds and arguments as their count says, any others are refused
--- by 1; where a check answers Valid, there is a tree; and `decode` and `encode` leave its arrays or bytes, or all as it was.
+-- by 1; where a check answers Valid, there is a tree, and its root; and `decode` and `encode` leave its arrays or bytes, or all as it was.
 -- Assumes nothing.
-use mathlib.Core.Path.{_≡_, refl, sym, ap, _∙_}
+use mathlib.Core.Path.{_≡_, refl, sym, ap, ap₂, _∙_}
 use mathlib.Core.Bool.{Bool, true, false, cond, and-eq-true-iff}
 use mathlib.Core.List.{List, [], _∷_, _++_}
 use Prim.Native.Nat.{ℕ, _+_, _-_, _≤_, _<_}
-use native.Mathlib.Nat.{add-sub-cancel-left}
+use native.Mathlib.Nat.{add-sub-cancel-left, zero-mul}
 use native.Mathlib.Omega.{arith}
 use borrow.Author.Tests.{lt-ltb, le-leb, eq-eqb, ltb-true, leb-true, eqb-true}
 use borrow.Rule.Slice.PartAt.{part-to-end}
 use lib.Dec.{leb}
 use lib.ListN.{length, getD, take, drop, length-drop}
-use lib.Seq.{length-take-le, take-at, drop-cons}
-use Rattle.flat.specs.Tree.{DataType, size, kindsOf, argsOf}
-use Rattle.flat.specs.Reading.{Reading, refused, type, unless, reading, checkedOf}
+use lib.Seq.{length-take-le, take-at, drop-cons, getD-take, getD-drop}
+use Rattle.flat.specs.Tree.{DataType, size, headKind, headArg, kindsOf, argsOf}
+use Rattle.flat.specs.Reading.{Reading, refused, type, unless, reading, checkedOf, rootOf, RootFits}
 use Rattle.flat.specs.declared.Checked.{Checked}
 use Rattle.flat.specs.declared.Checked.the-variants.{Valid}
 use Rattle.flat.specs.Output.{over, Writes}
 use Rattle.flat.specs.declared.error.Error.{Error}
 use Rattle.flat.specs.declared.error.Error.the-variants.{Length, OutputTooShort}
 use Rattle.flat.proofs.Sizes.{length-kinds}
-use Rattle.flat.proofs.Meaning.{holds, checked-type}
+use Rattle.flat.proofs.Meaning.{holds, checked-type, check-passed}
+use Rattle.flat.proofs.Roots.{root-read}
 use Rattle.flat.proofs.Outputs.{writes-type}
 use Rattle.encoding.specs.Encoding.{number, argsFrom, encoding, encodedSize, countIn, kindsIn, argsIn, sizeFits, decoding}
 use Rattle.encoding.specs.Answer.{nodesIn, fittingBytes, bytesOver, Encodes, Puts}
+use Rattle.flat.specs.declared.Root.{Root}
 use Rattle.flat.specs.declared.Written.{Written}
 use Rattle.encoding.specs.declared.Encoded.{Encoded}
-use Rattle.encoding.proofs.Laws.{argsFrom-length, size-parts}
+use Rattle.encoding.proofs.Laws.{argsFrom-length, argsFrom-at, size-parts}
 
 -- ---- the number of nodes
 
@@ -146,6 +148,17 @@ encoded-form {w} {nodes} {deep} {n} {s} v e c =
 -- so too where n is what `node_count` answers
 pub counted-form : {w nodes deep n : ℕ} {s : List ℕ} {a : Checked} → a ≡ Valid → a ≡ checkedOf (decoding w nodes deep s) → n ≡ nodesIn w nodes s → EncodedForm w nodes deep n s
 counted-form {w} {nodes} {deep} {n} {s} v e c = let f : EncodedForm w nodes deep (countIn s) s = encoded-form v e refl in encoded-form v e (c ∙ nodes-sized (f .sized))
+
+-- ---- the root, where a check answers Valid
+
+-- where its two values stand in the bytes
+pub form-root : {w nodes deep n : ℕ} {s : List ℕ} → EncodedForm w nodes deep n s → (Root.Node (getD s 2 0) (number (take w (drop (2 + n) s))) ≡ rootOf (decoding w nodes deep s)) × RootFits (Root.Node (getD s 2 0) (number (take w (drop (2 + n) s))))
+form-root {w} {nodes} {deep} {n} {s} f =
+    let z = f .sized in
+    let e = decoding-sized z deep in
+    let k : getD (kindsIn s) 0 0 ≡ getD s 2 0 = rw (← kinds-part z) (getD-take (2 + n - 2) (drop 2 s) 0 0 (omega (arith, z .some)) ∙ getD-drop 2 s 0 0) in
+    let a : getD (argsIn w s) 0 0 ≡ number (take w (drop (2 + n) s)) = rw (← args-part z, part-to-end) (argsFrom-at w n (drop (2 + n) s) 0 (z .some) ∙ rw zero-mul) in
+    rw (← k, ← a, e) (root-read (check-passed (ap checkedOf (sym (f .reads) ∙ e))))
 
 -- ---- what `decode` and `encode` come to
 

@@ -2,6 +2,5 @@
 pub mod Laws
 pub mod Answers
 pub mod Opening
-pub mod Roots
 pub mod RoundTrip
 mod Examples

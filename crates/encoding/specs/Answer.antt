@@ -5,14 +5,13 @@ use mathlib.Core.List.{List}
 use Prim.Native.Nat.{ℕ}
 use lib.Dec.{leb}
 use lib.ListN.{length}
-use Rattle.flat.specs.Tree.{size, kindsOf, argsOf, headKind, headArg}
+use Rattle.flat.specs.Tree.{size, kindsOf, argsOf}
 use Rattle.flat.specs.Reading.{Reading, refused, type, unless}
 use Rattle.flat.specs.Output.{over, writtenOf}
 use Rattle.flat.specs.declared.error.Error.the-variants.{OutputTooShort}
 use Rattle.encoding.specs.Encoding.{encoding, encodedSize, countIn, argsIn, sizeFits, decoding}
 use Rattle.flat.specs.declared.Written.{Written}
 use Rattle.encoding.specs.declared.Encoded.{Encoded}
-use Rattle.encoding.specs.declared.Root.{Root}
 
 -- the number of nodes that bytes of the right length hold, 0 of any others
 unfoldable pub nodesIn : ℕ → ℕ → List ℕ → ℕ
@@ -26,11 +25,6 @@ argsOpened w nodes s xs = cond (sizeFits w nodes s) (over (argsIn w s) xs) xs
 pub record Opens (w nodes deep : ℕ) (s xs xs′ : List ℕ) (answer : Written) : Type 0 where
   pub answers : answer ≡ writtenOf (decoding w nodes deep s)
   pub args : xs′ ≡ argsOpened w nodes s xs
-
--- the node at the root of a type
-abbrev pub rootOf : Reading → Root
-rootOf (refused e) = Root.Refused e
-rootOf (type t) = Root.Node (headKind t) (headArg t)
 
 -- 8: the output, of m bytes, is shorter than the result, where there is one
 unfoldable pub fittingBytes : ℕ → ℕ → Reading → Reading

@@ -2,15 +2,15 @@
 mod bytes;
 
 ghost use mathlib.Core.Path.{_≡_};
-ghost use mathlib.Core.List.{_∷_, []};
 ghost use Prim.Native.Nat.{_≤_};
 ghost use lib.ListN.{length};
-ghost use Rattle.flat.specs.Reading.{reading, checkedOf};
+ghost use Rattle.flat.specs.Reading.{reading, checkedOf, rootOf, RootFits};
 ghost use Rattle.flat.specs.Output.{over, fitting, Writes};
 ghost use Rattle.encoding.specs.Encoding.{argsIn, decoding};
-ghost use Rattle.encoding.specs.Answer.{nodesIn, rootOf, fittingBytes, Opens, Encodes, Puts};
+ghost use Rattle.encoding.specs.Answer.{nodesIn, fittingBytes, Opens, Encodes, Puts};
 use flat::Checked;
 use flat::Flat;
+use flat::Root;
 use flat::Written;
 use flat::error::Error;
 
@@ -27,12 +27,6 @@ impl Encoding {
 // What encoding answers: the number of bytes written.
 pub enum Encoded {
     Bytes(usize),
-    Refused(Error),
-}
-
-// The kind and the argument at the root of a type, which are all of it where it has no children.
-pub enum Root {
-    Node(u8, u64),
     Refused(Error),
 }
 
@@ -147,30 +141,17 @@ pub fn open(encoded: &[u8], args: &mut [u64]) -> Written
     }
 }
 
-// The root of a type of one node.
-fn one_root(kind: u8, arg: u64) -> Root
-    ensures { λ r. do
-      nodes ← ⟦Flat::MAX_NODES⟧ .entry
-      deep ← ⟦Flat::MAX_DEPTH⟧ .entry
-      ⌜ r ≡ rootOf (reading nodes deep (kind ∷ []) (arg ∷ [])) ⌝ }
-{
-    match flat::check_one(kind, arg) {
-        Checked::Refused(e) => Root::Refused(e),
-        Checked::Valid => Root::Node(kind, arg),
-    }
-}
-
-// The root of an encoded type: refusals 1 to 5.
-pub fn read_root(encoded: &[u8]) -> Root
+// Checks an encoded type, and gives its root: refusals 1 to 5.
+pub fn check_root(encoded: &[u8]) -> Root
     ensures { λ r. do
       nodes ← ⟦Flat::MAX_NODES⟧ .entry
       deep ← ⟦Flat::MAX_DEPTH⟧ .entry
       w ← ⟦Encoding::ARGUMENT_BYTES⟧ .entry
-      ⌜ r ≡ rootOf (decoding w nodes deep (now (encoded .entry))) ⌝ }
+      ⌜ (r ≡ rootOf (decoding w nodes deep (now (encoded .entry)))) × RootFits r ⌝ }
 {
     let n = node_count(encoded);
     if n == 1 {
-        return one_root(encoded[2], bytes::word(encoded, 3));
+        return flat::check_root_one(encoded[2], bytes::word(encoded, 3));
     }
     match check(encoded) {
         Checked::Refused(e) => Root::Refused(e),

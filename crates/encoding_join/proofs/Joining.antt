@@ -17,7 +17,7 @@ joins-refused w m h = rw h (record { answers = refl; bytes = refl })
 
 -- what was found, as `encode` leaves it
 module _ (w : ℕ) where
-  bytes-joined : (r : Reading) {n : ℕ} → Encoded.Bytes n ≡ encodedOf w r → Joined.Nodes n ≡ joinedBytes w (some r)
+  bytes-joined : (r : Reading) {n : ℕ} → Encoded.Bytes n ≡ encodedOf w r → Joined.Written n ≡ joinedBytes w (some r)
   bytes-joined (refused e) q = absurd (let z : _≡_ {A = ℕ} 0 1 = cc in omega arith)
   bytes-joined (type t) q = cc
 
@@ -26,7 +26,7 @@ module _ (w : ℕ) where
   refusal-joined (type t) q = absurd (let z : _≡_ {A = ℕ} 0 1 = cc in omega arith)
 
   module _ {r : Reading} {out out′ : List ℕ} {a : Encoded} (p : Encodes w r out out′ a) where
-    pub joins-bytes : {n : ℕ} → a ≡ Encoded.Bytes n → JoinsBytes w (some r) out out′ (Joined.Nodes n)
+    pub joins-bytes : {n : ℕ} → a ≡ Encoded.Bytes n → JoinsBytes w (some r) out out′ (Joined.Written n)
     joins-bytes q = record { answers = bytes-joined r (sym q ∙ p .answers); bytes = p .bytes }
 
     pub joins-refusal : {e : Error} → a ≡ Encoded.Refused e → JoinsBytes w (some r) out out′ (Joined.Refused e)

@@ -18,7 +18,7 @@ fittingFoundBytes w m = mapO (fittingBytes w m)
 abbrev pub joinedBytes : ℕ → Option Reading → Joined
 joinedBytes w none = Joined.Nothing
 joinedBytes w (some (refused e)) = Joined.Refused e
-joinedBytes w (some (type t)) = Joined.Nodes (encodedSize w (size t))
+joinedBytes w (some (type t)) = Joined.Written (encodedSize w (size t))
 
 -- the lent bytes after the call: None writes nothing
 abbrev pub bytesFound : ℕ → Option Reading → List ℕ → List ℕ

@@ -4,6 +4,7 @@ pub mod ReadBack
 pub mod Positions
 pub mod Walks
 pub mod Meaning
+pub mod Roots
 pub mod Onward
 pub mod Outputs
 pub mod Rules

@@ -8,12 +8,13 @@ use lib.Dec.{leb, ltb, eqb}
 use lib.ListN.{length}
 use Rattle.flat.specs.Kind
 use Rattle.flat.specs.Argument.{argumentFits}
-use Rattle.flat.specs.Tree.{DataType, leaf, list, array, struct, Fields, empty, field, count, size, depth}
+use Rattle.flat.specs.Tree.{DataType, leaf, list, array, struct, Fields, empty, field, count, size, depth, headKind, headArg}
 use Rattle.flat.specs.Reader.{nodeAt}
 use Rattle.flat.specs.declared.error.Error.{Error}
 use Rattle.flat.specs.declared.error.Error.the-variants.{Length, Kind, Argument, Shape, Depth}
 use Rattle.flat.specs.declared.Checked.{Checked}
 use Rattle.flat.specs.declared.Checked.the-variants.{Valid, Refused}
+use Rattle.flat.specs.declared.Root.{Root}
 
 -- what two arrays are
 pub data Reading : Type 0 where
@@ -57,6 +58,16 @@ reading nodes deep ks xs =
 abbrev pub checkedOf : Reading → Checked
 checkedOf (refused e) = Refused e
 checkedOf (type t) = Valid
+
+-- the node at the root of a type
+abbrev pub rootOf : Reading → Root
+rootOf (refused e) = Root.Refused e
+rootOf (type t) = Root.Node (headKind t) (headArg t)
+
+-- a root of a valid type: no field, and its argument follows its kind's rule
+abbrev pub RootFits : Root → Type 0
+RootFits (Root.Node k a) = (k ≤ Kind.Struct) × (argumentFits k a ≡ true)
+RootFits (Root.Refused e) = Unit {0}
 
 -- A tree that keeps document 01's rules: a leaf's kind has no child, and every argument follows its kind's rule, a Struct's number of fields and a
 -- field's name among them.

@@ -9,7 +9,7 @@ ghost use mathlib.Core.List.{_∷_, []};
 ghost use Prim.Native.Nat.{_<_};
 ghost use lib.ListN.{length};
 ghost use Rattle.flat.specs.Reader.{nodeAt};
-ghost use Rattle.flat.specs.Reading.{kindsFit, argumentsFit, shaped, reading, checkedOf};
+ghost use Rattle.flat.specs.Reading.{kindsFit, argumentsFit, shaped, reading, checkedOf, rootOf, RootFits};
 use argument::argument_fits;
 use error::Error;
 use kind::Kind;
@@ -35,6 +35,12 @@ pub enum Checked {
 // What a call answers that writes a type to two lent arrays: the number of nodes written.
 pub enum Written {
     Nodes(usize),
+    Refused(Error),
+}
+
+// The kind and the argument at the root of a type, which are all of it where it has no children.
+pub enum Root {
+    Node(u8, u64),
     Refused(Error),
 }
 
@@ -143,4 +149,36 @@ pub fn check(kinds: &[u8], args: &[u64]) -> Checked
         return Checked::Refused(Error::Argument);
     }
     check_shape(kinds, args)
+}
+
+// Checks one node, and gives it.
+pub fn check_root_one(kind: u8, arg: u64) -> Root
+    ensures { λ r. do
+      nodes ← ⟦Flat::MAX_NODES⟧ .entry
+      deep ← ⟦Flat::MAX_DEPTH⟧ .entry
+      ⌜ (r ≡ rootOf (reading nodes deep (kind ∷ []) (arg ∷ []))) × RootFits r ⌝ }
+{
+    match check_one(kind, arg) {
+        Checked::Valid => Root::Node(kind, arg),
+        Checked::Refused(e) => Root::Refused(e),
+    }
+}
+
+// Checks a type, and gives its root: refusals 1 to 5.
+pub fn check_root(kinds: &[u8], args: &[u64]) -> Root
+    ensures { λ r. do
+      nodes ← ⟦Flat::MAX_NODES⟧ .entry
+      deep ← ⟦Flat::MAX_DEPTH⟧ .entry
+      ⌜ (r ≡ rootOf (reading nodes deep (now (kinds .entry)) (now (args .entry)))) × RootFits r ⌝ }
+{
+    // the common case: one node needs no scan and no walk
+    if kinds.len() == 1 {
+        if args.len() == 1 {
+            return check_root_one(kinds[0], args[0]);
+        }
+    }
+    match check(kinds, args) {
+        Checked::Valid => Root::Node(kinds[0], args[0]),
+        Checked::Refused(e) => Root::Refused(e),
+    }
 }

@@ -8,16 +8,18 @@ use Rattle.flat.specs.Tree.{DataType, leaf, size, headKind, headArg}
 use Rattle.flat.specs.Reading.{Reading, refused, type}
 use Rattle.flat.specs.Reader.{mapO}
 use Rattle.flat.specs.Output.{fitting, kindsOver, argsOver}
+use Rattle.flat.specs.declared.Root.{Root}
 use Rattle.utils.specs.declared.join.Node.{Node}
 use Rattle.utils.specs.declared.join.Supertype.{Supertype}
+use Rattle.utils.specs.declared.join.Found.{Found}
 use Rattle.utils.specs.declared.join.Joined.{Joined}
 
 abbrev pub node : ℕ → ℕ → Node
 node k a = record { kind = k; arg = a }
 
 -- the node at a type's root, which is the whole type where it is not nested
-abbrev pub rootOf : DataType → Node
-rootOf t = node (headKind t) (headArg t)
+abbrev pub rootNode : DataType → Node
+rootNode t = node (headKind t) (headArg t)
 
 -- a node as a type
 abbrev pub typeOf : Node → DataType
@@ -28,11 +30,22 @@ abbrev pub foundOf : Supertype → Option Reading
 foundOf (Supertype.Some n) = some (type (typeOf n))
 foundOf Supertype.Nothing = none
 
+abbrev pub resultOf : Found → Option Reading
+resultOf (Found.Some n) = some (type (typeOf n))
+resultOf Found.Nothing = none
+resultOf (Found.Refused e) = some (refused e)
+
 -- the left type through 1 to 5, then the right, then the rule
 unfoldable pub joining : (DataType → DataType → Option Reading) → Reading → Reading → Option Reading
 joining rule (refused e) right = some (refused e)
 joining rule (type t) (refused e) = some (refused e)
 joining rule (type t) (type u) = rule t u
+
+-- so of a rule that rests on the two roots alone
+unfoldable pub joiningRoots : (Node → Node → Option Reading) → Root → Root → Option Reading
+joiningRoots rule (Root.Refused e) right = some (refused e)
+joiningRoots rule (Root.Node k a) (Root.Refused e) = some (refused e)
+joiningRoots rule (Root.Node k a) (Root.Node l b) = rule (node k a) (node l b)
 
 -- 8 last of all, and only where there is a type to write
 abbrev pub fittingFound : ℕ → ℕ → Option Reading → Option Reading
@@ -42,16 +55,16 @@ fittingFound k a = mapO (fitting k a)
 abbrev pub joinedOf : Option Reading → Joined
 joinedOf none = Joined.Nothing
 joinedOf (some (refused e)) = Joined.Refused e
-joinedOf (some (type t)) = Joined.Nodes (size t)
+joinedOf (some (type t)) = Joined.Written (size t)
 
--- document 01's number of an answer, and the value beside it: the number of nodes, 0 for None
+-- document 01's number of an answer, and the value beside it: how much was written, 0 for None
 abbrev pub joinedNumber : Joined → ℕ
-joinedNumber (Joined.Nodes n) = 0
+joinedNumber (Joined.Written n) = 0
 joinedNumber Joined.Nothing = 0
 joinedNumber (Joined.Refused e) = numberOf e
 
 abbrev pub joinedValue : Joined → ℕ
-joinedValue (Joined.Nodes n) = n
+joinedValue (Joined.Written n) = n
 joinedValue Joined.Nothing = 0
 joinedValue (Joined.Refused e) = 0
 

@@ -1,7 +1,7 @@
 // What a call answers that joins two types.
 ghost use mathlib.Core.Path.{_≡_};
 ghost use lib.ListN.{length};
-ghost use Rattle.utils.specs.Join.{foundOf, fittingFound, joinedNumber, joinedValue, Joins};
+ghost use Rattle.utils.specs.Join.{resultOf, fittingFound, joinedNumber, joinedValue, Joins};
 use flat::error::Error;
 
 // A type that is not nested: its kind and its argument.
@@ -16,9 +16,16 @@ pub enum Supertype {
     Nothing,
 }
 
-// Some, with its number of nodes, None, or the refusal.
+// So, or the refusal.
+pub enum Found {
+    Some(Node),
+    Nothing,
+    Refused(Error),
+}
+
+// What a call answers that writes the type: Some, with how many nodes or bytes were written, None, or the refusal.
 pub enum Joined {
-    Nodes(usize),
+    Written(usize),
     Nothing,
     Refused(Error),
 }
@@ -29,7 +36,7 @@ impl Joined {
         ensures { λ r. ⌜ r ≡ joinedNumber self ⌝ }
     {
         match self {
-            Joined::Nodes(_) => 0,
+            Joined::Written(_) => 0,
             Joined::Nothing => 0,
             Joined::Refused(e) => e.number(),
         }
@@ -40,7 +47,7 @@ impl Joined {
         ensures { λ r. ⌜ r ≡ joinedValue self ⌝ }
     {
         match self {
-            Joined::Nodes(n) => n as u64,
+            Joined::Written(n) => n as u64,
             Joined::Nothing => 0,
             Joined::Refused(_) => 0,
         }
@@ -48,12 +55,13 @@ impl Joined {
 }
 
 // Writes the type that was found to the front of out_kinds and out_args: refusal 8.
-pub fn put(found: Supertype, out_kinds: &mut [u8], out_args: &mut [u64]) -> Joined
-    ensures { λ r. ⌜ Joins (fittingFound (length (now («out_kinds» .entry))) (length (now («out_args» .entry))) (foundOf found)) (now («out_kinds» .entry)) (now («out_args» .entry)) (now («out_kinds» .exit)) (now («out_args» .exit)) r ⌝ }
+pub fn put(found: Found, out_kinds: &mut [u8], out_args: &mut [u64]) -> Joined
+    ensures { λ r. ⌜ Joins (fittingFound (length (now («out_kinds» .entry))) (length (now («out_args» .entry))) (resultOf found)) (now («out_kinds» .entry)) (now («out_args» .entry)) (now («out_kinds» .exit)) (now («out_args» .exit)) r ⌝ }
 {
     match found {
-        Supertype::Nothing => Joined::Nothing,
-        Supertype::Some(n) => {
+        Found::Nothing => Joined::Nothing,
+        Found::Refused(e) => Joined::Refused(e),
+        Found::Some(n) => {
             if out_kinds.len() == 0 {
                 return Joined::Refused(Error::OutputTooShort);
             }
@@ -62,7 +70,7 @@ pub fn put(found: Supertype, out_kinds: &mut [u8], out_args: &mut [u64]) -> Join
             }
             out_kinds[0] = n.kind;
             out_args[0] = n.arg;
-            Joined::Nodes(1)
+            Joined::Written(1)
         }
     }
 }

@@ -10,7 +10,7 @@ use lib.Dec.{T, leb, ltb, eqb, eqb→eq}
 use borrow.Author.Tests.{eq-eqb, ne-eqb, eqb-true, leb-true, le-ltb, lt-leb}
 use Rattle.flat.specs.Kind.{Duration, Datetime, String, UnknownAny, UnknownStr, UnknownFloat, UnknownIntPos, UnknownIntNeg, Field}
 use Rattle.flat.specs.Argument.{follows, argumentFits, ruleOf as argumentRule}
-use Rattle.flat.proofs.Rules.{in-run, and-left, and-right, isZero, zero-follows}
+use Rattle.flat.proofs.Rules.{in-run, area, in-area, and-left, and-right, or-right, isZero, zero-follows}
 use Rattle.datatypes.specs.Match.{among}
 use Rattle.datatypes.specs.Predicate.{isUnknownInt}
 use Rattle.datatypes.specs.Equality.{equalNode}
@@ -28,7 +28,7 @@ use Rattle.utils_arms.specs.declared.plan.Plan.the-variants.{No, Left, R
 use Rattle.utils_arms.specs.Node.{unitAt, unit, zone, same, plain, fits}
 use Rattle.utils_arms.specs.Supertype.{is, planOf, pick, Call, sameZone, run, orElse, inner, supertypeWith}
 use Rattle.utils_arms.specs.Rule.{turn, orPlan, pickPlan, norm, ruleOf, skip, Apart}
-use Rattle.utils_arms.proofs.Areas.{or-right, area, in-area, alike, alike-eq, right-at}
+use Rattle.utils_arms.proofs.Areas.{alike, alike-eq, right-at}
 
 -- ---- Booleans and answers
 
@@ -187,33 +187,25 @@ pub tries : (call : Call) (s : Bool) (l r : Node) → same l r ≡ false → sup
 unfolding supertypeWith inner
 tries call s l r e = rw (e, sym (same-sym l r) ∙ e)
 
--- over all pairs of kinds in order
-unfoldable one-plan-at : Bool → ℕ → ℕ → Bool
+-- f holds of every two kinds in order, the flag on and off
+unfoldable pub everywhere : (Bool → ℕ → ℕ → Bool) → Bool
 unfolding right-at
-one-plan-at s a b = merges (planOf s a b) (planOf s b a)
+everywhere f = area (λ a b. skip a b || (f true a b && f false a b)) 0 28 0 28
 
-unfoldable one-plan : ℕ → ℕ → Bool
-unfolding one-plan-at skip
-one-plan a b = skip a b || (one-plan-at true a b && one-plan-at false a b)
+pub of-flag : (f : Bool → Bool) → T (f true && f false) → (s : Bool) → T (f s)
+of-flag f t true = and-left (f true) (f false) t
+of-flag f t false = and-right (f true) (f false) t
 
-one-plan-holds : T (area one-plan 0 28 0 28)
-unfolding one-plan
-one-plan-holds = tt
-
-one-plan-of : (s : Bool) (a b : ℕ) → Apart a b → T (one-plan-at s a b)
-unfolding one-plan
-one-plan-of s a b h = go s (or-right (one-plan-at true a b && one-plan-at false a b) (h .two) (in-area one-plan 0 28 0 28 one-plan-holds a b (omega arith)))
-  where
-    go : (s : Bool) → T (one-plan-at true a b && one-plan-at false a b) → T (one-plan-at s a b)
-    go true t = and-left (one-plan-at true a b) (one-plan-at false a b) t
-    go false t = and-right (one-plan-at true a b) (one-plan-at false a b) t
+pub at-apart : (f : Bool → ℕ → ℕ → Bool) → T (everywhere f) → (s : Bool) (a b : ℕ) → Apart a b → T (f s a b)
+unfolding everywhere
+at-apart f t s a b h = of-flag (λ s. f s a b) (or-right (f true a b && f false a b) (h .two) (in-area (λ a b. skip a b || (f true a b && f false a b)) 0 28 0 28 t a b (omega arith))) s
 
 -- two types in the order of their kinds
 pub settled : (call : Call) (s : Bool) (l r : Node) → fits l ≡ true → fits r ≡ true → Apart (l .kind) (r .kind) → same l r ≡ false → supertypeWith call s l r ≡ run call (ruleOf s (l .kind) (r .kind)) l r
-unfolding ruleOf one-plan-at
+unfolding ruleOf
 settled call s l r fl fr h e =
     tries call s l r e
-    ∙ merged call l r (planOf s (l .kind) (r .kind)) (planOf s (r .kind) (l .kind)) (one-plan-of s (l .kind) (r .kind) h)
+    ∙ merged call l r (planOf s (l .kind) (r .kind)) (planOf s (r .kind) (l .kind)) (at-apart (λ s a b. merges (planOf s a b) (planOf s b a)) (unfold everywhere in tt) s (l .kind) (r .kind) h)
     ∙ sym (normal call l r fl fr (orPlan (planOf s (l .kind) (r .kind)) (turn (planOf s (r .kind) (l .kind)))))
 
 -- ---- the other order
@@ -250,29 +242,12 @@ swaps-of a b p q t = go (alike p No) refl (alike q No) refl (turns q && alike (n
     go false e false f true g u = one-answer (and-left (turns q) _ (to-T g)) (alike-eq (norm a b p) (norm a b (turn q)) (and-right (turns q) _ (to-T g)))
     go false e false f false g u = timed u
 
-unfoldable swap-at : Bool → ℕ → ℕ → Bool
-unfolding right-at
-swap-at s a b = swaps a b (planOf s a b) (planOf s b a)
-
-unfoldable swap : ℕ → ℕ → Bool
-unfolding swap-at skip lopsided
-swap a b = leb a b || (skip b a || (lopsided a b || (swap-at true a b && swap-at false a b)))
-
-swap-holds : T (area swap 0 28 0 28)
-unfolding swap
-swap-holds = tt
-
 swap-of : (s : Bool) (a b : ℕ) → b < a → Apart b a → lopsided a b ≡ false → Swaps a b (planOf s a b) (planOf s b a)
-unfolding swap swap-at
 swap-of s a b lt h n =
-    go s
-    (or-right (swap-at true a b && swap-at false a b) n
-    (or-right (lopsided a b || (swap-at true a b && swap-at false a b)) (h .two)
-    (or-right (skip b a || (lopsided a b || (swap-at true a b && swap-at false a b))) (lt-leb a b lt) (in-area swap 0 28 0 28 swap-holds a b (omega arith)))))
-  where
-    go : (s : Bool) → T (swap-at true a b && swap-at false a b) → Swaps a b (planOf s a b) (planOf s b a)
-    go true t = swaps-of a b (planOf true a b) (planOf true b a) (and-left (swap-at true a b) (swap-at false a b) t)
-    go false t = swaps-of a b (planOf false a b) (planOf false b a) (and-right (swap-at true a b) (swap-at false a b) t)
+    swaps-of a b (planOf s a b) (planOf s b a)
+    (or-right (swaps a b (planOf s a b) (planOf s b a)) n
+    (or-right (lopsided a b || swaps a b (planOf s a b) (planOf s b a)) (lt-leb a b lt)
+    (at-apart (λ s b a. leb a b || (lopsided a b || swaps a b (planOf s a b) (planOf s b a))) (unfold everywhere lopsided in tt) s b a h)))
 
 -- the coarser of two units is the same in either order
 of-number : (u : TimeUnit) → unitAt (unitNumber u) ≡ u

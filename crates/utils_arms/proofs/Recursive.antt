@@ -10,7 +10,7 @@ use lib.IntN.{ℤ}
 use lib.Signed.{nonNeg}
 use borrow.Author.Tests.{le-ltb}
 use Rattle.flat.specs.Kind.{Null, UInt8, UInt16, UInt32, UInt64, Int8, Int16, Int32, Int64, Int128, UnknownAny, UnknownIntNeg}
-use Rattle.flat.proofs.Rules.{and-left, and-right}
+use Rattle.flat.proofs.Rules.{area, in-area, and-left, and-right, or-right}
 use Rattle.datatypes.specs.Predicate.{isUnknownInt, isUnsignedInteger}
 use Rattle.datatypes.specs.Integer.{holds, firstThatHolds}
 use Rattle.datatypes.specs.DynInt.{materializeDynInt, materializeDynIntPos, materializeSmallestDynInt}
@@ -22,8 +22,8 @@ use Rattle.utils_arms.specs.declared.plan.Plan.the-variants.{No, Left, R
 use Rattle.utils_arms.specs.Node.{value, same, fits}
 use Rattle.utils_arms.specs.Supertype.{planOf, smallestFitting, dynNumber, pick, Call, run, orElse, inner, supertypeWith, knownSupertype, supertype}
 use Rattle.utils_arms.specs.Laws.{SupertypeLaws}
-use Rattle.utils_arms.proofs.Areas.{or-right, area, in-area, alike, alike-eq, right-at}
-use Rattle.utils_arms.proofs.Answers.{is-true, to-T, in-range}
+use Rattle.utils_arms.proofs.Areas.{alike, alike-eq, right-at}
+use Rattle.utils_arms.proofs.Answers.{is-true, to-T, in-range, of-flag}
 
 -- ---- which plans call
 
@@ -70,39 +70,45 @@ quiet-call : (l r : Node) → l .kind < UnknownAny → r .kind < UnknownAny → 
 unfolding knownSupertype supertype supertypeWith
 quiet-call l r p q = λ i. orElse (quiet-inner (λ l r. Nothing) knownSupertype l r p q i) (quiet-inner (λ l r. Nothing) knownSupertype r l q p i)
 
--- the smallest types are known
-abbrev all-known : List ℕ → Bool
-all-known [] = true
-all-known (k ∷ ks) = ltb k UnknownAny && all-known ks
+-- what holds of some types holds of the first of them that holds v
+abbrev all : (ℕ → Bool) → List ℕ → Bool
+all p [] = true
+all p (k ∷ ks) = p k && all p ks
 
-first-known : (ks : List ℕ) (o : ℕ) (v : ℤ) → T (all-known ks) → o < UnknownAny → firstThatHolds ks o v < UnknownAny
-first-known [] o v t h = h
-first-known (k ∷ ks) o v t h = go (holds k v) (first-known ks o v (and-right (ltb k UnknownAny) (all-known ks) t) h)
+first-of : (p : ℕ → Bool) (ks : List ℕ) (other : ℕ) → T (all p ks) → T (p other) → (v : ℤ) → T (p (firstThatHolds ks other v))
+first-of p [] other t o v = o
+first-of p (k ∷ ks) other t o v = go (holds k v) (first-of p ks other (and-right (p k) (all p ks) t) o v)
   where
-    go : (b : Bool) → firstThatHolds ks o v < UnknownAny → cond b k (firstThatHolds ks o v) < UnknownAny
-    go true f = ltb→lt k UnknownAny (and-left (ltb k UnknownAny) (all-known ks) t)
+    go : (b : Bool) → T (p (firstThatHolds ks other v)) → T (p (cond b k (firstThatHolds ks other v)))
+    go true f = and-left (p k) (all p ks) t
     go false f = f
 
-dyn-known : (v : ℤ) → materializeDynInt v < UnknownAny
+pub dyn-int-of : (p : ℕ → Bool) → T (all p (Int32 ∷ Int64 ∷ UInt64 ∷ [])) → T (p Int128) → (v : ℤ) → T (p (materializeDynInt v))
 unfolding materializeDynInt
-dyn-known v = first-known (Int32 ∷ Int64 ∷ UInt64 ∷ []) Int128 v tt (omega arith)
+dyn-int-of p t o v = first-of p (Int32 ∷ Int64 ∷ UInt64 ∷ []) Int128 t o v
+
+pub smallest-of : (p : ℕ → Bool) → T (all p (UInt8 ∷ UInt16 ∷ UInt32 ∷ UInt64 ∷ [])) → T (all p (Int8 ∷ Int16 ∷ Int32 ∷ Int64 ∷ UInt64 ∷ [])) → T (p Null) → (dt : ℕ) (v : ℤ) → T (p (smallestFitting dt v))
+unfolding smallestFitting materializeDynIntPos materializeSmallestDynInt
+smallest-of p t u o dt v = go (isUnsignedInteger dt && nonNeg v)
+  where
+    go : (b : Bool) → T (p (cond b (materializeDynIntPos v) (materializeSmallestDynInt v)))
+    go true = first-of p (UInt8 ∷ UInt16 ∷ UInt32 ∷ UInt64 ∷ []) Null t o v
+    go false = first-of p (Int8 ∷ Int16 ∷ Int32 ∷ Int64 ∷ UInt64 ∷ []) Null u o v
+
+-- so a call meets known types
+dyn-known : (v : ℤ) → materializeDynInt v < UnknownAny
+dyn-known v = ltb→lt _ UnknownAny (dyn-int-of (λ k. ltb k UnknownAny) tt tt v)
 
 smallest-known : (dt : ℕ) (v : ℤ) → smallestFitting dt v < UnknownAny
-unfolding smallestFitting materializeDynIntPos materializeSmallestDynInt
-smallest-known dt v = go (isUnsignedInteger dt && nonNeg v)
-  where
-    go : (b : Bool) → cond b (materializeDynIntPos v) (materializeSmallestDynInt v) < UnknownAny
-    go true = first-known (UInt8 ∷ UInt16 ∷ UInt32 ∷ UInt64 ∷ []) Null v tt (omega arith)
-    go false = first-known (Int8 ∷ Int16 ∷ Int32 ∷ Int64 ∷ UInt64 ∷ []) Null v tt (omega arith)
+smallest-known dt v = ltb→lt _ UnknownAny (smallest-of (λ k. ltb k UnknownAny) tt tt tt dt v)
 
 -- where a plan may be run: it makes no inner call, or makes it with a known left type, or the left type is a dyn int and both are
 unfoldable calls : Bool → ℕ → ℕ → Bool
 unfolding right-at
 calls s a b = quiet (planOf s a b) || (ltb a UnknownAny || (isUnknownInt a && alike (planOf s a b) DynNumber))
 
-calls-hold : T (area (λ a b. calls true a b && calls false a b) 0 28 0 28)
-unfolding calls
-calls-hold = tt
+calls-hold : (s : Bool) (a b : ℕ) → a ≤ UnknownIntNeg → b ≤ UnknownIntNeg → T (calls s a b)
+calls-hold s a b h g = of-flag (λ s. calls s a b) (in-area (λ a b. calls true a b && calls false a b) 0 28 0 28 (unfold calls in tt) a b (omega arith)) s
 
 module _ (l r : Node) where
   known-left : (p : Plan) → l .kind < UnknownAny → run knownSupertype p l r ≡ run (supertype false true) p l r
@@ -125,17 +131,10 @@ module _ (l r : Node) where
 
   runs-alike : (s : Bool) → l .kind ≤ UnknownIntNeg → r .kind ≤ UnknownIntNeg → run knownSupertype (planOf s (l .kind) (r .kind)) l r ≡ run (supertype false true) (planOf s (l .kind) (r .kind)) l r
   unfolding calls
-  runs-alike s p q = go (decLt (l .kind) UnknownAny) (quiet plan) refl (at s)
+  runs-alike s p q = go (decLt (l .kind) UnknownAny) (quiet plan) refl (calls-hold s (l .kind) (r .kind) p q)
     where
       plan : Plan
       plan = planOf s (l .kind) (r .kind)
-
-      all-calls : T (calls true (l .kind) (r .kind) && calls false (l .kind) (r .kind))
-      all-calls = in-area (λ a b. calls true a b && calls false a b) 0 28 0 28 calls-hold (l .kind) (r .kind) (omega arith)
-
-      at : (s : Bool) → T (calls s (l .kind) (r .kind))
-      at true = and-left (calls true (l .kind) (r .kind)) (calls false (l .kind) (r .kind)) all-calls
-      at false = and-right (calls true (l .kind) (r .kind)) (calls false (l .kind) (r .kind)) all-calls
 
       go : Dec (l .kind < UnknownAny) → (b : Bool) → quiet plan ≡ b → T (b || (ltb (l .kind) UnknownAny || (isUnknownInt (l .kind) && alike plan DynNumber))) → run knownSupertype plan l r ≡ run (supertype false true) plan l r
       go (yes h) b e t = known-left plan h

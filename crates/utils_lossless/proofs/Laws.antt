@@ -13,7 +13,7 @@ use Rattle.datatypes.specs.Match.{among}
 use Rattle.datatypes.specs.Predicate.{isFloat, isUnknownInt, isSignedInteger, isUnsignedInteger, isInteger, isNested, isUnknown}
 use Rattle.utils_numbers.specs.Range.{Listed, Covers, Least, Room}
 use Rattle.utils_numbers.specs.Format.{Format, formatOf, FormatIncludes}
-use Rattle.utils_numbers.proofs.Tests.{each, at, pairs, at-pair}
+use Rattle.utils_numbers.proofs.Tests.{isListed, to-listed, each, at, pairs, at-pair}
 use Rattle.utils_numbers.proofs.Ranges.{inside, includes, least-one}
 use Rattle.utils_numbers.proofs.Formats.{wider-format}
 use Rattle.utils_lossless.specs.Lossless.{choose, floats, signed, unsigned, mixed, upcastWhere, upcastOf}
@@ -28,7 +28,7 @@ abbrev over : ℕ → ℕ → ℕ → Bool
 over l r u = inside u l && inside u r
 
 abbrev least : ℕ → ℕ → Upcast → Bool
-least l r (To t) = leb Kind.UInt8 t && leb t Kind.Int128 && (over l r t && each (λ u. not (over l r u) || inside u t))
+least l r (To t) = isListed t && (over l r t && each (λ u. not (over l r u) || inside u t))
 least l r Nothing = each (λ u. not (over l r u))
 
 abbrev right : ℕ → ℕ → Bool
@@ -49,14 +49,11 @@ module _ (l r : ℕ) (p : Listed l) (q : Listed r) where
     innermost = λ u i c. includes u t i h .1 (implies (over l r u) (inside u t) (at (λ u. not (over l r u) || inside u t) m u i) (covered u i c));
   }
     where
-      range : T (leb Kind.UInt8 t && leb t Kind.Int128)
-      range = and-left (leb Kind.UInt8 t && leb t Kind.Int128) _ e
-
       h : Listed t
-      h = (leb→le Kind.UInt8 t (and-left (leb Kind.UInt8 t) _ range), leb→le t Kind.Int128 (and-right (leb Kind.UInt8 t) _ range))
+      h = to-listed t (and-left (isListed t) _ e)
 
       rest : T (over l r t && each (λ u. not (over l r u) || inside u t))
-      rest = and-right (leb Kind.UInt8 t && leb t Kind.Int128) _ e
+      rest = and-right (isListed t) _ e
 
       o : T (over l r t)
       o = and-left (over l r t) _ rest

@@ -1,4 +1,4 @@
 -- The upcast by kinds, and its laws.
 mod Upcasts
-pub mod Roots
+mod Roots
 pub mod Laws

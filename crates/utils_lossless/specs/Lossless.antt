@@ -10,6 +10,7 @@ use Rattle.flat.specs.Reading.{Reading, type}
 use Rattle.datatypes.specs.Match.{among}
 use Rattle.datatypes.specs.Predicate.{isFloat, isSignedInteger, isUnsignedInteger, isInteger, isNested, isUnknown}
 use Rattle.datatypes.specs.Equality.{equal}
+use Rattle.utils.specs.declared.join.Node.{Node}
 use Rattle.utils_lossless.specs.declared.upcast.Upcast.{Upcast}
 use Rattle.utils_lossless.specs.declared.upcast.Upcast.the-variants.{To, Nothing}
 
@@ -85,5 +86,10 @@ abbrev pub foundUpcast : Upcast → Option Reading
 foundUpcast (To k) = some (type (leaf k 0))
 foundUpcast Nothing = none
 
+-- of two roots, by their kinds
+unfoldable pub rootUpcast : Node → Node → Option Reading
+rootUpcast l r = foundUpcast (upcastOf (l .kind) (r .kind))
+
+-- of two types
 unfoldable pub losslessOf : DataType → DataType → Option Reading
 losslessOf l r = foundUpcast (lossless l r)

@@ -1,18 +1,35 @@
 // `get_numeric_upcast_supertype_lossless` of supertype.rs, on flat types.
 pub mod upcast;
 
+ghost use mathlib.Core.Path.{_≡_};
 ghost use lib.ListN.{length};
 ghost use Rattle.flat.specs.Reading.{reading};
-ghost use Rattle.utils.specs.Join.{joining, fittingFound, Joins};
-ghost use Rattle.utils_lossless.specs.Lossless.{losslessOf};
-use flat::Checked;
+ghost use Rattle.utils.specs.Join.{resultOf, joining, joiningRoots, fittingFound, Joins};
+ghost use Rattle.utils_lossless.specs.Lossless.{rootUpcast, losslessOf};
 use flat::Flat;
+use flat::Root;
 use upcast::Upcast;
 use upcast::upcast_kinds;
+use utils::join::Found;
 use utils::join::Joined;
 use utils::join::Node;
-use utils::join::Supertype;
 use utils::join::put;
+
+// Of the roots of two types: the refusal of the left, of the right, or the upcast by their kinds.
+pub fn upcast_roots(left: Root, right: Root) -> Found
+    ensures { λ t. ⌜ resultOf t ≡ joiningRoots rootUpcast left right ⌝ }
+{
+    match left {
+        Root::Refused(e) => Found::Refused(e),
+        Root::Node(k, _) => match right {
+            Root::Refused(e) => Found::Refused(e),
+            Root::Node(l, _) => match upcast_kinds(k, l) {
+                Upcast::To(t) => Found::Some(Node { kind: t, arg: 0 }),
+                Upcast::Nothing => Found::Nothing,
+            },
+        },
+    }
+}
 
 // The smallest numeric type that keeps every number of both, where there is one and the two differ, to the front of out_kinds and out_args: refusals 1 to 5
 // of the left type, of the right, then 8.
@@ -29,20 +46,7 @@ pub fn get_numeric_upcast_supertype_lossless(
       deep ← ⟦Flat::MAX_DEPTH⟧ .entry
       ⌜ Joins (fittingFound (length (now («out_kinds» .entry))) (length (now («out_args» .entry))) (joining losslessOf (reading nodes deep (now («left_kinds» .entry)) (now («left_args» .entry))) (reading nodes deep (now («right_kinds» .entry)) (now («right_args» .entry))))) (now («out_kinds» .entry)) (now («out_args» .entry)) (now («out_kinds» .exit)) (now («out_args» .exit)) r ⌝ }
 {
-    match flat::check(left_kinds, left_args) {
-        Checked::Valid => {}
-        Checked::Refused(e) => return Joined::Refused(e),
-    }
-    match flat::check(right_kinds, right_args) {
-        Checked::Valid => {}
-        Checked::Refused(e) => return Joined::Refused(e),
-    }
-    match upcast_kinds(left_kinds[0], right_kinds[0]) {
-        Upcast::To(k) => put(
-            Supertype::Some(Node { kind: k, arg: 0 }),
-            out_kinds,
-            out_args,
-        ),
-        Upcast::Nothing => Joined::Nothing,
-    }
+    let left = flat::check_root(left_kinds, left_args);
+    let right = flat::check_root(right_kinds, right_args);
+    put(upcast_roots(left, right), out_kinds, out_args)
 }

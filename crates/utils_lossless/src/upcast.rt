@@ -24,7 +24,7 @@ fn mixed(u: u8, s: u8) -> Upcast
     ensures { λ a. ⌜ (a ≡ upcastOf u s) × (a ≡ upcastOf s u) ⌝ }
 {
     if u == Kind::UINT128 {
-        return Upcast::Nothing;
+        return Upcast::Nothing; // no signed type has all its numbers
     }
     Upcast::To(wider(u + 6, s))
 }
@@ -34,7 +34,7 @@ pub fn upcast_kinds(l: u8, r: u8) -> Upcast
     ensures { λ a. ⌜ a ≡ upcastOf l r ⌝ }
 {
     if l == r {
-        return Upcast::Nothing;
+        return Upcast::Nothing; // the source's None for equal types
     }
     match l {
         Kind::UINT8..=Kind::UINT128 => match r {

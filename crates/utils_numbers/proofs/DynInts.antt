@@ -35,7 +35,8 @@ smallest-dyn-int = record { is = λ v. refl }
 abbrev limit : ℕ → ℕ
 limit t = 2 ^ bits (isSignedInteger t) (widthOf t)
 
--- of the arguments from lo on and below hi, where v is not below 0 if p is true: the first type that holds any v holds all of them, and is x
+-- of the arguments from lo on and below hi, where v is not below 0 if p is true: the first type that holds any v holds all of them, and is x.
+-- antt computes it.
 unfoldable pub first : Bool → ℕ → ℕ → List ℕ → ℕ → ℕ → Bool
 unfolding isSignedInteger among
 first p lo hi [] other x = eqb x other

@@ -18,6 +18,7 @@ use Rattle.datatypes.proofs.Integers.{bits, in-range}
 use Rattle.utils_numbers.specs.Range.{Listed, Includes, Least}
 use Rattle.utils_numbers.proofs.Tests.{at-pair}
 
+-- z is in a range by its sign and its size
 module _ (s : Bool) (w : ℕ) (z : ℤ) where
   into : T (s || nonNeg z) → mag z < 2 ^ bits s w → T (inRange s w z)
   into i l = subst T (sym (in-range s w z)) (and-both (s || nonNeg z) _ i (lt→ltb (mag z) (2 ^ bits s w) l))
@@ -36,7 +37,7 @@ back a b h = go (decLe a b)
     go (yes l) = l
     go (no n) = let l : 2 ^ b < 2 ^ a = pow-lt (omega arith) in absurd (omega arith)
 
--- a type with the sign s and the width w, and one with t and v
+-- a type with the sign s and the width w, and one with t and v, which has −1 if it has a sign, and 2 ^ bits − 1
 module _ (s : Bool) (w : ℕ) (t : Bool) (v : ℕ) where
   abbrev within : Bool
   within = (s || not t) && leb (bits t v) (bits s w)
@@ -70,7 +71,8 @@ module _ (s : Bool) (w : ℕ) (t : Bool) (v : ℕ) where
       go false false n i j = j
 
   law : ((z : ℤ) → T (inRange t v z) → T (inRange s w z)) ↔ T within
-  law = ((λ h. and-both (s || not t) _ (least h) (le→leb (bits t v) (bits s w) (most h))), (λ i. all (and-left (s || not t) _ i) (leb→le (bits t v) (bits s w) (and-right (s || not t) _ i))))
+  law =
+      ((λ h. and-both (s || not t) _ (least h) (le→leb (bits t v) (bits s w) (most h))), (λ i. all (and-left (s || not t) _ i) (leb→le (bits t v) (bits s w) (and-right (s || not t) _ i))))
 
 -- of two kinds, by their signs and widths
 abbrev pub inside : ℕ → ℕ → Bool

@@ -42,6 +42,7 @@ compared-inside : (t k : ℕ) → Listed t → Listed k → compared (rowOf t) (
 unfolding rowOf isSignedInteger among
 compared-inside t k p q = are-same _ _ (at-pair (λ t k. same (compared (rowOf t) (rowOf k)) (inside t k)) tt t k p q)
 
+-- an answer that is that comparison, of the rows of two types
 pub told : {t k : ℕ} → Listed t × Listed k → {a b : IntegerType} → a ≡ rowOf t → b ≡ rowOf k → {r : Bool} → r ≡ compared a b → (r ≡ true) ↔ Includes t k
 told {t} {k} l e f g =
     let h = g ∙ ap₂ compared e f ∙ compared-inside t k (l .0) (l .1) in

@@ -1,11 +1,18 @@
 -- A rule that the ten integer types have: one test that antt computes over them. Assumes nothing.
-use mathlib.Core.Bool.{Bool}
+use mathlib.Core.Bool.{Bool, _&&_}
 use Prim.Native.Nat.{ℕ}
 use native.Mathlib.Omega.{arith}
-use lib.Dec.{T}
+use lib.Dec.{T, leb, leb→le}
 use Rattle.flat.specs.Kind
-use Rattle.flat.proofs.Rules.{run, in-run}
+use Rattle.flat.proofs.Rules.{run, in-run, and-left, and-right}
 use Rattle.utils_numbers.specs.Range.{Listed}
+
+-- a kind is one of them
+abbrev pub isListed : ℕ → Bool
+isListed k = leb Kind.UInt8 k && leb k Kind.Int128
+
+pub to-listed : (k : ℕ) → T (isListed k) → Listed k
+to-listed k t = (leb→le Kind.UInt8 k (and-left (leb Kind.UInt8 k) _ t), leb→le k Kind.Int128 (and-right (leb Kind.UInt8 k) _ t))
 
 -- f holds of each of them
 abbrev pub each : (ℕ → Bool) → Bool

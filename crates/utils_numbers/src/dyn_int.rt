@@ -4,13 +4,18 @@ ghost use mathlib.Core.Path.{_≡_};
 ghost use Rattle.datatypes.specs.DynInt.{valueOf, materializeDynInt, materializeDynIntPos, materializeSmallestDynInt};
 use flat::kind::Kind;
 
+// One past the largest argument of a number that Int32 holds, and Int64.
+const INT32_END: u64 = 0x8000_0000;
+
+const INT64_END: u64 = 0x8000_0000_0000_0000;
+
 pub fn materialize_dyn_int(kind: u8, arg: u64) -> u8
     ensures { λ r. ⌜ r ≡ materializeDynInt (valueOf kind arg) ⌝ }
 {
-    if arg < 0x8000_0000 {
+    if arg < INT32_END {
         return Kind::INT32;
     }
-    if arg < 0x8000_0000_0000_0000 {
+    if arg < INT64_END {
         return Kind::INT64;
     }
     if kind == Kind::UNKNOWN_INT_POS {
@@ -46,10 +51,10 @@ pub fn materialize_smallest_dyn_int(kind: u8, arg: u64) -> u8
     if arg < 0x8000 {
         return Kind::INT16;
     }
-    if arg < 0x8000_0000 {
+    if arg < INT32_END {
         return Kind::INT32;
     }
-    if arg < 0x8000_0000_0000_0000 {
+    if arg < INT64_END {
         return Kind::INT64;
     }
     if kind == Kind::UNKNOWN_INT_POS {

@@ -1,1 +1,6 @@
 -- The laws hold, and the report is settled.
+mod Rounding
+mod Pairs
+mod Laws
+mod Keeping
+mod Settled

@@ -3,8 +3,8 @@ use mathlib.Core.Path.{_≡_}
 use mathlib.Core.List.{[], _∷_}
 use Prim.Native.Nat.{ℕ}
 use Rattle.flat.specs.Refusal.{numberOf}
-use Rattle.flat.specs.Tree.{headKind}
-use Rattle.flat.specs.Reading.{Reading, refused, type}
+use Rattle.flat.specs.Reading.{Reading, rootOf}
+use Rattle.flat.specs.declared.Root.{Root}
 use Rattle.utils_numbers.specs.Range.{Listed, Room}
 use Rattle.utils_report.specs.Kept.{Kept}
 use Rattle.utils_report.specs.declared.Report.{Report}
@@ -25,11 +25,15 @@ Says a b Report.Unavoidable = Integers a b × (Kept a b → ⊥) × (Room (a ∷
 Says a b Report.NotIntegers = Integers a b → ⊥
 Says a b (Report.Refused e) = ⊥
 
--- the left type through 1 to 5, then the right
+-- of two roots: the left one's refusal, then the right one's, then what is so of their kinds
+unfoldable pub RootsReport : Root → Root → Report → Type 0
+RootsReport (Root.Refused e) right answer = answer ≡ Report.Refused e
+RootsReport (Root.Node k a) (Root.Refused e) answer = answer ≡ Report.Refused e
+RootsReport (Root.Node k a) (Root.Node l b) answer = Says k l answer
+
+-- of two types: the left through 1 to 5, then the right
 unfoldable pub Reports : Reading → Reading → Report → Type 0
-Reports (refused e) right answer = answer ≡ Report.Refused e
-Reports (type t) (refused e) answer = answer ≡ Report.Refused e
-Reports (type t) (type u) answer = Says (headKind t) (headKind u) answer
+Reports left right = RootsReport (rootOf left) (rootOf right)
 
 -- document 01's number of a report, and the value beside it
 abbrev pub reportNumber : Report → ℕ

@@ -1,5 +1,5 @@
 -- What becomes of a whole number in a float format: IEEE 754's roundTiesToEven. Assumes nothing: these are definitions.
-use mathlib.Core.Bool.{cond, _&&_, _||_}
+use mathlib.Core.Bool.{true, false, cond, _&&_, _||_}
 use Prim.Native.Nat.{ℕ, zero, suc, _+_, _*_, _/_, _%_, _^_}
 use lib.Dec.{ltb, eqb}
 use lib.IntN.{ℤ, pos, negsuc, negℤ}
@@ -7,7 +7,7 @@ use lib.IntN.{ℤ, pos, negsuc, negℤ}
 -- how often n is halved until p bits hold it; n halvings are always enough
 unfoldable pub halvings : ℕ → ℕ → ℕ → ℕ
 halvings zero p n = 0
-halvings (suc most) p n = cond (ltb n (2 ^ p)) 0 (suc (halvings most p (n / 2)))
+halvings (suc most) p n = elim (ltb n (2 ^ p)) [ true ↦ 0 | false ↦ suc (halvings most p (n / 2)) ]
 
 -- the unit in the last of the p bits of n
 unfoldable pub lastUnit : ℕ → ℕ → ℕ

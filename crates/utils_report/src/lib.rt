@@ -6,9 +6,9 @@ ghost use Rattle.utils.specs.Join.{node};
 ghost use Rattle.utils.specs.declared.join.Supertype.the-variants.{Some};
 ghost use Rattle.utils_numbers.specs.Range.{Listed};
 ghost use Rattle.utils_arms.specs.Supertype.{supertype};
-ghost use Rattle.utils_report.specs.Report.{Says, Reports, reportNumber, reportValue};
-use flat::Checked;
+ghost use Rattle.utils_report.specs.Report.{Says, RootsReport, Reports, reportNumber, reportValue};
 use flat::Flat;
+use flat::Root;
 use flat::error::Error;
 use flat::kind::Kind;
 use utils_arms::number::numeric;
@@ -87,7 +87,7 @@ fn report_integers(a: u8, b: u8) -> Report
 }
 
 // Of the kinds of two valid types.
-pub fn report_kinds(a: u8, b: u8) -> Report
+fn report_kinds(a: u8, b: u8) -> Report
     ensures { λ r. ⌜ Says a b r ⌝ }
 {
     match a {
@@ -96,6 +96,19 @@ pub fn report_kinds(a: u8, b: u8) -> Report
             _ => Report::NotIntegers,
         },
         _ => Report::NotIntegers,
+    }
+}
+
+// Of the roots of two types: the refusal of the left, of the right, or the report on their kinds.
+pub fn report_roots(left: Root, right: Root) -> Report
+    ensures { λ r. ⌜ RootsReport left right r ⌝ }
+{
+    match left {
+        Root::Refused(e) => Report::Refused(e),
+        Root::Node(k, _) => match right {
+            Root::Refused(e) => Report::Refused(e),
+            Root::Node(l, _) => report_kinds(k, l),
+        },
     }
 }
 
@@ -111,13 +124,7 @@ pub fn join_report(
       deep ← ⟦Flat::MAX_DEPTH⟧ .entry
       ⌜ Reports (reading nodes deep (now («left_kinds» .entry)) (now («left_args» .entry))) (reading nodes deep (now («right_kinds» .entry)) (now («right_args» .entry))) r ⌝ }
 {
-    match flat::check(left_kinds, left_args) {
-        Checked::Valid => {}
-        Checked::Refused(e) => return Report::Refused(e),
-    }
-    match flat::check(right_kinds, right_args) {
-        Checked::Valid => {}
-        Checked::Refused(e) => return Report::Refused(e),
-    }
-    report_kinds(left_kinds[0], right_kinds[0])
+    let left = flat::check_root(left_kinds, left_args);
+    let right = flat::check_root(right_kinds, right_args);
+    report_roots(left, right)
 }

@@ -4,13 +4,14 @@ use mathlib.Core.Option.{Option, some}
 use Prim.Native.Nat.{ℕ}
 use lib.Dec.{eqb}
 use Rattle.flat.specs.Kind
-use Rattle.flat.specs.Tree.{DataType, headKind}
+use Rattle.flat.specs.Tree.{DataType}
 use Rattle.flat.specs.Reading.{Reading, refused}
 use Rattle.flat.specs.declared.error.Error.the-variants.{Nested, DecimalWithInteger}
 use Rattle.flat.specs.declared.Checked.{Checked}
 use Rattle.flat.specs.declared.Checked.the-variants.{Valid, Refused}
 use Rattle.datatypes.specs.Predicate.{isSignedInteger, isUnsignedInteger, isNested}
-use Rattle.utils.specs.Join.{rootOf, foundOf}
+use Rattle.utils.specs.Join.{rootNode, foundOf}
+use Rattle.utils.specs.declared.join.Node.{Node}
 use Rattle.utils_arms.specs.Supertype.{supertype}
 
 -- an integer code 2 to 11
@@ -30,5 +31,10 @@ abbrev pub afterCheck : Checked → Option Reading → Option Reading
 afterCheck (Refused e) found = some (refused e)
 afterCheck Valid found = found
 
+-- of two roots
+unfoldable pub rootSupertype : Bool → Bool → Node → Node → Option Reading
+rootSupertype implode toString l r = afterCheck (pairChecked (l .kind) (r .kind)) (foundOf (supertype implode toString l r))
+
+-- of two types
 unfoldable pub supertypeOf : Bool → Bool → DataType → DataType → Option Reading
-supertypeOf implode toString l r = afterCheck (pairChecked (headKind l) (headKind r)) (foundOf (supertype implode toString (rootOf l) (rootOf r)))
+supertypeOf implode toString l r = rootSupertype implode toString (rootNode l) (rootNode r)

@@ -2,18 +2,22 @@
 pub mod node;
 
 ghost use mathlib.Core.Path.{_≡_};
+ghost use mathlib.Core.Bool.{false};
 ghost use lib.ListN.{length};
-ghost use Rattle.flat.specs.Reading.{reading};
-ghost use Rattle.utils.specs.Join.{joining, fittingFound, Joins};
-ghost use Rattle.utils_supertype.specs.Pair.{isListed, decimalWithInteger, pairChecked, supertypeOf};
+ghost use Rattle.flat.specs.Reading.{reading, RootFits};
+ghost use Rattle.utils.specs.Join.{resultOf, joining, joiningRoots, fittingFound, Joins};
+ghost use Rattle.utils_supertype.specs.Pair.{isListed, decimalWithInteger, pairChecked, rootSupertype, supertypeOf};
 use datatypes::kind::is_nested;
 use flat::Checked;
 use flat::Flat;
+use flat::Root;
 use flat::error::Error;
 use flat::kind::Kind;
 use node::node_supertype;
+use utils::join::Found;
 use utils::join::Joined;
 use utils::join::Node;
+use utils::join::Supertype;
 use utils::join::put;
 
 fn is_listed(kind: u8) -> bool
@@ -54,6 +58,39 @@ pub fn check_pair(left: u8, right: u8) -> Checked
     Checked::Valid
 }
 
+fn join_nodes(to_string: bool, l: Node, r: Node) -> Found
+    requires { ⌜ RootFits (Root.Node (l .kind) (l .arg)) × RootFits (Root.Node (r .kind) (r .arg)) ⌝ }
+    ensures { λ t. ⌜ resultOf t ≡ rootSupertype false «to_string» l r ⌝ }
+{
+    match check_pair(l.kind, r.kind) {
+        Checked::Refused(e) => Found::Refused(e),
+        Checked::Valid => match node_supertype(to_string, l, r) {
+            Supertype::Some(n) => Found::Some(n),
+            Supertype::Nothing => Found::Nothing,
+        },
+    }
+}
+
+// Of the roots of two types: the refusal of the left, of the right, 6, 13, or the rule.
+pub fn join_roots(to_string: bool, left: Root, right: Root) -> Found
+    requires { ⌜ RootFits left × RootFits right ⌝ }
+    ensures { λ t. ⌜ resultOf t ≡ joiningRoots (rootSupertype false «to_string») left right ⌝ }
+{
+    match left {
+        Root::Refused(e) => Found::Refused(e),
+        Root::Node(k, a) => match right {
+            Root::Refused(e) => Found::Refused(e),
+            Root::Node(l, b) => {
+                join_nodes(
+                    to_string,
+                    Node { kind: k, arg: a },
+                    Node { kind: l, arg: b },
+                )
+            }
+        },
+    }
+}
+
 // The type that two columns get when they are joined, to the front of out_kinds and out_args: refusals 1 to 5 of the left type, of the right, 6, 13, then 8.
 pub fn get_supertype_with_options(
     left_kinds: &[u8],
@@ -70,28 +107,11 @@ pub fn get_supertype_with_options(
       deep ← ⟦Flat::MAX_DEPTH⟧ .entry
       ⌜ Joins (fittingFound (length (now («out_kinds» .entry))) (length (now («out_args» .entry))) (joining (supertypeOf «allow_implode_list» «allow_primitive_to_string») (reading nodes deep (now («left_kinds» .entry)) (now («left_args» .entry))) (reading nodes deep (now («right_kinds» .entry)) (now («right_args» .entry))))) (now («out_kinds» .entry)) (now («out_args» .entry)) (now («out_kinds» .exit)) (now («out_args» .exit)) r ⌝ }
 {
-    match flat::check(left_kinds, left_args) {
-        Checked::Valid => {}
-        Checked::Refused(e) => return Joined::Refused(e),
-    }
-    match flat::check(right_kinds, right_args) {
-        Checked::Valid => {}
-        Checked::Refused(e) => return Joined::Refused(e),
-    }
-    let l = Node {
-        kind: left_kinds[0],
-        arg: left_args[0],
-    };
-    let r = Node {
-        kind: right_kinds[0],
-        arg: right_args[0],
-    };
-    match check_pair(left_kinds[0], right_kinds[0]) {
-        Checked::Valid => put(
-            node_supertype(allow_primitive_to_string, l, r),
-            out_kinds,
-            out_args,
-        ),
-        Checked::Refused(e) => Joined::Refused(e),
-    }
+    let left = flat::check_root(left_kinds, left_args);
+    let right = flat::check_root(right_kinds, right_args);
+    put(
+        join_roots(allow_primitive_to_string, left, right),
+        out_kinds,
+        out_args,
+    )
 }

@@ -8,9 +8,11 @@
 #![forbid(unsafe_code)]
 
 mod inputs;
+mod joins;
 mod rules;
 mod timing;
 
+use rules::Row;
 use std::env;
 use std::hint::black_box;
 use timing::best;
@@ -44,19 +46,19 @@ fn beside_the_crate(inputs: &[(&str, Flat)]) {
         "input", "nodes", "call", "bytes ns", "crate ns", "ratio", "flat ns", "crate ns", "ratio"
     );
     for (name, flat) in inputs {
-        for (call, bytes, kept) in rules::rows(flat) {
-            let nodes = flat.kinds.len();
-            println!(
-                "{name:<28} {nodes:>5}  {call:<19} {:>9.1} {:>9.1} {:>6.2} {:>9.1} {:>9.1} {:>6.2}",
-                bytes.0,
-                bytes.1,
-                bytes.0 / bytes.1,
-                kept.0,
-                kept.1,
-                kept.0 / kept.1
-            );
-        }
+        rules::rows(flat).iter().for_each(|row| print(name, flat.kinds.len(), row));
     }
+    for (name, rows) in joins::sets() {
+        rows.iter().for_each(|row| print(name, 1, row));
+    }
+}
+
+fn print(input: &str, nodes: usize, (call, bytes, kept): &Row) {
+    let [bytes_ratio, kept_ratio] = [bytes, kept].map(|(port, crates)| port / crates);
+    println!(
+        "{input:<28} {nodes:>5}  {call:<19} {:>9.1} {:>9.1} {bytes_ratio:>6.2} {:>9.1} {:>9.1} {kept_ratio:>6.2}",
+        bytes.0, bytes.1, kept.0, kept.1
+    );
 }
 
 fn check(flat: &Flat) -> (f64, f64) {

@@ -14,7 +14,7 @@ use std::hint::black_box;
 use trials::flat::Flat;
 
 /// Nanoseconds of a call of the port and of the crate's text.
-type Times = (f64, f64);
+pub type Times = (f64, f64);
 
 /// A timed call: its name, the times from bytes, and the times from what either keeps a type in.
 pub type Row = (&'static str, Times, Times);

@@ -1,8 +1,10 @@
-//! `lomzegash [HEX...]`: what each encoded type says, or why it is refused; without arguments, a few worked ones.
+//! `lomzegash [HEX...]`: what each encoded type says, or why it is refused; without arguments, what becomes of probe
+//! numbers where Int32 and UInt64 are joined, and a few worked types.
 
 #![forbid(unsafe_code)]
 
 mod hex;
+mod join;
 mod render;
 mod worked;
 
@@ -12,6 +14,8 @@ use std::process::ExitCode;
 fn main() -> ExitCode {
     let texts: Vec<String> = env::args().skip(1).collect();
     if texts.is_empty() {
+        join::show();
+        println!("Encoded types:");
         worked::show();
         return ExitCode::SUCCESS;
     }

@@ -13,6 +13,9 @@
 //! | 23 | materialize_unknown | type, allow_unknown (0 or 1), room | the same | the same |
 //! | 24 | get_shape | type | widths, 0 for None | the widths |
 //! | 25 | get_time_units | unit, unit | the unit | |
+//! | 26 | get_numeric_upcast_supertype_lossless | left type, right type, room | nodes of the result, 0 for None | its kinds, its arguments |
+//! | 27 | get_supertype_with_options | left type, right type, allow_implode_list, allow_primitive_to_string (0 or 1 each), room | the same | the same |
+//! | 28 | join_report | left type, right type | 0 keeps, 1 loses needlessly, 2 loses inevitably, 3 not integers | |
 //!
 //! A type is the number of its kinds, the kinds, the number of its arguments, the arguments; the two numbers differ only
 //! where the call is refused for it. Room is how many nodes an output can hold. Number is 0 or the refusal's; beside a
@@ -22,13 +25,15 @@
 //! 8, is_integer 9, is_signed_integer 10, is_unsigned_integer 11, is_string 12, is_unknown 13, contains_unknown 14,
 //! contains_list_recursive 15.
 //!
-//! Numbers 1 to 5 are document 01's by the plain Rust, 8 follows from the room, all else is the oracle's.
+//! Numbers 1 to 5 are document 01's by the plain Rust, 6 and 13 are its by the kinds, 8 follows from the room, and the
+//! reports follow from the ranges of integers and the oracle's supertype; all else is the oracle's.
 
 use lomzegash::Error;
 use oracle::Type;
 use trials::entries::{Outcome, PREDICATES, RELATIONS, WRITERS};
 use trials::flat::Flat;
 use trials::input::Input;
+use trials::joins::{self, Join};
 
 pub const CHECK: u64 = 1;
 const FIRST_PREDICATE: u64 = 2;
@@ -36,7 +41,10 @@ const FIRST_RELATION: u64 = 16;
 const FIRST_WRITER: u64 = 19;
 const MATERIALIZE: u64 = 23;
 const SHAPE: u64 = 24;
-pub const TIME_UNITS: u64 = 25;
+const TIME_UNITS: u64 = 25;
+const LOSSLESS: u64 = 26;
+const SUPERTYPE: u64 = 27;
+pub const REPORT: u64 = 28;
 
 /// The place in `WRITERS` from which on the writer is `materialize_unknown`, first with its flag on.
 pub const MATERIALIZERS: usize = 4;
@@ -87,21 +95,27 @@ impl Answers {
             Ok((input, dtype)) => (WRITERS[at].oracle)(&input, &dtype),
             Err(number) => Outcome::Refused(number),
         };
-        let result = match &outcome {
-            Outcome::Written(bytes) => Type::decode(bytes).to_flat(),
-            _ => Default::default(),
-        };
-        let nodes = result.0.len();
-        let room = room(nodes.max(1));
-        let reply = match outcome {
-            Outcome::Written(_) if nodes > room => vec![Error::OutputTooShort.number(), 0],
-            Outcome::Refused(number) => vec![number, 0],
-            _ => [&[0, nodes as u64], &nodes_of(&result.0)[..], &result.1].concat(),
-        };
+        let (room, reply) = written(&outcome, room);
         match at.checked_sub(MATERIALIZERS) {
-            None => self.line(&[&[FIRST_WRITER + at as u64], &words(flat), &[room as u64], &reply]),
-            Some(off) => self.line(&[&[MATERIALIZE], &words(flat), &[1 - off as u64, room as u64], &reply]),
+            None => self.line(&[&[FIRST_WRITER + at as u64], &words(flat), &[room], &reply]),
+            Some(off) => self.line(&[&[MATERIALIZE], &words(flat), &[1 - off as u64, room], &reply]),
         }
+    }
+
+    pub fn join(&mut self, join: Join, left: &Flat, right: &Flat, room: Room) {
+        let (room, reply) = written(&join.outcome(&input(left), &input(right)), room);
+        let (entry, flags) = match join {
+            Join::Lossless => (LOSSLESS, vec![]),
+            Join::Supertype(options) => {
+                (SUPERTYPE, vec![options.allow_implode_list.into(), options.allow_primitive_to_string.into()])
+            }
+        };
+        self.line(&[&[entry], &words(left), &words(right), &flags, &[room], &reply]);
+    }
+
+    pub fn report(&mut self, left: &Flat, right: &Flat) {
+        let reply = answer(joins::report(&input(left), &input(right)).map(|report| report as u64));
+        self.line(&[&[REPORT], &words(left), &words(right), &reply]);
     }
 
     fn shape(&mut self, flat: &Flat) {
@@ -132,10 +146,33 @@ impl Answers {
 
 /// The input and the crate's type, or the number from 1 to 5 that document 01 gives the nodes.
 fn read(flat: &Flat) -> Result<(Input, Type), u64> {
-    plain::check(&flat.kinds, &flat.args).map_err(|refusal| refusal as u64)?;
-    let input = Input::from(flat);
+    let input = input(flat);
     let dtype = input.dtype.clone()?;
     Ok((input, dtype))
+}
+
+/// The input, with what document 01 says of the nodes; where that is a refusal, there are no bytes.
+fn input(flat: &Flat) -> Input {
+    match plain::check(&flat.kinds, &flat.args) {
+        Ok(()) => Input::from(flat),
+        Err(refusal) => Input { bytes: vec![], dtype: Err(refusal as u64) },
+    }
+}
+
+/// The room, and the answer with the result where there is one that has room.
+fn written(outcome: &Outcome, room: Room) -> (u64, Vec<u64>) {
+    let (kinds, args) = match outcome {
+        Outcome::Written(bytes) => Type::decode(bytes).to_flat(),
+        _ => Default::default(),
+    };
+    let nodes = kinds.len();
+    let room = room(nodes.max(1));
+    let reply = match outcome {
+        Outcome::Written(_) if nodes > room => vec![Error::OutputTooShort.number(), 0],
+        Outcome::Refused(number) => vec![*number, 0],
+        _ => [&[0, nodes as u64], &nodes_of(&kinds)[..], &args].concat(),
+    };
+    (room as u64, reply)
 }
 
 /// A type as a line has it.

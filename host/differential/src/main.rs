@@ -3,6 +3,9 @@
 //! is what `trials::differential` says: one call of one entry point on one input with one length of output. Without a
 //! source of the crate the status is 2.
 //!
+//! `differential [--seed S] --joins N`: the same on N pairs of types, nearly all of one node, and with the entry points
+//! alone that join two types: both rules, encoded and flat, with some flags and lengths of output, and the report.
+//!
 //! `differential --record N`: prints N or somewhat more of the oracle's answers, see [`answers`].
 
 #![forbid(unsafe_code)]
@@ -19,12 +22,12 @@ use trials::differential::{Differential, NO_ORACLE};
 use trials::draw;
 use trials::random::Random;
 
-/// Comparisons from one progress line to the next.
+/// Comparisons or pairs from one progress line to the next.
 const STEP: u64 = 1_000_000;
 
 fn main() -> ExitCode {
     let Some(Options { task, seed }) = Options::read(std::env::args().skip(1)) else {
-        eprintln!("usage: differential [--seed S] [--count N] | --record N");
+        eprintln!("usage: differential [--seed S] [--count N | --joins N] | --record N");
         return ExitCode::from(2);
     };
     if !oracle::AVAILABLE {
@@ -32,7 +35,8 @@ fn main() -> ExitCode {
         return ExitCode::from(2);
     }
     match task {
-        Task::Compare { count } => compare(seed, count),
+        Task::Compare { count } => reported(seed, |differential| compare(differential, seed, count)),
+        Task::Join { pairs } => reported(seed, |differential| join(differential, seed, pairs)),
         Task::Record { count } => {
             record::lines(count).iter().for_each(|line| println!("{line}"));
             ExitCode::SUCCESS
@@ -40,10 +44,11 @@ fn main() -> ExitCode {
     }
 }
 
-fn compare(seed: u64, count: u64) -> ExitCode {
+/// Runs, says how many comparisons there were, and whether one showed a difference.
+fn reported(seed: u64, run: impl FnOnce(&mut Differential)) -> ExitCode {
     let mut differential = Differential::default();
     // What a panic leaves behind is only counted.
-    let run = catch_unwind(AssertUnwindSafe(|| run(&mut differential, seed, count)));
+    let run = catch_unwind(AssertUnwindSafe(|| run(&mut differential)));
     differential.report(&format!("seed {seed}"));
     match run {
         Ok(()) => ExitCode::SUCCESS,
@@ -54,7 +59,7 @@ fn compare(seed: u64, count: u64) -> ExitCode {
     }
 }
 
-fn run(differential: &mut Differential, seed: u64, count: u64) {
+fn compare(differential: &mut Differential, seed: u64, count: u64) {
     let (mut random, start) = (Random::new(seed), Instant::now());
     let mut next = STEP;
     while differential.count() < count {
@@ -64,4 +69,15 @@ fn run(differential: &mut Differential, seed: u64, count: u64) {
             next += STEP;
         }
     }
+}
+
+fn join(differential: &mut Differential, seed: u64, pairs: u64) {
+    let (mut random, start) = (Random::new(seed), Instant::now());
+    for pair in 1..=pairs {
+        draw::join_leaves(differential, &mut random);
+        if pair % STEP == 0 {
+            eprintln!("{pair} of {pairs} pairs, {} s", start.elapsed().as_secs());
+        }
+    }
+    println!("{pairs} pairs of types, joined");
 }

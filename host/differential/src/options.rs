@@ -15,6 +15,8 @@ pub struct Options {
 pub enum Task {
     /// So many comparisons.
     Compare { count: u64 },
+    /// So many pairs of types, joined.
+    Join { pairs: u64 },
     /// So many lines of recorded answers.
     Record { count: usize },
 }
@@ -28,6 +30,7 @@ impl Options {
             match &word[..] {
                 "--seed" => options.seed = number,
                 "--count" => options.task = Task::Compare { count: number },
+                "--joins" => options.task = Task::Join { pairs: number },
                 "--record" => options.task = Task::Record { count: number as usize },
                 _ => return None,
             }
@@ -48,6 +51,7 @@ mod tests {
     fn words_come_with_numbers() {
         assert_eq!(read(""), Some(Options { task: Task::Compare { count: COUNT }, seed: 1 }));
         assert_eq!(read("--seed 7 --count 9"), Some(Options { task: Task::Compare { count: 9 }, seed: 7 }));
+        assert_eq!(read("--joins 9 --seed 7"), Some(Options { task: Task::Join { pairs: 9 }, seed: 7 }));
         assert_eq!(read("--record 50"), Some(Options { task: Task::Record { count: 50 }, seed: 1 }));
         assert_eq!(["--seed", "--seed x", "--help", "--more 1"].map(read), [None, None, None, None]);
     }

@@ -1,5 +1,7 @@
 //! Which answers of the oracle are recorded. [`crate::answers`] has the format.
 
+mod joins;
+
 use crate::answers::{Answers, Room, MATERIALIZERS, ONE_TYPE_CALLS};
 use lomzegash::kind::*;
 use trials::damage;
@@ -14,14 +16,15 @@ const ROOMS: [Room; 4] = [|_| 0, |nodes| nodes - 1, |nodes| nodes, |nodes| nodes
 /// Sizes of the types that are drawn: lines stay short.
 const SIZES: [usize; 9] = [1, 1, 2, 3, 4, 5, 6, 8, 12];
 
-/// At least so many lines, the same ones every time: first each limit, refusal and kind of leaf, then random calls of each
-/// entry point in turn, then the last line.
+/// At least so many lines, the same ones every time: first each limit, refusal, kind of leaf and join of two kinds, then
+/// random calls of each entry point in turn, then the last line.
 pub fn lines(count: usize) -> Vec<String> {
     let mut answers = Answers::default();
     limits(&mut answers);
     refusals(&mut answers);
     unknown(&mut answers);
     leaves(&mut answers);
+    joins::chosen(&mut answers);
     let mut random = Random::new(552);
     while answers.lines.len() < count {
         one_of_each(&mut answers, &mut random);
@@ -94,6 +97,7 @@ fn one_of_each(answers: &mut Answers, random: &mut Random) {
         answers.relation(at, &damaged_at_times(left, random), &damaged_at_times(right, random));
     }
     answers.time_units(random.below(4) as u8, random.below(4) as u8);
+    joins::drawn(answers, random);
 }
 
 /// Nodes that are no type, by each of the numbers from 1 to 5.
@@ -133,11 +137,11 @@ fn damaged_at_times(mut flat: Flat, random: &mut Random) -> Flat {
 #[cfg(test)]
 mod tests {
     use super::*;
-    use crate::answers::{CHECK, TIME_UNITS};
+    use crate::answers::{CHECK, REPORT};
     use trials::differential::has_oracle;
 
     /// How many lines crates/replay was asked for.
-    const LINES: usize = 4500;
+    const LINES: usize = 7500;
 
     #[test]
     fn the_replayed_lines_are_the_recorded_ones() {
@@ -159,11 +163,11 @@ mod tests {
         assert_eq!(last, "0");
         let numbers = |line: &String| line.split(' ').map(|word| word.parse().unwrap()).collect::<Vec<u64>>();
         let rest: Vec<Vec<u64>> = rest.iter().map(numbers).collect();
-        for entry in CHECK..=TIME_UNITS {
+        for entry in CHECK..=REPORT {
             assert!(rest.iter().filter(|line| line[0] == entry).count() >= 50, "entry {entry}");
         }
         let is_refused_by = |number| rest.iter().filter(|line| line[line.len() - 2..] == [number, 0]).count();
-        for number in [1, 2, 3, 4, 5, 7, 8] {
+        for number in [1, 2, 3, 4, 5, 6, 7, 8, 13] {
             assert!(is_refused_by(number) >= 10, "refusal {number}");
         }
     }

@@ -3,6 +3,7 @@
 pub(crate) mod dtype;
 pub(crate) mod flat;
 mod reply;
+pub(crate) mod supertype;
 
 use crate::Error;
 use reply::Reply;

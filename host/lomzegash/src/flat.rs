@@ -1,9 +1,10 @@
-//! Rules of polars-core's dtype.rs on flat types, for callers that keep types so. [`crate::dtype`] has them all, on
-//! encoded types.
+//! Rules of polars-core's dtype.rs and supertype.rs on flat types, for callers that keep types so. [`crate::dtype`] and
+//! [`crate::supertype`] have them all, on encoded types.
 //!
 //! All are refused by [`Error::Length`] to [`Error::Depth`], numbers 1 to 5, where two slices aren't a type; of two types
 //! the left is looked at first.
 
+use crate::supertype::SuperTypeOptions;
 use crate::{ffi, Error};
 
 /// A type's kinds and arguments.
@@ -56,4 +57,37 @@ pub fn materialize_unknown(dtype: Nodes, allow_unknown: bool, out: Output) -> Re
 /// ```
 pub fn to_physical(dtype: Nodes, out: Output) -> Result<usize, Error> {
     ffi::flat::to_physical(dtype, out)
+}
+
+/// Writes the smallest numeric type that both can be cast to without loss, and gives its number of nodes, as
+/// [`crate::supertype::get_numeric_upcast_supertype_lossless`] does on encoded types.
+///
+/// Refused by numbers 1 to 5 of the left type, then of the right, then by [`Error::OutputTooShort`]; a None or a refused
+/// call writes nothing.
+///
+/// ```
+/// use lomzegash::flat::get_numeric_upcast_supertype_lossless;
+/// use lomzegash::kind::{INT128, INT32, UINT64};
+///
+/// let (mut kinds, mut args) = ([9; 2], [9; 2]);
+/// let (old, new) = ((&[INT32][..], &[0][..]), (&[UINT64][..], &[0][..]));
+/// assert_eq!(get_numeric_upcast_supertype_lossless(old, new, (&mut kinds, &mut args)), Ok(Some(1)));
+/// assert_eq!((kinds, args), ([INT128, 9], [0, 9]));
+/// ```
+pub fn get_numeric_upcast_supertype_lossless(left: Nodes, right: Nodes, out: Output) -> Result<Option<usize>, Error> {
+    ffi::flat::get_numeric_upcast_supertype_lossless(left, right, out)
+}
+
+/// Writes the type that both can be cast to, and gives its number of nodes, as
+/// [`crate::supertype::get_supertype_with_options`] does on encoded types.
+///
+/// Refused by numbers 1 to 5 of the left type, then of the right, by [`Error::Nested`] where either is nested, by
+/// [`Error::DecimalWithInteger`], then by [`Error::OutputTooShort`]; a None or a refused call writes nothing.
+pub fn get_supertype_with_options(
+    left: Nodes,
+    right: Nodes,
+    options: SuperTypeOptions,
+    out: Output,
+) -> Result<Option<usize>, Error> {
+    ffi::flat::get_supertype_with_options(left, right, options.flags(), out)
 }

@@ -1,5 +1,5 @@
 //! Flat types and encoded types, checked, decoded and encoded by proved code, and the type rules of polars-core 0.55.2
-//! on encoded types: [`dtype`] and [`time_unit`]; some of them on flat types too: [`flat`].
+//! on encoded types: [`dtype`], [`supertype`] and [`time_unit`]; some of them on flat types too: [`flat`].
 //!
 //! A *flat type* is a type as a tree in preorder: two slices of equal length, one kind ([`kind`]) and one argument for
 //! each node. An *encoded type* (a stored sheet, in the rules) is the same in bytes: the number of nodes n (2 bytes, low
@@ -30,6 +30,7 @@ mod ffi;
 pub mod flat;
 pub mod kind;
 mod shape;
+pub mod supertype;
 pub mod time_unit;
 
 pub use error::Error;

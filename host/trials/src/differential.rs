@@ -1,4 +1,5 @@
-//! The differential comparison: every entry point that the crate has too, beside the oracle.
+//! The differential comparison: every entry point that the crate has too, beside the oracle, and the report of what a join
+//! loses, beside the ranges of integers.
 //!
 //! One comparison is one call of one entry point of the port, on one input (a type, two types or two units) and with one
 //! length of output: its number, its value and every byte of the output, written or left alone, are held to what the
@@ -6,12 +7,10 @@
 //! shows the input.
 
 use crate::entries::{Outcome, Predicate, Relation, Writer, PREDICATES, RELATIONS, WRITERS};
-use crate::input::{Input, Shown};
+use crate::input::{types, Input, Shown};
+use lomzegash::supertype::JoinReport;
 use lomzegash::Error;
-use std::fmt::Debug;
-
-/// Bytes behind each output that no call is given.
-const GUARD: usize = 3;
+use std::fmt::{Debug, Display};
 
 /// What is said where there is nothing to compare with; `./test` looks for these words.
 pub const NO_ORACLE: &str = "no source of polars-core at hand: the port was not compared with the crate";
@@ -24,12 +23,18 @@ pub fn has_oracle() -> bool {
     oracle::AVAILABLE
 }
 
+/// How many comparisons came to each number from 0, success, to 13.
+pub type Numbers = [u64; 14];
+
 /// Compares, and counts the comparisons by the number that they came to, and those of two types by what they said.
 #[derive(Default)]
 pub struct Differential {
-    of_number: [u64; 9],
+    of_number: Numbers,
     said: [[u64; 3]; RELATIONS.len()],
-    out: Vec<u8>,
+    pub(crate) reported: [u64; JoinReport::ALL.len()],
+    pub(crate) bytes: Vec<u8>,
+    pub(crate) kinds: Vec<u8>,
+    pub(crate) args: Vec<u64>,
 }
 
 impl Differential {
@@ -48,7 +53,7 @@ impl Differential {
         self.flat_one(input);
     }
 
-    /// Every entry point of two types.
+    /// Every entry point that says yes or no of two types.
     pub fn two(&mut self, left: &Input, right: &Input) {
         let _shown = Shown(&[left, right]);
         for (relation, at) in RELATIONS.iter().zip(0..) {
@@ -72,11 +77,14 @@ impl Differential {
         self.of_number.iter().sum()
     }
 
-    /// Prints how many comparisons there were, and gives how many of them came to each number from 0 to 8.
-    pub fn report(&self, what: &str) -> [u64; 9] {
-        println!("{what}: {} comparisons, by number from 0 to 8: {:?}", self.count(), self.of_number);
+    /// Prints how many comparisons there were, and gives how many of them came to each number.
+    pub fn report(&self, what: &str) -> Numbers {
+        println!("{what}: {} comparisons, by number from 0 to 13: {:?}", self.count(), self.of_number);
         for (relation, said) in RELATIONS.iter().zip(self.said).filter(|(_, said)| *said != [0; 3]) {
             println!("  {} said no, yes, no verdict: {said:?}", relation.name);
+        }
+        if self.reported != [0; JoinReport::ALL.len()] {
+            println!("  {:?} were reported: {:?}", JoinReport::ALL, self.reported);
         }
         self.of_number
     }
@@ -86,16 +94,18 @@ impl Differential {
         self.said[RELATIONS.len() - 1]
     }
 
+    /// How often each report was given.
+    pub fn reported(&self) -> [u64; JoinReport::ALL.len()] {
+        self.reported
+    }
+
     fn predicate(&mut self, predicate: &Predicate, input: &Input) {
         let expected = input.dtype.as_ref().map(predicate.oracle).map_err(|&number| number);
         self.settle(predicate.name, (predicate.port)(&input.bytes), expected);
     }
 
     fn relation(&mut self, relation: &Relation, left: &Input, right: &Input) -> Result<Option<bool>, u64> {
-        let expected = match (&left.dtype, &right.dtype) {
-            (Ok(left), Ok(right)) => Ok((relation.oracle)(left, right)),
-            (Err(number), _) | (_, Err(number)) => Err(*number),
-        };
+        let expected = types(left, right).map(|(left, right)| (relation.oracle)(left, right));
         self.settle(relation.name, (relation.port)(&left.bytes, &right.bytes), expected);
         expected
     }
@@ -113,37 +123,16 @@ impl Differential {
             Ok(dtype) => (writer.oracle)(input, dtype),
             Err(number) => Outcome::Refused(*number),
         };
-        let len = match &outcome {
-            Outcome::Written(bytes) => bytes.len(),
-            _ => input.bytes.len() + 1,
-        };
+        let len = outcome.len().unwrap_or(input.bytes.len() + 1);
         for room in [0, len - 1, len, len + 7] {
-            self.write(writer, input, &outcome, room);
+            self.write_bytes(writer.name, &outcome, room, |out| (writer.port)(&input.bytes, out));
         }
-    }
-
-    /// One call with an output of length `room`.
-    fn write(&mut self, writer: &Writer, input: &Input, outcome: &Outcome, room: usize) {
-        let (expected, written) = match outcome {
-            Outcome::Refused(number) => (Err(*number), &[][..]),
-            Outcome::None => (Ok(None), &[][..]),
-            Outcome::Written(bytes) if bytes.len() > room => (Err(Error::OutputTooShort.number()), &[][..]),
-            Outcome::Written(bytes) => (Ok(Some(bytes.len())), &bytes[..]),
-        };
-        let filler = if room.is_multiple_of(2) { 0x5A } else { 0xA5 };
-        self.out.clear();
-        self.out.resize(room + GUARD, filler);
-        let port = (writer.port)(&input.bytes, &mut self.out[..room]);
-        self.settle(writer.name, port, expected);
-        let (front, rest) = self.out.split_at(written.len());
-        assert_eq!(front, written, "{}: bytes written to an output of {room}", writer.name);
-        assert!(rest.iter().all(|&byte| byte == filler), "{}: bytes left alone of {room}", writer.name);
     }
 
     /// The port's answer must be the expected one, the refusal's number included.
     pub(crate) fn settle<T: PartialEq + Debug>(
         &mut self,
-        name: &str,
+        name: impl Display,
         port: Result<T, Error>,
         expected: Result<T, u64>,
     ) {

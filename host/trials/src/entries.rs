@@ -65,6 +65,26 @@ pub enum Outcome {
     Refused(u64),
 }
 
+impl Outcome {
+    /// The number of bytes of the result, if there is one.
+    pub(crate) fn len(&self) -> Option<usize> {
+        match self {
+            Outcome::Written(bytes) => Some(bytes.len()),
+            _ => None,
+        }
+    }
+
+    /// What is written, None where that is nothing, or the refusal's number, where `fits` says whether there is room.
+    pub(crate) fn with_room(&self, fits: impl FnOnce(&[u8]) -> bool) -> Result<Option<&[u8]>, u64> {
+        match self {
+            Outcome::Refused(number) => Err(*number),
+            Outcome::None => Ok(None),
+            Outcome::Written(bytes) if fits(bytes) => Ok(Some(bytes)),
+            Outcome::Written(_) => Err(Error::OutputTooShort.number()),
+        }
+    }
+}
+
 /// An entry point that writes a type.
 pub struct Writer {
     /// The source's name.

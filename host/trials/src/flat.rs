@@ -47,6 +47,11 @@ impl Flat {
         flat
     }
 
+    /// Both slices, as the calls on flat types take them.
+    pub fn parts(&self) -> (&[u8], &[u64]) {
+        (&self.kinds, &self.args)
+    }
+
     /// Adds a node at the end.
     pub fn push(&mut self, kind: u8, arg: u64) {
         self.kinds.push(kind);

@@ -30,6 +30,11 @@ impl Input {
         (!no_length).then(|| Flat::read(&self.bytes))
     }
 
+    /// The kind of the first node of a type.
+    pub(crate) fn root(&self) -> u8 {
+        self.bytes[2]
+    }
+
     /// Whether the unknown type `any` is a part of the type.
     pub fn has_any(&self) -> bool {
         let nodes = self.bytes.len() / 9;
@@ -40,6 +45,14 @@ impl Input {
 impl From<&Flat> for Input {
     fn from(flat: &Flat) -> Input {
         Input::new(flat.laid_out())
+    }
+}
+
+/// The crate's types of two inputs, or the number from 1 to 5 of the left or else of the right.
+pub(crate) fn types<'a>(left: &'a Input, right: &'a Input) -> Result<(&'a Type, &'a Type), u64> {
+    match (&left.dtype, &right.dtype) {
+        (Ok(left), Ok(right)) => Ok((left, right)),
+        (Err(number), _) | (_, Err(number)) => Err(*number),
     }
 }
 

@@ -35,8 +35,8 @@ pub const FEW: [(u8, u64); 26] = [
 /// Numbers of time zones; 0 is none.
 const ZONES: [u64; 5] = [0, 1, 2, 1 << 31, (1 << 32) - 1];
 
-/// Every type of one node, but of Datetimes the zones alone that are above and of unknown integers those alone whose
-/// argument is a power of two, one less or one more.
+/// Every type of one node, but of Datetimes the zones alone that are above and of unknown integers those alone that are a
+/// power of two, one less or one more, of either sign.
 pub fn every() -> Vec<(u8, u64)> {
     let with_argument = [DECIMAL, DATETIME, DURATION, UNKNOWN_INT_POS, UNKNOWN_INT_NEG];
     let mut leaves: Vec<_> =
@@ -49,9 +49,11 @@ pub fn every() -> Vec<(u8, u64)> {
     for precision in 1..=38 {
         leaves.extend((0..=precision).map(|scale| (DECIMAL, 256 * scale + precision)));
     }
-    for arg in around_powers_of_two() {
-        leaves.extend([(UNKNOWN_INT_POS, arg), (UNKNOWN_INT_NEG, arg)]);
+    for value in around_powers_of_two() {
+        leaves.push((UNKNOWN_INT_POS, value));
+        leaves.extend(value.checked_sub(1).map(|arg| (UNKNOWN_INT_NEG, arg)));
     }
+    leaves.push((UNKNOWN_INT_NEG, u64::MAX));
     leaves
 }
 

@@ -1,10 +1,13 @@
-//! Corners 11 to 17 of document 01, by its own words: of the port, and of the crate's text where there is one.
+//! Corners 1 to 17 of document 01, by its own words: of the port, and of the crate's text where there is one.
 
 use lomzegash::dtype;
 use lomzegash::kind::*;
 use lomzegash::Error;
 use oracle::Type;
+use trials::entries::Outcome;
 use trials::flat::Flat;
+use trials::input::Input;
+use trials::joins::{self, Join};
 
 const YES: Option<bool> = Some(true);
 const NO: Option<bool> = Some(false);
@@ -46,6 +49,46 @@ fn casts(from: &Flat, to: &Flat, expected: Option<bool>) {
     assert_eq!(dtype::can_cast_to(&from.laid_out(), &to.laid_out()), Ok(expected), "{from:?} to {to:?}");
     if oracle::AVAILABLE {
         assert_eq!(type_of(from).can_cast_to(&type_of(to)), expected, "the crate: {from:?} to {to:?}");
+    }
+}
+
+fn dyn_int(value: i128) -> Flat {
+    let arg = if value < 0 { -1 - value } else { value };
+    let kind = if value < 0 { UNKNOWN_INT_NEG } else { UNKNOWN_INT_POS };
+    Flat::new(&[(kind, arg as u64)])
+}
+
+fn datetime(unit: u64, zone: u64) -> Flat {
+    Flat::new(&[(DATETIME, 4 * zone + unit)])
+}
+
+/// What a join of two types is; None where there is none.
+fn joins(join: Join, left: &Flat, right: &Flat, expected: Option<&Flat>) {
+    let (l, r, expected) = (left.laid_out(), right.laid_out(), expected.map(Flat::laid_out));
+    let mut out = [0; 11];
+    let port = join.on_bytes(&l, &r, &mut out).map(|written| written.map(|len| out[..len].to_vec()));
+    assert_eq!(port, Ok(expected.clone()), "{join:?} of {left:?} and {right:?}");
+    if oracle::AVAILABLE {
+        let crates = match join.outcome(&Input::new(l), &Input::new(r)) {
+            Outcome::Written(bytes) => Some(bytes),
+            Outcome::None => None,
+            Outcome::Refused(number) => panic!("refused by {number}"),
+        };
+        assert_eq!(crates, expected, "the crate: {join:?} of {left:?} and {right:?}");
+    }
+}
+
+/// The supertype with primitive-to-string off or on; the implode flag changes nothing.
+fn supertype_where(to_string: bool, left: &Flat, right: &Flat, expected: Option<&Flat>) {
+    for implode in [false, true] {
+        joins(joins::supertype(implode, to_string), left, right, expected);
+    }
+}
+
+/// The supertype, whatever the flags.
+fn supertype(left: &Flat, right: &Flat, expected: &Flat) {
+    for to_string in [false, true] {
+        supertype_where(to_string, left, right, Some(expected));
     }
 }
 
@@ -94,6 +137,147 @@ fn shape(of: &Flat, expected: Option<&[u64]>) {
     assert_eq!(port, Ok(expected.clone()), "{of:?}");
     if oracle::AVAILABLE {
         assert_eq!(type_of(of).get_shape(), expected, "the crate: {of:?}");
+    }
+}
+
+#[test]
+fn corner_1_the_left_of_two_dyn_ints_returns() {
+    let [one, three_hundred, least] = [1, 300, -(1 << 64)].map(dyn_int);
+    supertype(&one, &three_hundred, &one);
+    supertype(&three_hundred, &one, &three_hundred);
+    supertype(&least, &one, &least);
+    supertype(&one, &least, &one);
+}
+
+#[test]
+fn corner_2_any_with_string_gives_string_and_string_with_any_gives_any() {
+    supertype(&leaf(UNKNOWN_ANY), &leaf(STRING), &leaf(STRING));
+    supertype(&leaf(STRING), &leaf(UNKNOWN_ANY), &leaf(UNKNOWN_ANY));
+}
+
+#[test]
+fn corner_3_dyn_int_with_str() {
+    let (five, str, any) = (dyn_int(5), leaf(UNKNOWN_STR), leaf(UNKNOWN_ANY));
+    supertype_where(true, &five, &str, Some(&any));
+    supertype_where(true, &str, &five, Some(&str));
+    supertype_where(false, &five, &str, Some(&any));
+    supertype_where(false, &str, &five, Some(&any));
+}
+
+#[test]
+fn corner_4_uint64_with_negative_dyn_ints() {
+    let uint64 = leaf(UINT64);
+    supertype(&uint64, &dyn_int(-1), &leaf(INT64));
+    supertype(&uint64, &dyn_int(-(1 << 63)), &leaf(INT64));
+    supertype(&uint64, &dyn_int(-(1 << 63) - 1), &uint64);
+    supertype(&uint64, &dyn_int(-(1 << 64)), &uint64);
+}
+
+#[test]
+fn corner_5_uint128_with_int8() {
+    let (uint128, int8, int128) = (leaf(UINT128), leaf(INT8), leaf(INT128));
+    supertype(&uint128, &int8, &int128);
+    supertype(&int8, &uint128, &int128);
+    joins(Join::Lossless, &uint128, &int8, None);
+    joins(Join::Lossless, &int8, &uint128, None);
+}
+
+#[test]
+fn corner_6_binaries_with_string() {
+    supertype_where(false, &leaf(BINARY_OFFSET), &leaf(STRING), Some(&leaf(STRING)));
+    supertype(&leaf(BINARY), &leaf(STRING), &leaf(BINARY));
+}
+
+#[test]
+fn corner_7_boolean_with_dyn_float_and_date_with_dyn_int_give_any() {
+    supertype(&leaf(BOOLEAN), &leaf(UNKNOWN_FLOAT), &leaf(UNKNOWN_ANY));
+    supertype(&leaf(DATE), &dyn_int(5), &leaf(UNKNOWN_ANY));
+}
+
+#[test]
+fn corner_8_floats_with_integers() {
+    for (integer, float) in [(INT8, FLOAT16), (INT16, FLOAT32), (INT32, FLOAT64)] {
+        supertype(&leaf(FLOAT16), &leaf(integer), &leaf(float));
+    }
+    supertype(&leaf(INT32), &leaf(FLOAT32), &leaf(FLOAT64));
+}
+
+#[test]
+fn corner_9_integers_with_dyn_ints() {
+    let cases = [
+        (INT8, 127, INT8),
+        (INT8, 128, INT16),
+        (UINT8, 255, UINT8),
+        (UINT8, 256, UINT16),
+        (INT64, (1 << 63) - 1, INT64),
+        (INT64, 1 << 63, FLOAT64),
+    ];
+    for (integer, value, expected) in cases {
+        supertype(&leaf(integer), &dyn_int(value), &leaf(expected));
+    }
+}
+
+#[test]
+fn corner_10_datetimes_of_different_zones_have_no_supertype() {
+    for unit in 0..=2 {
+        for (left, right) in [(1, 2), (2, 1), (0, 1), (1, 0), (0, (1 << 32) - 1)] {
+            for to_string in [false, true] {
+                supertype_where(to_string, &datetime(0, left), &datetime(unit, right), None);
+            }
+        }
+        for zone in [0, 1, (1 << 32) - 1] {
+            supertype(&datetime(0, zone), &datetime(unit, zone), &datetime(unit, zone));
+        }
+    }
+}
+
+/// The probes of tank 7 and tank 9: one rule says Float64, the other Int128.
+#[test]
+fn int32_with_uint64() {
+    let (old, new) = (leaf(INT32), leaf(UINT64));
+    supertype(&old, &new, &leaf(FLOAT64));
+    joins(Join::Lossless, &old, &new, Some(&leaf(INT128)));
+}
+
+/// 6 comes before 13, which asks about the two types and not about what stands inside them, and 8 after both.
+#[test]
+fn refusals_6_13_and_8_of_the_supertype() {
+    let (decimal, int8) = (Flat::new(&[(DECIMAL, 256 * 2 + 10)]), leaf(INT8));
+    let cases = [
+        (&decimal, &list(&int8), Error::Nested),
+        (&list(&decimal), &int8, Error::Nested),
+        (&fields(0, std::slice::from_ref(&decimal)), &int8, Error::Nested),
+        (&int8, &array(1, &decimal), Error::Nested),
+        (&decimal, &int8, Error::DecimalWithInteger),
+        (&int8, &decimal, Error::DecimalWithInteger),
+        (&decimal, &leaf(FLOAT64), Error::OutputTooShort),
+        (&int8, &leaf(INT16), Error::OutputTooShort),
+    ];
+    for join in &joins::JOINS[1..] {
+        for (left, right, error) in cases {
+            let answer = join.on_bytes(&left.laid_out(), &right.laid_out(), &mut []);
+            assert_eq!(answer, Err(error), "{join:?} of {left:?} and {right:?}");
+        }
+    }
+}
+
+/// It isn't a supertype call in the sense of 6 and 13.
+#[test]
+fn the_lossless_upcast_takes_any_two_types() {
+    let (decimal, int8) = (Flat::new(&[(DECIMAL, 256 * 2 + 10)]), leaf(INT8));
+    let without = [
+        (&decimal, &int8),
+        (&int8, &decimal),
+        (&list(&int8), &int8),
+        (&int8, &Flat::wide_struct(255)),
+        (&int8, &int8),
+        (&int8, &dyn_int(300)),
+        (&int8, &leaf(FLOAT64)),
+        (&leaf(BOOLEAN), &int8),
+    ];
+    for (left, right) in without {
+        joins(Join::Lossless, left, right, None);
+        assert_eq!(Join::Lossless.on_bytes(&left.laid_out(), &right.laid_out(), &mut []), Ok(None));
     }
 }
 

@@ -41,10 +41,56 @@ static int rules(void) {
     return 0;
 }
 
+/* The joins, on Int32, UInt64, UInt128, a Decimal and List(Int16). */
+static int joins(void) {
+    const uint8_t int32[11] = {0x01, 0x00, 0x09}, uint64[11] = {0x01, 0x00, 0x05}, uint128[11] = {0x01, 0x00, 0x06};
+    const uint8_t decimal[11] = {0x01, 0x00, 0x0F, 0x0A, 0x02}, list[20] = {0x02, 0x00, 0x1C, 0x08};
+    uint8_t out[12];
+    memset(out, 9, sizeof out);
+
+    if (!is(lz_get_numeric_upcast_supertype_lossless(uint128, 11, int32, 11, out, 12), LZ_OK, 0)) return 28;
+    if (out[0] != 9) return 28;
+    if (!is(lz_get_numeric_upcast_supertype_lossless(list, 20, decimal, 11, out, 0), LZ_OK, 0)) return 29;
+    if (!is(lz_get_numeric_upcast_supertype_lossless(int32, 11, uint64, 11, out, 12), LZ_OK, 11)) return 30;
+    if (out[0] != 1 || out[2] != 0x0B || out[10] != 0 || out[11] != 9) return 31;
+
+    if (!is(lz_get_supertype_with_options(decimal, 11, list, 20, 0, 0, out, 12), LZ_NESTED, 0)) return 32;
+    if (!is(lz_get_supertype_with_options(decimal, 11, int32, 11, 0, 0, out, 0), LZ_DECIMAL_WITH_INTEGER, 0)) return 33;
+    if (!is(lz_get_supertype_with_options(int32, 11, uint64, 11, 0, 0, out, 10), LZ_OUTPUT_TOO_SHORT, 0)) return 34;
+    if (out[2] != 0x0B) return 35;
+    if (!is(lz_get_supertype_with_options(int32, 11, uint64, 11, 1, 1, out, 12), LZ_OK, 11) || out[2] != 0x0E) return 36;
+
+    if (!is(lz_join_report(int32, 11, int32, 11), LZ_OK, LZ_JOIN_KEEPS)) return 37;
+    if (!is(lz_join_report(int32, 11, uint64, 11), LZ_OK, LZ_JOIN_LOSES_NEEDLESSLY)) return 38;
+    if (!is(lz_join_report(uint128, 11, int32, 11), LZ_OK, LZ_JOIN_LOSES_INEVITABLY)) return 39;
+    if (!is(lz_join_report(list, 20, int32, 11), LZ_OK, LZ_JOIN_NOT_INTEGERS)) return 40;
+    return 0;
+}
+
+/* The joins on flat types: the unknown string and the unknown integer 5, with primitive-to-string off and on. */
+static int flat_joins(void) {
+    const uint8_t str = 24, dyn = 26, int8 = 7, int16 = 8;
+    const uint64_t zero = 0, five = 5;
+    uint8_t kinds[2] = {9, 9};
+    uint64_t args[2] = {9, 9};
+    lz_reply reply;
+
+    reply = lz_flat_get_supertype_with_options(&str, 1, &zero, 1, &dyn, 1, &five, 1, 1, 0, kinds, 2, args, 2);
+    if (!is(reply, LZ_OK, 1) || kinds[0] != 23 || kinds[1] != 9 || args[0] != 0 || args[1] != 9) return 41;
+    reply = lz_flat_get_supertype_with_options(&str, 1, &zero, 1, &dyn, 1, &five, 1, 0, 1, kinds, 2, args, 2);
+    if (!is(reply, LZ_OK, 1) || kinds[0] != 24) return 42;
+    reply = lz_flat_get_numeric_upcast_supertype_lossless(&int8, 1, &zero, 1, &int16, 1, &zero, 1, kinds, 2, args, 0);
+    if (!is(reply, LZ_OUTPUT_TOO_SHORT, 0) || kinds[0] != 24) return 43;
+    reply = lz_flat_get_numeric_upcast_supertype_lossless(&int8, 1, &zero, 1, &int16, 1, &zero, 1, kinds, 1, args, 1);
+    if (!is(reply, LZ_OK, 1) || kinds[0] != 8 || args[0] != 0) return 44;
+    return 0;
+}
+
 int main(void) {
     const uint8_t list_of_int16[20] = {0x02, 0x00, 0x1C, 0x08};
     uint8_t kinds[3] = {9, 9, 9}, out[21];
     uint64_t args[3] = {9, 9, 9};
+    int wrong;
     memset(out, 9, sizeof out);
 
     if (!is(lz_check(list_of_int16, 20), LZ_OK, 0)) return 1;
@@ -57,5 +103,8 @@ int main(void) {
     if (!is(lz_encode(kinds, 1, args, 1, out, 21), LZ_SHAPE, 0) || out[0] != 9) return 6;
     if (!is(lz_encode(kinds, 2, args, 2, out, 21), LZ_OK, 20)) return 7;
     if (memcmp(out, list_of_int16, 20) != 0 || out[20] != 9) return 8;
-    return rules();
+    wrong = rules();
+    if (wrong == 0) wrong = joins();
+    if (wrong == 0) wrong = flat_joins();
+    return wrong;
 }

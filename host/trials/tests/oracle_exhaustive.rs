@@ -1,7 +1,7 @@
 //! Beside the crate's own text: every small type and every pair of them.
 
 use lomzegash::kind::*;
-use trials::differential::{has_oracle, Differential};
+use trials::differential::{has_oracle, Differential, Numbers};
 use trials::flat::Flat;
 use trials::input::Input;
 use trials::leaves;
@@ -35,7 +35,7 @@ fn each_pair(what: &str, flats: &[Flat]) -> u64 {
     refusals(&differential.report(&format!("{what}, {} types", flats.len())))
 }
 
-fn refusals(of_number: &[u64; 9]) -> u64 {
+fn refusals(of_number: &Numbers) -> u64 {
     of_number[1..=6].iter().sum()
 }
 

@@ -47,6 +47,36 @@ extern "C" {
         out_args: *mut u64,
         out_args_len: usize,
     ) -> Reply;
+    fn lz_flat_get_numeric_upcast_supertype_lossless(
+        left_kinds: *const u8,
+        left_kinds_len: usize,
+        left_args: *const u64,
+        left_args_len: usize,
+        right_kinds: *const u8,
+        right_kinds_len: usize,
+        right_args: *const u64,
+        right_args_len: usize,
+        out_kinds: *mut u8,
+        out_kinds_len: usize,
+        out_args: *mut u64,
+        out_args_len: usize,
+    ) -> Reply;
+    fn lz_flat_get_supertype_with_options(
+        left_kinds: *const u8,
+        left_kinds_len: usize,
+        left_args: *const u64,
+        left_args_len: usize,
+        right_kinds: *const u8,
+        right_kinds_len: usize,
+        right_args: *const u64,
+        right_args_len: usize,
+        allow_implode_list: u8,
+        allow_primitive_to_string: u8,
+        out_kinds: *mut u8,
+        out_kinds_len: usize,
+        out_args: *mut u64,
+        out_args_len: usize,
+    ) -> Reply;
 }
 
 pub(crate) fn is_known((kinds, args): Nodes) -> Result<bool, Error> {
@@ -102,4 +132,98 @@ pub(crate) fn to_physical((kinds, args): Nodes, (ok, oa): Output) -> Result<usiz
         )
     }
     .always_written()
+}
+
+pub(crate) fn get_numeric_upcast_supertype_lossless(
+    (lk, la): Nodes,
+    (rk, ra): Nodes,
+    (ok, oa): Output,
+) -> Result<Option<usize>, Error> {
+    // SAFETY: each pointer and length are those of one slice; the two written are borrowed mutably, so none overlap.
+    unsafe {
+        lz_flat_get_numeric_upcast_supertype_lossless(
+            lk.as_ptr(),
+            lk.len(),
+            la.as_ptr(),
+            la.len(),
+            rk.as_ptr(),
+            rk.len(),
+            ra.as_ptr(),
+            ra.len(),
+            ok.as_mut_ptr(),
+            ok.len(),
+            oa.as_mut_ptr(),
+            oa.len(),
+        )
+    }
+    .written()
+}
+
+/// Either flag is off where it is 0 and else on.
+pub(crate) fn get_supertype_with_options(
+    (lk, la): Nodes,
+    (rk, ra): Nodes,
+    (allow_implode_list, allow_primitive_to_string): (u8, u8),
+    (ok, oa): Output,
+) -> Result<Option<usize>, Error> {
+    // SAFETY: each pointer and length are those of one slice; the two written are borrowed mutably, so none overlap.
+    unsafe {
+        lz_flat_get_supertype_with_options(
+            lk.as_ptr(),
+            lk.len(),
+            la.as_ptr(),
+            la.len(),
+            rk.as_ptr(),
+            rk.len(),
+            ra.as_ptr(),
+            ra.len(),
+            allow_implode_list,
+            allow_primitive_to_string,
+            ok.as_mut_ptr(),
+            ok.len(),
+            oa.as_mut_ptr(),
+            oa.len(),
+        )
+    }
+    .written()
+}
+
+#[cfg(test)]
+mod tests {
+    use super::*;
+    use std::ptr::{null, null_mut};
+
+    #[test]
+    fn null_pointers_of_length_0_are_empty_slices() {
+        let (int8, int16, zero) = ([7], [8], [0]);
+        let (l, r, a) = (int8.as_ptr(), int16.as_ptr(), zero.as_ptr());
+        let (none, no_args, out, out_args) = (null(), null(), null_mut(), null_mut());
+        // SAFETY: every null pointer comes with length 0, and every other one with 1.
+        let replies = unsafe {
+            [
+                lz_flat_get_numeric_upcast_supertype_lossless(none, 0, no_args, 0, r, 1, a, 1, out, 0, out_args, 0),
+                lz_flat_get_numeric_upcast_supertype_lossless(l, 1, a, 1, r, 1, no_args, 0, out, 0, out_args, 0),
+                lz_flat_get_supertype_with_options(l, 1, a, 1, none, 0, a, 1, 0, 0, out, 0, out_args, 0),
+                lz_flat_get_supertype_with_options(l, 1, no_args, 0, r, 1, a, 1, 0, 0, out, 0, out_args, 0),
+                lz_flat_get_numeric_upcast_supertype_lossless(l, 1, a, 1, r, 1, a, 1, out, 0, out_args, 0),
+                lz_flat_get_supertype_with_options(l, 1, a, 1, r, 1, a, 1, 0, 0, out, 0, out_args, 0),
+            ]
+        };
+        let replies = replies.map(|reply| (reply.number, reply.value));
+        assert_eq!(replies, [(1, 0), (1, 0), (1, 0), (1, 0), (8, 0), (8, 0)]);
+    }
+
+    #[test]
+    fn flags_are_off_at_0_and_on_at_every_other_byte() {
+        let (any, str, five) = (23, 24, (&[26][..], &[5][..]));
+        for implode in [0, 1, u8::MAX] {
+            for to_string in 0..=u8::MAX {
+                let (mut kinds, mut args) = ([9; 2], [9; 2]);
+                let out = (&mut kinds[..], &mut args[..]);
+                let answer = get_supertype_with_options((&[str], &[0]), five, (implode, to_string), out);
+                let expected = if to_string == 0 { any } else { str };
+                assert_eq!((answer, kinds, args), (Ok(Some(1)), [expected, 9], [0, 9]), "{implode} {to_string}");
+            }
+        }
+    }
 }

@@ -1,5 +1,6 @@
 //! What the entry points answer, and what each answer may be.
 
+use crate::supertype::JoinReport;
 use crate::{Error, Shape};
 use std::fmt::Debug;
 
@@ -53,12 +54,17 @@ impl Reply {
         self.one_of(&[0, 1, 2])
     }
 
-    /// The number of bytes of a result, or None, 0, or the refusal.
+    /// One of the reports or the refusal.
+    pub(super) fn join_report(self) -> Result<JoinReport, Error> {
+        self.one_of(&JoinReport::ALL)
+    }
+
+    /// The number of bytes or nodes of a result, or None, 0, or the refusal.
     pub(super) fn written(self) -> Result<Option<usize>, Error> {
         self.result().map(|bytes| (bytes > 0).then_some(bytes))
     }
 
-    /// The number of bytes of a result that is never None, or the refusal.
+    /// The number of bytes or nodes of a result that is never None, or the refusal.
     pub(super) fn always_written(self) -> Result<usize, Error> {
         match self {
             Reply { number: 0, value: 0 } => ruled_out(&self),
@@ -128,6 +134,7 @@ mod tests {
         assert_eq!(refused(8).result(), Err(Error::OutputTooShort));
         assert_eq!([value(0).yes_or_no(), value(1).yes_or_no()], [Ok(false), Ok(true)]);
         assert_eq!([0, 1, 2].map(|v| value(v).verdict()), [Ok(Some(false)), Ok(Some(true)), Ok(None)]);
+        assert_eq!([0, 1, 2, 3].map(|v| value(v).join_report()), JoinReport::ALL.map(Ok));
         assert_eq!([0, 11].map(|v| value(v).written()), [Ok(None), Ok(Some(11))]);
         assert_eq!(value(11).always_written(), Ok(11));
         assert_eq!(refused(7).always_written(), Err(Error::Unknown));
@@ -150,6 +157,7 @@ mod tests {
         assert!(is_ruled_out(|| value(2).yes_or_no()));
         assert!(is_ruled_out(|| value(3).verdict()));
         assert!(is_ruled_out(|| value(3).unit()));
+        assert!(is_ruled_out(|| value(4).join_report()));
         assert!(is_ruled_out(|| value(0).always_written()));
         assert!(is_ruled_out(|| shape(0, 1, &[3, 4]).result()));
         assert!(is_ruled_out(|| shape(0, 33, &[]).result()));

@@ -1,19 +1,19 @@
--- `encoding::read_root` meets its contract: one node, then any other number. Assumes nothing.
+-- `encoding::check_root` meets its contract: one node, then any other number. Assumes nothing.
 use borrow.Author.Needs.{needs}
 use native.Mathlib.Omega.{arith}
 use mathlib.Core.Path.{sym, _∙_}
 use Rattle.encoding.specs.Encoding.{decoding}
-use Rattle.encoding.proofs.Answers.{Sized, nodes-some, decoding-one, EncodedForm, counted-form}
-use Rattle.encoding.proofs.Roots.{root-refused, form-root}
-use Rattle.encoding.proofs.read_root.Statement.{statement}
-use Rattle.encoding.proofs.read_root.Tie as tie
+use Rattle.encoding.proofs.Answers.{Sized, nodes-some, decoding-one, EncodedForm, counted-form, form-root}
+use Rattle.flat.proofs.Roots.{root-refused}
+use Rattle.encoding.proofs.check_root.Statement.{statement}
+use Rattle.encoding.proofs.check_root.Tie as tie
 
 -- one node
 one : (c : tie.Then1) → Sized 8 512 1 (c .before .before .before .args .encoded .now)
 one c = rw (c .if1 .taken) at (nodes-some (c .before .node-count .ensures) (λ z. omega (arith, c .if1 .taken)))
 
 returns : tie.Need-returns
-returns c = rw (c .one-root .ensures, c .before .word .ensures, decoding-one (one (c .before .before .before)))
+returns c = rw (decoding-one (one (c .before .before .before)), ← c .before .word .ensures) (c .check-root-one .ensures)
 
 -- any other number
 form : (c : tie.After-enum-told) → EncodedForm 8 512 32 (c .before .before .before .before .node-count .result) (c .before .before .before .before .before .before .args .encoded .now)
@@ -25,8 +25,8 @@ returns-2 c = root-refused (decoding _ _ _ _) (sym (c .before .e .given .1) ∙ 
 returns-3 : tie.Need-returns-3
 returns-3 c = rw (c .word2 .ensures) (form-root (form (c .before .before)))
 
-pub read-root-spec : {M : Type 1} → statement M
-read-root-spec =
+pub check-root-spec : {M : Type 1} → statement M
+check-root-spec =
     tie.close
     (tie.spec
     (λ c κs. search needs)

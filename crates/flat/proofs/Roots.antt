@@ -1,0 +1,45 @@
+-- The root of a type, as a check gives it, and what it tells of a reading. Assumes nothing.
+use mathlib.Core.Path.{_≡_, refl, sym, ap, ap₂, subst, _∙_}
+use mathlib.Core.Bool.{true}
+use mathlib.Core.List.{List, [], _∷_}
+use Prim.Native.Nat.{ℕ, _≤_, _<_}
+use native.Mathlib.Omega.{arith}
+use lib.ListN.{length, getD}
+use Rattle.flat.specs.Kind
+use Rattle.flat.specs.Argument.{ruleOf, argumentFits}
+use Rattle.flat.specs.Tree.{DataType, leaf, list, array, struct, headKind, headArg}
+use Rattle.flat.specs.Reading.{Reading, refused, type, reading, checkedOf, rootOf, RootFits, Ruled}
+use Rattle.flat.specs.declared.error.Error.{Error}
+use Rattle.flat.specs.declared.Checked.{Checked}
+use Rattle.flat.specs.declared.Root.{Root}
+use Rattle.flat.proofs.Sizes.{size-pos}
+use Rattle.flat.proofs.Meaning.{Passed, checked-refused, root-kind, root-arg}
+
+root-ruled : (t : DataType) → Ruled t → (headKind t ≤ Kind.Struct) × (argumentFits (headKind t) (headArg t) ≡ true)
+unfolding Ruled headKind headArg argumentFits ruleOf
+root-ruled (leaf k a) r = (omega (arith, r .0), r .1)
+root-ruled (list t) r = (omega arith, refl)
+root-ruled (array w t) r = (omega arith, refl)
+root-ruled (struct fs) r = (omega arith, r .0)
+
+-- what a check that passed gives
+module _ {nodes deep : ℕ} {ks xs : List ℕ} (p : Passed nodes deep ks xs) where
+  pub root-read : (Root.Node (getD ks 0 0) (getD xs 0 0) ≡ rootOf (reading nodes deep ks xs)) × RootFits (Root.Node (getD ks 0 0) (getD xs 0 0))
+  root-read =
+      let same = ap₂ Root.Node (root-kind p) (root-arg p) in
+      (sym same ∙ ap rootOf (sym (p .reads)), subst RootFits same (root-ruled (p .tree) (p .form .is-type .ruled)))
+
+  pub some-node : (0 < length ks) × (0 < length xs)
+  some-node = let h = size-pos (p .tree) in (omega (arith, h, p .whole), omega (arith, h, p .whole, p .even))
+
+pub root-refused : (r : Reading) {e : Error} → Checked.Refused e ≡ checkedOf r → (Root.Refused e ≡ rootOf r) × RootFits (Root.Refused e)
+root-refused r {e} q = (ap rootOf (sym (checked-refused r e q)), tt)
+
+-- one node
+alone : (l : List ℕ) → length l ≡ 1 → getD l 0 0 ∷ [] ≡ l
+alone [] h = absurd (omega arith)
+alone (k ∷ []) h = refl
+alone (k ∷ j ∷ l) h = absurd (omega arith)
+
+pub root-alone : (nodes deep : ℕ) (ks xs : List ℕ) {r : Root} → length ks ≡ 1 → length xs ≡ 1 → (r ≡ rootOf (reading nodes deep (getD ks 0 0 ∷ []) (getD xs 0 0 ∷ []))) × RootFits r → (r ≡ rootOf (reading nodes deep ks xs)) × RootFits r
+root-alone nodes deep ks xs h g e = (e .0 ∙ ap₂ (λ (k x : List ℕ). rootOf (reading nodes deep k x)) (alone ks h) (alone xs g), e .1)

@@ -1,0 +1,15 @@
+-- `utils_supertype::is_listed` meets its contract. Assumes nothing.
+use mathlib.Core.Bool.{true, false}
+use native.Mathlib.Omega.{arith}
+use Rattle.datatypes.proofs.Runs.{says, of-run}
+use Rattle.utils_supertype.specs.Pair.{isListed}
+use Rattle.utils_supertype.proofs.is_listed.Statement.{statement}
+use Rattle.utils_supertype.proofs.is_listed.Tie as tie
+
+pub is-listed-spec : {M : Type 1} → statement M
+is-listed-spec =
+    tie.close
+    (tie.spec
+    (λ c. of-run isListed true 2 10 (unfold says isListed in tt) _ (omega arith))
+    (λ c. of-run isListed false 0 2 (unfold says isListed in tt) _ (omega arith))
+    (λ c. of-run isListed false 12 244 (unfold says isListed in tt) _ (omega arith)))

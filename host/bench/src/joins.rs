@@ -1,0 +1,100 @@
+//! The rules that join two types, on types of one node, beside the crate's own text.
+//!
+//! Each is timed as those of `rules` are, from bytes and from what either keeps a type in; where there is no result, none
+//! is made. A time is that of one pair, over all pairs of the set in turn.
+
+use crate::rules::{Row, Times};
+use crate::timing::best;
+use lomzegash::kind::*;
+use oracle::Type;
+use std::hint::black_box;
+use trials::flat::Flat;
+use trials::joins::{supertype, Join};
+
+/// A set of pairs by its name, and the times of both rules on it.
+pub type Set = (&'static str, [Row; 2]);
+
+/// Every timed set of pairs.
+pub fn sets() -> [Set; 2] {
+    let probes = [Pair::new((INT32, 0), (UINT64, 0))];
+    [("Int32 with UInt64", rows(&probes)), ("every two kinds of leaves", rows(&every_two_kinds()))]
+}
+
+/// Two types of one node, in every form that is timed.
+struct Pair {
+    flat: [Flat; 2],
+    bytes: [Vec<u8>; 2],
+    ready: [Type; 2],
+}
+
+impl Pair {
+    fn new(left: (u8, u64), right: (u8, u64)) -> Pair {
+        let flat = [left, right].map(|leaf| Flat::new(&[leaf]));
+        let bytes = flat.each_ref().map(Flat::laid_out);
+        let ready = bytes.each_ref().map(|bytes| Type::decode(bytes));
+        Pair { flat, bytes, ready }
+    }
+}
+
+/// Every two kinds that have no child, but for a Decimal with an integer type, which the port refuses.
+fn every_two_kinds() -> Vec<Pair> {
+    let is_refused = |l: u8, r: u8| l == DECIMAL && (UINT8..=INT128).contains(&r);
+    let kinds = || NULL..=UNKNOWN_INT_NEG;
+    let pairs = kinds().flat_map(|l| kinds().map(move |r| (l, r)));
+    let pairs = pairs.filter(|&(l, r)| !is_refused(l, r) && !is_refused(r, l));
+    pairs.map(|(l, r)| Pair::new((l, argument(l)), (r, argument(r)))).collect()
+}
+
+/// An ordinary argument.
+fn argument(kind: u8) -> u64 {
+    match kind {
+        DECIMAL => 256 * 2 + 10,
+        DATETIME => 4 * 3 + 1,
+        DURATION => 2,
+        UNKNOWN_INT_POS => 300,
+        _ => 0,
+    }
+}
+
+/// Both rules; the supertype with the source's own default of its flags.
+fn rows(pairs: &[Pair]) -> [Row; 2] {
+    let upcast = Type::get_numeric_upcast_supertype_lossless;
+    [
+        row("supertype", supertype(false, true), |l, r| l.get_supertype_with_options(r, false, true), pairs),
+        row("lossless upcast", Join::Lossless, upcast, pairs),
+    ]
+}
+
+fn row(name: &'static str, join: Join, crates: fn(&Type, &Type) -> Option<Type>, pairs: &[Pair]) -> Row {
+    let (mut out, mut kinds, mut args) = ([0; 11], [0; 1], [0; 1]);
+    let bytes = best(
+        || pairs.iter().all(|Pair { bytes: [l, r], .. }| join.on_bytes(black_box(l), black_box(r), &mut out).is_ok()),
+        || {
+            pairs.iter().for_each(|Pair { bytes: [l, r], .. }| {
+                let dtype = crates(&Type::decode(black_box(l)), &Type::decode(black_box(r)));
+                black_box(dtype.map(|dtype| dtype.encode()));
+            });
+            true
+        },
+    );
+    let kept = best(
+        || {
+            pairs.iter().all(|Pair { flat: [l, r], .. }| {
+                join.on_nodes(black_box(l).parts(), black_box(r).parts(), (&mut kinds, &mut args)).is_ok()
+            })
+        },
+        || {
+            pairs.iter().for_each(|Pair { ready: [l, r], .. }| {
+                black_box(crates(black_box(l), black_box(r)));
+            });
+            true
+        },
+    );
+    (name, of_one(bytes, pairs), of_one(kept, pairs))
+}
+
+/// The times of one pair from those of all.
+fn of_one(times: Times, pairs: &[Pair]) -> Times {
+    let count = pairs.len() as f64;
+    (times.0 / count, times.1 / count)
+}

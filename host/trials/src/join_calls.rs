@@ -1,0 +1,51 @@
+//! The entry points that join two types, compared as the others are.
+
+use crate::differential::Differential;
+use crate::input::{Input, Shown};
+use crate::joins::{report, Join};
+use lomzegash::supertype;
+use std::ops::Range;
+
+/// Bytes of an output: just enough for a type of one node, as every result is, none, one too few, more than enough.
+const BYTES: [usize; 4] = [11, 0, 10, 18];
+
+/// Kinds and arguments of the outputs on flat types: just enough, none, too few of either, more than enough.
+const NODES: [(usize, usize); 5] = [(1, 1), (0, 0), (0, 1), (1, 0), (3, 2)];
+
+/// The places of the outputs that are just long enough.
+pub const ENOUGH: Range<usize> = 0..1;
+
+/// The places of outputs of every length.
+pub const EVERY_LENGTH: Range<usize> = 0..5;
+
+/// The places at which every length in bytes comes together with every length in nodes.
+pub const PLACES: usize = BYTES.len() * NODES.len();
+
+impl Differential {
+    /// These joins of two types, encoded and flat, with the outputs at these places, and the report of what is lost.
+    pub fn joins(&mut self, left: &Input, right: &Input, joins: &[Join], places: Range<usize>) {
+        let _shown = Shown(&[left, right]);
+        let nodes = left.nodes().zip(right.nodes());
+        for join in joins {
+            let outcome = join.outcome(left, right);
+            for place in places.clone() {
+                self.write_bytes(format_args!("{join:?}"), &outcome, BYTES[place % BYTES.len()], |out| {
+                    join.on_bytes(&left.bytes, &right.bytes, out)
+                });
+                let Some((left, right)) = &nodes else { continue };
+                self.write_nodes(format_args!("flat {join:?}"), &outcome, NODES[place % NODES.len()], |out| {
+                    join.on_nodes(left.parts(), right.parts(), out)
+                });
+            }
+        }
+        self.report_of(left, right);
+    }
+
+    fn report_of(&mut self, left: &Input, right: &Input) {
+        let expected = report(left, right);
+        self.settle("join_report", supertype::join_report(&left.bytes, &right.bytes), expected);
+        if let Ok(report) = expected {
+            self.reported[report as usize] += 1;
+        }
+    }
+}
