@@ -1,4 +1,4 @@
 -- The upcast by kinds, and its laws.
 mod Upcasts
-mod Roots
+pub mod Roots
 pub mod Laws

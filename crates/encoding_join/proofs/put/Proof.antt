@@ -1,32 +1,37 @@
 -- `encoding_join::put` meets its contract: what was found is one node. Assumes nothing.
+use mathlib.Core.Path.{refl, ap}
 use borrow.Author.Needs.{needs}
-use mathlib.Core.Path.{refl}
 use Rattle.flat.specs.Tree.{kindsOf, argsOf}
 use Rattle.encoding.proofs.Answers.{puts-type}
-use Rattle.utils.specs.Join.{typeOf}
-use Rattle.encoding_join.proofs.Joining.{joins-bytes, joins-refusal}
+use Rattle.utils.specs.Join.{typeOf, resultOf}
+use Rattle.encoding_join.proofs.Joining.{joins-refused, joins-bytes, joins-refusal}
 use Rattle.encoding_join.proofs.put.Statement.{statement}
 use Rattle.encoding_join.proofs.put.Tie as tie
 
 returns-2 : tie.Need-returns-2
-unfolding kindsOf argsOf
-returns-2 c =
-    let at = c .before .before .before .before .before in
-    let found = at .before .before .before .before .before .found in
-    rw (found .given .1) (joins-bytes 8 (puts-type (typeOf (found .given .0 .0)) refl refl (at .put .ensures)) (c .before .size .given .1))
+returns-2 c = joins-refused 8 _ (ap resultOf (c .before .found .given .1))
 
 returns-3 : tie.Need-returns-3
 unfolding kindsOf argsOf
 returns-3 c =
     let at = c .before .before .before .before .before in
-    let found = at .before .before .before .before .before .found in
+    let found = at .before .before .before .before .before .found2 in
+    rw (found .given .1) (joins-bytes 8 (puts-type (typeOf (found .given .0 .0)) refl refl (at .put .ensures)) (c .before .size .given .1))
+
+returns-4 : tie.Need-returns-4
+unfolding kindsOf argsOf
+returns-4 c =
+    let at = c .before .before .before .before .before in
+    let found = at .before .before .before .before .before .found2 in
     rw (found .given .1) (joins-refusal 8 (puts-type (typeOf (found .given .0 .0)) refl refl (at .put .ensures)) (c .before .e .given .1))
 
 pub put-spec : {M : Type 1} → statement M
 put-spec =
     tie.close
     (tie.spec
-    (λ c. search needs) (λ c. search needs) (λ c. search needs) (λ c. search needs) (λ c κs. search needs) (λ c. search needs) (λ c. search needs) (λ c. search needs) (λ c. search needs)
+    (λ c. search needs) (λ c. search needs) (λ c. search needs) (λ c. search needs) (λ c. search needs) (λ c κs. search needs) (λ c. search needs) (λ c. search needs) (λ c. search needs)
     returns-2
     (λ c. search needs)
-    returns-3)
+    returns-3
+    (λ c. search needs)
+    returns-4)
