@@ -2,6 +2,7 @@
 use mathlib.Core.Path.{_≡_, refl, sym, ap, _∙_}
 use mathlib.Core.Bool.{Bool}
 use mathlib.Core.List.{List}
+use mathlib.Core.Option.{Option}
 use Prim.Native.Nat.{ℕ, _+_, _-_, _≤_, _<_}
 use lib.ListN.{length, take, drop}
 use lib.Seq.{length-take-le}
@@ -25,7 +26,10 @@ use Rattle.datatypes.specs.TimeUnit.{unitNumber}
 use Rattle.datatypes.specs.declared.time_unit.TimeUnit.{TimeUnit}
 use Rattle.datatypes.specs.declared.time_unit.Unit.{Unit}
 use Rattle.utils.specs.TimeUnits.{getTimeUnits}
-use Rattle.capi.specs.Reply.{replyOf, checkReply, answerReply, writtenReply, bytesReply, unitsReply, DecodeReply, EncodeReply}
+use Rattle.utils.specs.Join.{Joins}
+use Rattle.utils.specs.declared.join.Joined.{Joined}
+use Rattle.encoding_join.specs.Join.{JoinsBytes}
+use Rattle.capi.specs.Reply.{replyOf, checkReply, answerReply, writtenReply, bytesReply, unitsReply, joinedReply, DecodeReply, EncodeReply, FlatJoinReply, JoinReply}
 use Rattle.capi.specs.declared.Reply.{Reply}
 
 -- a refusal's reply is the same of every call
@@ -69,6 +73,13 @@ encode-reply {w} {r} f h = record { replies = h ∙ ap bytesReply (f .answers) �
 pub encode-refused : {w : ℕ} {r : Reading} {out : List ℕ} {e : Error} {a : Reply} → r ≡ refused e → a ≡ checkReply (refused e) → EncodeReply w (fittingBytes w (length out) r) out out a
 unfolding fittingBytes bytesOver
 encode-refused q h = rw q (record { replies = h; bytes = refl })
+
+-- ---- the calls that join two types
+pub flat-join-reply : {found : Option Reading} {ks xs ks′ xs′ : List ℕ} {d : Joined} {a : Reply} → Joins found ks xs ks′ xs′ d → a ≡ joinedReply d → FlatJoinReply found ks xs ks′ xs′ a
+flat-join-reply f h = record { replies = h ∙ ap joinedReply (f .answers); kinds = f .kinds; args = f .args }
+
+pub join-reply : {w : ℕ} {found : Option Reading} {out out′ : List ℕ} {d : Joined} {a : Reply} → JoinsBytes w found out out′ d → a ≡ joinedReply d → JoinReply w found out out′ a
+join-reply f h = record { replies = h ∙ ap joinedReply (f .answers); bytes = f .bytes }
 
 -- ---- lz_get_time_units
 module _ {x y : Unit} {l : TimeUnit} (p : x ≡ Unit.Of l) where
