@@ -8,6 +8,9 @@ use Rattle.encoding_join.proofs.Joining.{joins-refused, joins-bytes, jo
 use Rattle.encoding_join.proofs.put.Statement.{statement}
 use Rattle.encoding_join.proofs.put.Tie as tie
 
+returns : tie.Need-returns
+returns c = rw (c .enum-told .given .1) (record { answers = refl; bytes = refl })
+
 returns-2 : tie.Need-returns-2
 returns-2 c = joins-refused 8 _ (ap resultOf (c .before .found .given .1))
 
@@ -29,7 +32,8 @@ pub put-spec : {M : Type 1} → statement M
 put-spec =
     tie.close
     (tie.spec
-    (λ c. search needs) (λ c. search needs) (λ c. search needs) (λ c. search needs) (λ c. search needs) (λ c κs. search needs) (λ c. search needs) (λ c. search needs) (λ c. search needs)
+    (λ c. search needs) (λ c. search needs) (λ c. search needs) (λ c. search needs) (λ c. search needs) (λ c κs. search needs) (λ c. search needs) (λ c. search needs)
+    returns
     returns-2
     (λ c. search needs)
     returns-3
