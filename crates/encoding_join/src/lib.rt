@@ -26,9 +26,9 @@ fn put(found: Found, out: &mut [u8]) -> Joined
     match found {
         Found::Nothing => Joined::Nothing,
         Found::Refused(e) => Joined::Refused(e),
-        Found::Some(n) => {
-            let kinds = [n.kind];
-            let args = [n.arg];
+        Found::Some(k, a) => {
+            let kinds = [k];
+            let args = [a];
             match encoding::put(&kinds, &args, out) {
                 Encoded::Bytes(size) => Joined::Written(size),
                 Encoded::Refused(e) => Joined::Refused(e),

@@ -12,8 +12,7 @@ use Rattle.flat.specs.declared.error.Error.{Error}
 use Rattle.flat.specs.declared.error.Error.the-variants.{OutputTooShort}
 use Rattle.flat.specs.declared.Root.{Root}
 use Rattle.flat.proofs.Outputs.{few-kinds, few-args, room}
-use Rattle.utils.specs.Join.{node, rootNode, resultOf, joining, joiningRoots, fittingFound, Joins}
-use Rattle.utils.specs.declared.join.Node.{Node}
+use Rattle.utils.specs.Join.{Node, node, Supertype, Some, Nothing, rootNode, foundOf, foundIn, resultOf, joining, joiningRoots, fittingFound, Joins}
 use Rattle.utils.specs.declared.join.Found.{Found}
 use Rattle.utils.specs.declared.join.Joined.{Joined}
 
@@ -30,6 +29,10 @@ unfolding fitting
 joins-refusal k a h = joins-refused (rw h)
 
 -- ---- what a rule finds that rests on the two roots alone
+pub found-result : (s : Supertype) → resultOf (foundIn s) ≡ foundOf s
+found-result (Some n) = refl
+found-result Nothing = refl
+
 pub joining-roots : (rule : Node → Node → Option Reading) (left right : Reading) → joining (λ t u. rule (rootNode t) (rootNode u)) left right ≡ joiningRoots rule (rootOf left) (rootOf right)
 unfolding joining joiningRoots
 joining-roots rule (refused e) right = refl
@@ -55,17 +58,17 @@ over-first : (k : ℕ) (ks : List ℕ) → 1 ≤ length ks → set ks 0 k ≡ ov
 over-first k [] h = absurd (omega arith)
 over-first k (j ∷ ks) h = refl
 
-module _ (s : Found) (n : Node) (found : s ≡ Found.Some n) (ks xs : List ℕ) where
+module _ (s : Found) (k a : ℕ) (found : s ≡ Found.Some k a) (ks xs : List ℕ) where
   pub kinds-too-short : length ks ≡ 0 → Joins (fittingFound (length ks) (length xs) (resultOf s)) ks xs ks xs (Joined.Refused OutputTooShort)
   unfolding size
-  kinds-too-short h = rw found (joins-refused (ap some (few-kinds (length ks) (length xs) (leaf (n .kind) (n .arg)) (omega arith))))
+  kinds-too-short h = rw found (joins-refused (ap some (few-kinds (length ks) (length xs) (leaf k a) (omega arith))))
 
   pub args-too-short : (length ks ≡ 0 → ⊥) → length xs ≡ 0 → Joins (fittingFound (length ks) (length xs) (resultOf s)) ks xs ks xs (Joined.Refused OutputTooShort)
   unfolding size
-  args-too-short g h = rw found (joins-refused (ap some (few-args (length ks) (length xs) (leaf (n .kind) (n .arg)) (omega arith) (omega arith))))
+  args-too-short g h = rw found (joins-refused (ap some (few-args (length ks) (length xs) (leaf k a) (omega arith) (omega arith))))
 
-  pub one-node : (length ks ≡ 0 → ⊥) → (length xs ≡ 0 → ⊥) → Joins (fittingFound (length ks) (length xs) (resultOf s)) ks xs (set ks 0 (n .kind)) (set xs 0 (n .arg)) (Joined.Written 1)
+  pub one-node : (length ks ≡ 0 → ⊥) → (length xs ≡ 0 → ⊥) → Joins (fittingFound (length ks) (length xs) (resultOf s)) ks xs (set ks 0 k) (set xs 0 a) (Joined.Written 1)
   unfolding size kindsOf argsOf kindsOver argsOver
   one-node g h =
-      rw (found, room (length ks) (length xs) (leaf (n .kind) (n .arg)) (omega arith) (omega arith))
-      (record { answers = refl; kinds = over-first (n .kind) ks (omega arith); args = over-first (n .arg) xs (omega arith) })
+      rw (found, room (length ks) (length xs) (leaf k a) (omega arith) (omega arith))
+      (record { answers = refl; kinds = over-first k ks (omega arith); args = over-first a xs (omega arith) })

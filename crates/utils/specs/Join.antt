@@ -9,13 +9,21 @@ use Rattle.flat.specs.Reading.{Reading, refused, type}
 use Rattle.flat.specs.Reader.{mapO}
 use Rattle.flat.specs.Output.{fitting, kindsOver, argsOver}
 use Rattle.flat.specs.declared.Root.{Root}
-use Rattle.utils.specs.declared.join.Node.{Node}
-use Rattle.utils.specs.declared.join.Supertype.{Supertype}
 use Rattle.utils.specs.declared.join.Found.{Found}
 use Rattle.utils.specs.declared.join.Joined.{Joined}
 
+-- A type that is not nested: its kind and its argument.
+pub record Node : Type 0 where
+  pub kind : ℕ
+  pub arg : ℕ
+
 abbrev pub node : ℕ → ℕ → Node
 node k a = record { kind = k; arg = a }
+
+-- The source's Option: the type that two types have in common, where there is one.
+pub data Supertype : Type 0 where
+  Some : Node → Supertype
+  Nothing : Supertype
 
 -- the node at a type's root, which is the whole type where it is not nested
 abbrev pub rootNode : DataType → Node
@@ -27,11 +35,16 @@ typeOf n = leaf (n .kind) (n .arg)
 
 -- what was found: none is the source's None
 abbrev pub foundOf : Supertype → Option Reading
-foundOf (Supertype.Some n) = some (type (typeOf n))
-foundOf Supertype.Nothing = none
+foundOf (Some n) = some (type (typeOf n))
+foundOf Nothing = none
+
+-- as the code has it
+abbrev pub foundIn : Supertype → Found
+foundIn (Some n) = Found.Some (n .kind) (n .arg)
+foundIn Nothing = Found.Nothing
 
 abbrev pub resultOf : Found → Option Reading
-resultOf (Found.Some n) = some (type (typeOf n))
+resultOf (Found.Some k a) = some (type (leaf k a))
 resultOf Found.Nothing = none
 resultOf (Found.Refused e) = some (refused e)
 

@@ -4,21 +4,9 @@ ghost use lib.ListN.{length};
 ghost use Rattle.utils.specs.Join.{resultOf, fittingFound, joinedNumber, joinedValue, Joins};
 use flat::error::Error;
 
-// A type that is not nested: its kind and its argument.
-pub struct Node {
-    pub kind: u8,
-    pub arg: u64,
-}
-
-// The source's Option: the type that two types have in common, where there is one.
-pub enum Supertype {
-    Some(Node),
-    Nothing,
-}
-
-// So, or the refusal.
+// The type that two types have in common, as its kind and argument, None, or the refusal.
 pub enum Found {
-    Some(Node),
+    Some(u8, u64),
     Nothing,
     Refused(Error),
 }
@@ -61,15 +49,15 @@ pub fn put(found: Found, out_kinds: &mut [u8], out_args: &mut [u64]) -> Joined
     match found {
         Found::Nothing => Joined::Nothing,
         Found::Refused(e) => Joined::Refused(e),
-        Found::Some(n) => {
+        Found::Some(k, a) => {
             if out_kinds.len() == 0 {
                 return Joined::Refused(Error::OutputTooShort);
             }
             if out_args.len() == 0 {
                 return Joined::Refused(Error::OutputTooShort);
             }
-            out_kinds[0] = n.kind;
-            out_args[0] = n.arg;
+            out_kinds[0] = k;
+            out_args[0] = a;
             Joined::Written(1)
         }
     }

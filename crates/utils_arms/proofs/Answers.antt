@@ -18,10 +18,7 @@ use Rattle.datatypes.specs.TimeUnit.{unitNumber}
 use Rattle.datatypes.specs.declared.time_unit.TimeUnit.{TimeUnit}
 use Rattle.datatypes.specs.declared.time_unit.TimeUnit.the-variants.{Nanoseconds, Microseconds, Milliseconds}
 use Rattle.utils.specs.TimeUnits.{getTimeUnits}
-use Rattle.utils.specs.Join.{node}
-use Rattle.utils.specs.declared.join.Node.{Node}
-use Rattle.utils.specs.declared.join.Supertype.{Supertype}
-use Rattle.utils.specs.declared.join.Supertype.the-variants.{Some, Nothing}
+use Rattle.utils.specs.Join.{Node, Supertype, Some, Nothing, node}
 use Rattle.utils.proofs.Coarser.{coarser}
 use Rattle.utils_arms.specs.declared.plan.Plan.{Plan}
 use Rattle.utils_arms.specs.declared.plan.Plan.the-variants.{No, Left, Right, Kind, Decimals, DatetimeDuration, Datetimes, Durations, DynNumber, DynBoolean, DynDecimal}

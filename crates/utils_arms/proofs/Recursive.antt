@@ -14,9 +14,7 @@ use Rattle.flat.proofs.Rules.{area, in-area, and-left, and-right, or-right}
 use Rattle.datatypes.specs.Predicate.{isUnknownInt, isUnsignedInteger}
 use Rattle.datatypes.specs.Integer.{holds, firstThatHolds}
 use Rattle.datatypes.specs.DynInt.{materializeDynInt, materializeDynIntPos, materializeSmallestDynInt}
-use Rattle.utils.specs.Join.{node}
-use Rattle.utils.specs.declared.join.Node.{Node}
-use Rattle.utils.specs.declared.join.Supertype.the-variants.{Some, Nothing}
+use Rattle.utils.specs.Join.{Node, Some, Nothing, node}
 use Rattle.utils_arms.specs.declared.plan.Plan.{Plan}
 use Rattle.utils_arms.specs.declared.plan.Plan.the-variants.{No, Left, Right, Kind, Decimals, DatetimeDuration, Datetimes, Durations, DynNumber, DynBoolean, DynDecimal}
 use Rattle.utils_arms.specs.Node.{value, same, fits}

@@ -1,7 +1,7 @@
 -- What holds of the supertype of any two types that are not nested. Assumes nothing: these are statements, proved in proofs/Recursive.antt.
 use mathlib.Core.Path.{_≡_}
 use mathlib.Core.Bool.{Bool, true, false}
-use Rattle.utils.specs.declared.join.Node.{Node}
+use Rattle.utils.specs.Join.{Node}
 use Rattle.utils_arms.specs.Node.{fits}
 use Rattle.utils_arms.specs.Supertype.{supertypeWith, supertype}
 

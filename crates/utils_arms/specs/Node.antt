@@ -12,8 +12,7 @@ use Rattle.datatypes.specs.DynInt.{valueOf}
 use Rattle.datatypes.specs.Equality.{equalNode}
 use Rattle.datatypes.specs.declared.time_unit.TimeUnit.{TimeUnit}
 use Rattle.datatypes.specs.declared.time_unit.TimeUnit.the-variants.{Nanoseconds, Microseconds, Milliseconds}
-use Rattle.utils.specs.Join.{node}
-use Rattle.utils.specs.declared.join.Node.{Node}
+use Rattle.utils.specs.Join.{Node, node}
 
 -- Decimal(precision, scale): 256 × scale + precision
 abbrev pub precision : Node → ℕ

@@ -11,10 +11,7 @@ use Rattle.datatypes.specs.Predicate.{isFloat, isUnknownInt, isSignedInteger, i
 use Rattle.datatypes.specs.Physical.{physicalKind}
 use Rattle.datatypes.specs.DynInt.{materializeDynInt, materializeDynIntPos, materializeSmallestDynInt}
 use Rattle.utils.specs.TimeUnits.{getTimeUnits}
-use Rattle.utils.specs.Join.{node}
-use Rattle.utils.specs.declared.join.Node.{Node}
-use Rattle.utils.specs.declared.join.Supertype.{Supertype}
-use Rattle.utils.specs.declared.join.Supertype.the-variants.{Some, Nothing}
+use Rattle.utils.specs.Join.{Node, Supertype, Some, Nothing, node}
 use Rattle.utils_arms.specs.Node.{precision, scale, decimal, unit, zone, datetime, duration, value, dynInt, same}
 use Rattle.utils_arms.specs.declared.plan.Plan.{Plan}
 use Rattle.utils_arms.specs.declared.plan.Plan.the-variants.{No, Left, Right, Kind, Decimals, DatetimeDuration, Datetimes, Durations, DynNumber, DynBoolean, DynDecimal}

@@ -10,7 +10,7 @@ use Rattle.flat.specs.Reading.{Reading, type}
 use Rattle.datatypes.specs.Match.{among}
 use Rattle.datatypes.specs.Predicate.{isFloat, isSignedInteger, isUnsignedInteger, isInteger, isNested, isUnknown}
 use Rattle.datatypes.specs.Equality.{equal}
-use Rattle.utils.specs.declared.join.Node.{Node}
+use Rattle.utils.specs.Join.{Node}
 use Rattle.utils_lossless.specs.declared.upcast.Upcast.{Upcast}
 use Rattle.utils_lossless.specs.declared.upcast.Upcast.the-variants.{To, Nothing}
 

@@ -12,7 +12,6 @@ use upcast::Upcast;
 use upcast::upcast_kinds;
 use utils::join::Found;
 use utils::join::Joined;
-use utils::join::Node;
 use utils::join::put;
 
 // Of the roots of two types: the refusal of the left, of the right, or the upcast by their kinds.
@@ -24,7 +23,7 @@ pub fn upcast_roots(left: Root, right: Root) -> Found
         Root::Node(k, _) => match right {
             Root::Refused(e) => Found::Refused(e),
             Root::Node(l, _) => match upcast_kinds(k, l) {
-                Upcast::To(t) => Found::Some(Node { kind: t, arg: 0 }),
+                Upcast::To(t) => Found::Some(t, 0),
                 Upcast::Nothing => Found::Nothing,
             },
         },

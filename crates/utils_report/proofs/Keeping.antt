@@ -11,8 +11,7 @@ use borrow.Author.Tests.{ne-eqb}
 use Rattle.flat.specs.Kind.{Int128, Float16, Float32, Float64}
 use Rattle.datatypes.specs.Match.{among}
 use Rattle.datatypes.specs.Predicate.{isSignedInteger}
-use Rattle.utils.specs.Join.{node}
-use Rattle.utils.specs.declared.join.Supertype.the-variants.{Some}
+use Rattle.utils.specs.Join.{Some, node}
 use Rattle.utils_numbers.specs.Range.{Listed, Holds, Includes}
 use Rattle.utils_numbers.specs.Format.{Format, format, formatOf, WholeIn}
 use Rattle.utils_lossless.specs.Lossless.{upcastOf}

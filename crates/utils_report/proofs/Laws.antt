@@ -12,8 +12,7 @@ use Rattle.flat.specs.Kind.{UInt64, UInt128, Int8, Int16, Int32, Int64, Int128,
 use Rattle.flat.proofs.Rules.{and-left, and-right}
 use Rattle.datatypes.specs.Match.{among}
 use Rattle.datatypes.specs.Predicate.{isSignedInteger}
-use Rattle.utils.specs.Join.{node}
-use Rattle.utils.specs.declared.join.Supertype.the-variants.{Some}
+use Rattle.utils.specs.Join.{Some, node}
 use Rattle.utils_numbers.specs.Range.{Listed, Holds, Includes}
 use Rattle.utils_numbers.proofs.Tests.{isListed, to-listed}
 use Rattle.utils_lossless.specs.Lossless.{upcastOf}

@@ -11,10 +11,7 @@ use Rattle.flat.proofs.Rules.{and-left, and-right, and-both, or-right}
 use Rattle.datatypes.specs.Predicate.{isNested}
 use Rattle.datatypes.specs.Equality.{equalNode}
 use Rattle.datatypes.proofs.Runs.{same, are-same}
-use Rattle.utils.specs.Join.{node}
-use Rattle.utils.specs.declared.join.Node.{Node}
-use Rattle.utils.specs.declared.join.Supertype.{Supertype}
-use Rattle.utils.specs.declared.join.Supertype.the-variants.{Some, Nothing}
+use Rattle.utils.specs.Join.{Node, Supertype, Some, Nothing, node}
 use Rattle.utils_numbers.specs.Range.{Listed, Includes}
 use Rattle.utils_numbers.proofs.Tests.{isListed, to-listed, at, pairs, at-pair}
 use Rattle.utils_numbers.proofs.Ranges.{inside, includes}

@@ -8,8 +8,7 @@ use lib.Dec.{T}
 use Rattle.flat.specs.Kind.{UInt8, Int128}
 use Rattle.flat.specs.Tree.{headKind, headArg}
 use Rattle.flat.specs.Reading.{Reading, refused, type}
-use Rattle.utils.specs.Join.{node}
-use Rattle.utils.specs.declared.join.Supertype.the-variants.{Some}
+use Rattle.utils.specs.Join.{Some, node}
 use Rattle.utils_numbers.specs.Range.{Listed}
 use Rattle.utils_lossless.specs.Lossless.{upcastOf}
 use Rattle.utils_lossless.specs.declared.upcast.Upcast.{Upcast}

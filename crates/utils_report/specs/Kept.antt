@@ -4,8 +4,7 @@ use mathlib.Core.Bool.{false}
 use mathlib.Core.Option.{some}
 use Prim.Native.Nat.{ℕ}
 use lib.IntN.{ℤ}
-use Rattle.utils.specs.Join.{node}
-use Rattle.utils.specs.declared.join.Supertype.the-variants.{Some}
+use Rattle.utils.specs.Join.{Some, node}
 use Rattle.utils_numbers.specs.Range.{Holds}
 use Rattle.utils_numbers.specs.Format.{Format, formatOf, WholeIn}
 use Rattle.utils_arms.specs.Supertype.{supertype}

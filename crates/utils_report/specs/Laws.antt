@@ -9,8 +9,7 @@ use lib.IntN.{ℤ}
 use Rattle.flat.specs.Kind.{UInt64, UInt128, Int8, Int16, Int32, Int64, Int128, Float64}
 use Rattle.datatypes.specs.Match.{among}
 use Rattle.datatypes.specs.Predicate.{isSignedInteger}
-use Rattle.utils.specs.Join.{node}
-use Rattle.utils.specs.declared.join.Supertype.the-variants.{Some}
+use Rattle.utils.specs.Join.{Some, node}
 use Rattle.utils_numbers.specs.Range.{Listed, Holds, Includes}
 use Rattle.utils_lossless.specs.Lossless.{upcastOf}
 use Rattle.utils_lossless.specs.declared.upcast.Upcast.the-variants.{To}

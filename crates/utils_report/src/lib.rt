@@ -2,8 +2,7 @@
 ghost use mathlib.Core.Path.{_≡_};
 ghost use mathlib.Core.Bool.{false};
 ghost use Rattle.flat.specs.Reading.{reading};
-ghost use Rattle.utils.specs.Join.{node};
-ghost use Rattle.utils.specs.declared.join.Supertype.the-variants.{Some};
+ghost use Rattle.utils.specs.Join.{Some, node};
 ghost use Rattle.utils_numbers.specs.Range.{Listed};
 ghost use Rattle.utils_arms.specs.Supertype.{supertype};
 ghost use Rattle.utils_report.specs.Report.{Says, RootsReport, Reports, reportNumber, reportValue};

@@ -15,10 +15,7 @@ use Rattle.datatypes.specs.TimeUnit.{unitNumber}
 use Rattle.datatypes.specs.DynInt.{materializeDynInt}
 use Rattle.datatypes.proofs.Runs.{says, of-run}
 use Rattle.utils.specs.TimeUnits.{getTimeUnits}
-use Rattle.utils.specs.Join.{node}
-use Rattle.utils.specs.declared.join.Node.{Node}
-use Rattle.utils.specs.declared.join.Supertype.{Supertype}
-use Rattle.utils.specs.declared.join.Supertype.the-variants.{Some, Nothing}
+use Rattle.utils.specs.Join.{Node, Supertype, Some, Nothing, node}
 use Rattle.utils.proofs.Coarser.{coarser}
 use Rattle.utils_arms.specs.declared.plan.Plan.{Plan}
 use Rattle.utils_arms.specs.declared.plan.Plan.the-variants as plan
@@ -61,10 +58,34 @@ only p q t s a b h e =
 -- ---- the answer
 
 module _ (s : Bool) (l r : Node) (pre : (fits l ≡ true) × (fits r ≡ true) × Apart (l .kind) (r .kind)) (q : Plan) (right-plan : norm (l .kind) (r .kind) q ≡ ruleOf s (l .kind) (r .kind)) where
-  pub answer : (p : Plan) (t : Supertype) → q ≡ p → t ≡ run knownSupertype p l r → t ≡ run knownSupertype (ruleOf s (l .kind) (r .kind)) l r
+  answer : (p : Plan) (t : Supertype) → q ≡ p → t ≡ run knownSupertype p l r → t ≡ run knownSupertype (ruleOf s (l .kind) (r .kind)) l r
   answer p t e h =
       h ∙ sym (normal knownSupertype l r (pre .0) (pre .1) p)
       ∙ ap (λ (x : Plan). run knownSupertype x l r) (subst (λ (x : Plan). norm (l .kind) (r .kind) x ≡ ruleOf s (l .kind) (r .kind)) e right-plan)
+
+  pub none : q ≡ plan.No → Nothing ≡ run knownSupertype (ruleOf s (l .kind) (r .kind)) l r
+  unfolding run
+  none e = answer plan.No Nothing e refl
+
+  pub left : q ≡ plan.Left → Some l ≡ run knownSupertype (ruleOf s (l .kind) (r .kind)) l r
+  unfolding run
+  left e = answer plan.Left (Some l) e refl
+
+  pub right : q ≡ plan.Right → Some r ≡ run knownSupertype (ruleOf s (l .kind) (r .kind)) l r
+  unfolding run
+  right e = answer plan.Right (Some r) e refl
+
+  pub kind : (k : ℕ) → q ≡ plan.Kind k → Some (node k 0) ≡ run knownSupertype (ruleOf s (l .kind) (r .kind)) l r
+  unfolding run
+  kind k e = answer (plan.Kind k) (Some (node k 0)) e refl
+
+  pub decimals : (m : ℕ) → q ≡ plan.Decimals → m ≡ 256 * max (l .arg / 256) (r .arg / 256) + max (l .arg % 256) (r .arg % 256) → Some (node Kind.Decimal m) ≡ run knownSupertype (ruleOf s (l .kind) (r .kind)) l r
+  unfolding run
+  decimals m e h = answer plan.Decimals (Some (node Kind.Decimal m)) e (rw h)
+
+  pub dyn-decimal : q ≡ plan.DynDecimal → Some (node Kind.Decimal (256 * (l .arg / 256) + 38)) ≡ run knownSupertype (ruleOf s (l .kind) (r .kind)) l r
+  unfolding run
+  dyn-decimal e = answer plan.DynDecimal (Some (node Kind.Decimal (256 * (l .arg / 256) + 38))) e refl
 
   -- a plan that norm leaves as it is
   rule-is : (p : Plan) → q ≡ p → norm (l .kind) (r .kind) p ≡ p → ruleOf s (l .kind) (r .kind) ≡ p
@@ -76,19 +97,19 @@ module _ (s : Bool) (l r : Node) (pre : (fits l ≡ true) × (fits r ≡ true) �
         let u = only p (λ i j. eqb i a && eqb j b) t s (l .kind) (r .kind) (pre .2) (rule-is p e n) in
         (eqb→eq (l .kind) a (and-left (eqb (l .kind) a) _ u), eqb→eq (r .kind) b (and-right (eqb (l .kind) a) _ u))
 
-  pub datetime-duration : (n : Node) → q ≡ plan.DatetimeDuration → n ≡ node Kind.Datetime (4 * (l .arg / 4) + max (l .arg % 4) (r .arg % 4)) → Some n ≡ run knownSupertype (ruleOf s (l .kind) (r .kind)) l r
+  pub datetime-duration : (m : ℕ) → q ≡ plan.DatetimeDuration → m ≡ 4 * (l .arg / 4) + max (l .arg % 4) (r .arg % 4) → Some (node Kind.Datetime m) ≡ run knownSupertype (ruleOf s (l .kind) (r .kind)) l r
   unfolding run norm
-  datetime-duration n e h =
+  datetime-duration m e h =
       let k = pair Kind.Datetime Kind.Duration plan.DatetimeDuration (unfold everywhere in tt) e refl in
       let g = unit-of-duration r (pre .1) (k .1) in
-      answer plan.DatetimeDuration (Some n) e (rw (h, eq-eqb (l .kind) Kind.Datetime (k .0), larger-unit l r (unit-of-datetime l (pre .0) (k .0)) (omega arith)))
+      answer plan.DatetimeDuration (Some (node Kind.Datetime m)) e (rw (h, eq-eqb (l .kind) Kind.Datetime (k .0), larger-unit l r (unit-of-datetime l (pre .0) (k .0)) (omega arith)))
 
   module _ (e : q ≡ plan.Datetimes) where
-    pub one-zone : (n : Node) → l .arg / 4 ≡ r .arg / 4 → n ≡ node Kind.Datetime (4 * (r .arg / 4) + max (r .arg % 4) (l .arg % 4)) → Some n ≡ run knownSupertype (ruleOf s (l .kind) (r .kind)) l r
+    pub one-zone : (m : ℕ) → l .arg / 4 ≡ r .arg / 4 → m ≡ 4 * (r .arg / 4) + max (r .arg % 4) (l .arg % 4) → Some (node Kind.Datetime m) ≡ run knownSupertype (ruleOf s (l .kind) (r .kind)) l r
     unfolding run norm
-    one-zone n z h =
+    one-zone m z h =
         let k = pair Kind.Datetime Kind.Datetime plan.Datetimes (unfold everywhere in tt) e refl in
-        answer plan.Datetimes (Some n) e (rw (h, zones (zone l) (zone r), eq-eqb (zone l) (zone r) z, larger-unit l r (unit-of-datetime l (pre .0) (k .0)) (unit-of-datetime r (pre .1) (k .1)), max-comm (r .arg % 4) (l .arg % 4)))
+        answer plan.Datetimes (Some (node Kind.Datetime m)) e (rw (h, zones (zone l) (zone r), eq-eqb (zone l) (zone r) z, larger-unit l r (unit-of-datetime l (pre .0) (k .0)) (unit-of-datetime r (pre .1) (k .1)), max-comm (r .arg % 4) (l .arg % 4)))
 
     pub two-zones : (l .arg / 4 ≡ r .arg / 4 → ⊥) → Nothing ≡ run knownSupertype (ruleOf s (l .kind) (r .kind)) l r
     unfolding run
@@ -114,18 +135,18 @@ module _ (s : Bool) (l r : Node) (pre : (fits l ≡ true) × (fits r ≡ true) �
       let u = only plan.DynNumber (λ a b. leb Kind.UInt8 a && leb a Kind.Int64) (unfold everywhere in tt) s (l .kind) (r .kind) (pre .2) (rule-is plan.DynNumber e refl) in
       (leb→le Kind.UInt8 (l .kind) (and-left (leb Kind.UInt8 (l .kind)) _ u), leb→le (l .kind) Kind.Int64 (and-right (leb Kind.UInt8 (l .kind)) _ u))
 
-  pub number : (n : Node) (k : ℕ) → q ≡ plan.DynNumber → n ≡ node k 0 → Some (node k 0) ≡ dynNumber knownSupertype (node (l .kind) 0) (value r) → Some n ≡ run knownSupertype (ruleOf s (l .kind) (r .kind)) l r
+  pub number : (k : ℕ) → q ≡ plan.DynNumber → Some (node k 0) ≡ dynNumber knownSupertype (node (l .kind) 0) (value r) → Some (node k 0) ≡ run knownSupertype (ruleOf s (l .kind) (r .kind)) l r
   unfolding run
-  number n k e i h =
+  number k e h =
       let b = number-kinds e in
-      answer plan.DynNumber (Some n) e
-      (rw (i, sym (of-run isUnknownInt false 0 26 (unfold says in tt) (l .kind) (omega arith))) (h ∙ ap (λ (n : Node). dynNumber knownSupertype n (value r)) (bare-left (omega arith))))
+      answer plan.DynNumber (Some (node k 0)) e
+      (rw (sym (of-run isUnknownInt false 0 26 (unfold says in tt) (l .kind) (omega arith))) (h ∙ ap (λ (n : Node). dynNumber knownSupertype n (value r)) (bare-left (omega arith))))
 
-  pub boolean : (n : Node) (k : ℕ) → q ≡ plan.DynBoolean → n ≡ node k 0 → k ≡ materializeDynInt (value r) → Some n ≡ run knownSupertype (ruleOf s (l .kind) (r .kind)) l r
+  pub boolean : (k : ℕ) → q ≡ plan.DynBoolean → k ≡ materializeDynInt (value r) → Some (node k 0) ≡ run knownSupertype (ruleOf s (l .kind) (r .kind)) l r
   unfolding run norm
-  boolean n k e i h =
+  boolean k e h =
       let one : l .kind ≡ Kind.Boolean = eqb→eq (l .kind) Kind.Boolean (only plan.DynBoolean (λ a b. eqb a Kind.Boolean) (unfold everywhere in tt) s (l .kind) (r .kind) (pre .2) (rule-is plan.DynBoolean e refl)) in
       let t : T (leb Kind.UInt8 k && leb k Kind.Int128) = rw h (dyn-int-of (λ k. leb Kind.UInt8 k && leb k Kind.Int128) tt tt (value r)) in
-      answer plan.DynBoolean (Some n) e
-      (rw (i, ← h) (known-boolean k (leb→le Kind.UInt8 k (and-left (leb Kind.UInt8 k) _ t)) (leb→le k Kind.Int128 (and-right (leb Kind.UInt8 k) _ t))
+      answer plan.DynBoolean (Some (node k 0)) e
+      (rw (← h) (known-boolean k (leb→le Kind.UInt8 k (and-left (leb Kind.UInt8 k) _ t)) (leb→le k Kind.Int128 (and-right (leb Kind.UInt8 k) _ t))
       ∙ ap (λ (n : Node). knownSupertype n (node k 0)) ((λ i. node (sym one i) 0) ∙ bare-left (omega arith))))

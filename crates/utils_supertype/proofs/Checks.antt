@@ -17,10 +17,9 @@ use Rattle.flat.specs.declared.Checked.the-variants as checked
 use Rattle.flat.specs.declared.Root.{Root}
 use Rattle.datatypes.specs.Predicate.{isNested}
 use Rattle.datatypes.proofs.Runs.{says, of-run}
-use Rattle.utils.specs.Join.{rootNode, foundOf, joining, joiningRoots}
-use Rattle.utils.specs.declared.join.Node.{Node}
-use Rattle.utils.specs.declared.join.Supertype.{Supertype}
-use Rattle.utils.proofs.Joins.{joining-roots}
+use Rattle.utils.specs.Join.{Node, rootNode, foundOf, foundIn, resultOf, joining, joiningRoots}
+use Rattle.utils.specs.declared.join.Found.{Found}
+use Rattle.utils.proofs.Joins.{found-result, joining-roots}
 use Rattle.utils_arms.specs.Node.{fits}
 use Rattle.utils_arms.specs.Supertype.{supertype}
 use Rattle.utils_arms.proofs.Recursive.{supertype-laws}
@@ -84,9 +83,9 @@ module _ (s : Bool) (l r : Node) where
   unfolding rootSupertype
   pair-refused e p = rw (← p)
 
-  pub pair-joined : checked.Valid ≡ pairChecked (l .kind) (r .kind) → (t : Supertype) → t ≡ supertype false s l r → foundOf t ≡ rootSupertype false s l r
+  pub pair-joined : checked.Valid ≡ pairChecked (l .kind) (r .kind) → (f : Found) → f ≡ foundIn (supertype false s l r) → resultOf f ≡ rootSupertype false s l r
   unfolding rootSupertype
-  pair-joined p t e = rw (← p, ← e)
+  pair-joined p f e = rw (← p, e) (found-result (supertype false s l r))
 
 -- what is found of the roots of two readings; the implode flag has no part in it
 pub joined : (i s : Bool) (left right : Reading) {found : Option Reading} {l r : Root} → l ≡ rootOf left → r ≡ rootOf right → found ≡ joiningRoots (rootSupertype false s) l r → found ≡ joining (supertypeOf i s) left right

@@ -14,9 +14,7 @@ use Rattle.datatypes.specs.Predicate.{isUnknownInt, isSignedInteger, isUnsigned
 use Rattle.datatypes.specs.DynInt.{valueOf, materializeDynIntPos, materializeSmallestDynInt}
 use Rattle.datatypes.proofs.Runs.{says, of-run}
 use Rattle.datatypes.proofs.Pairs.{nodes-same, left-known}
-use Rattle.utils.specs.Join.{node}
-use Rattle.utils.specs.declared.join.Supertype.{Supertype}
-use Rattle.utils.specs.declared.join.Supertype.the-variants.{Some, Nothing}
+use Rattle.utils.specs.Join.{Supertype, Some, Nothing, node}
 use Rattle.utils_arms.specs.declared.plan.Plan.{Plan}
 use Rattle.utils_arms.specs.declared.plan.Plan.the-variants as plan
 use Rattle.utils_arms.specs.Node.{same, fits}

@@ -4,10 +4,7 @@ use mathlib.Core.Bool.{Bool, true, false}
 use Prim.Native.Nat.{ℕ, _≤_, _<_}
 use native.Mathlib.Omega.{arith}
 use Rattle.flat.specs.Kind
-use Rattle.utils.specs.Join.{node}
-use Rattle.utils.specs.declared.join.Node.{Node}
-use Rattle.utils.specs.declared.join.Supertype.{Supertype}
-use Rattle.utils.specs.declared.join.Supertype.the-variants.{Some}
+use Rattle.utils.specs.Join.{Node, Supertype, Some, node}
 use Rattle.utils_arms.specs.declared.plan.Plan.the-variants as plan
 use Rattle.utils_arms.specs.Node.{same, fits}
 use Rattle.utils_arms.specs.Supertype.{planOf, run, inner, supertypeWith, knownSupertype, supertype}
@@ -28,23 +25,23 @@ module _ (i s : Bool) (l r : Node) where
   equal e = rw e
 
   module _ (pre : (fits l ≡ true) × (fits r ≡ true)) (differ : same l r ≡ false) where
-    pub in-order : (t : Supertype) → l .kind ≤ r .kind → t ≡ run knownSupertype (ruleOf s (l .kind) (r .kind)) l r → t ≡ supertype i s l r
+    pub in-order : l .kind ≤ r .kind → run knownSupertype (ruleOf s (l .kind) (r .kind)) l r ≡ supertype i s l r
     unfolding supertype
-    in-order t h e = e ∙ sym (settled knownSupertype s l r (pre .0) (pre .1) (ready l r pre differ h .2) differ)
+    in-order h = sym (settled knownSupertype s l r (pre .0) (pre .1) (ready l r pre differ h .2) differ)
 
-    pub out-of-order : (t : Supertype) → r .kind < l .kind → lopsided (l .kind) (r .kind) ≡ false → t ≡ run knownSupertype (ruleOf s (r .kind) (l .kind)) r l → t ≡ supertype i s l r
+    pub out-of-order : r .kind < l .kind → lopsided (l .kind) (r .kind) ≡ false → run knownSupertype (ruleOf s (r .kind) (l .kind)) r l ≡ supertype i s l r
     unfolding supertype
-    out-of-order t h n e =
+    out-of-order h n =
         let turned = ready-turned l r pre differ h .2 in
-        e ∙ sym (settled knownSupertype s r l (pre .1) (pre .0) turned (same-sym r l ∙ differ)) ∙ sym (either-order knownSupertype s l r (pre .0) (pre .1) h turned n differ)
+        sym (settled knownSupertype s r l (pre .1) (pre .0) turned (same-sym r l ∙ differ)) ∙ sym (either-order knownSupertype s l r (pre .0) (pre .1) h turned n differ)
 
     -- the first try answers with a kind
-    first-try : (n : Node) (k : ℕ) → n ≡ node k 0 → planOf s (l .kind) (r .kind) ≡ plan.Kind k → Some n ≡ supertype i s l r
+    first-try : (k : ℕ) → planOf s (l .kind) (r .kind) ≡ plan.Kind k → Some (node k 0) ≡ supertype i s l r
     unfolding supertype run
-    first-try n k e p = sym (tries knownSupertype s l r differ ∙ rw (p, e))
+    first-try k p = sym (tries knownSupertype s l r differ ∙ rw p)
 
-    pub any-string : (n : Node) → n ≡ node Kind.String 0 → l .kind ≡ Kind.UnknownAny → r .kind ≡ Kind.String → Some n ≡ supertype i s l r
-    any-string n o e f = first-try n Kind.String o (rw (e, f) (any-string-plan s))
+    pub any-string : l .kind ≡ Kind.UnknownAny → r .kind ≡ Kind.String → Some (node Kind.String 0) ≡ supertype i s l r
+    any-string e f = first-try Kind.String (rw (e, f) (any-string-plan s))
 
-    pub dyn-str : (n : Node) → n ≡ node Kind.UnknownAny 0 → Kind.UnknownStr < l .kind → l .kind ≤ Kind.UnknownIntNeg → r .kind ≡ Kind.UnknownStr → Some n ≡ supertype i s l r
-    dyn-str n o h u f = first-try n Kind.UnknownAny o (rw f (dyn-str-plan s (l .kind) (omega arith) (omega arith)))
+    pub dyn-str : Kind.UnknownStr < l .kind → l .kind ≤ Kind.UnknownIntNeg → r .kind ≡ Kind.UnknownStr → Some (node Kind.UnknownAny 0) ≡ supertype i s l r
+    dyn-str h u f = first-try Kind.UnknownAny (rw f (dyn-str-plan s (l .kind) (omega arith) (omega arith)))

@@ -10,8 +10,7 @@ use Rattle.flat.specs.declared.error.Error.the-variants.{Nested, DecimalWithInt
 use Rattle.flat.specs.declared.Checked.{Checked}
 use Rattle.flat.specs.declared.Checked.the-variants.{Valid, Refused}
 use Rattle.datatypes.specs.Predicate.{isSignedInteger, isUnsignedInteger, isNested}
-use Rattle.utils.specs.Join.{rootNode, foundOf}
-use Rattle.utils.specs.declared.join.Node.{Node}
+use Rattle.utils.specs.Join.{Node, rootNode, foundOf}
 use Rattle.utils_arms.specs.Supertype.{supertype}
 
 -- an integer code 2 to 11

@@ -5,7 +5,7 @@ ghost use mathlib.Core.Path.{_≡_};
 ghost use mathlib.Core.Bool.{false};
 ghost use lib.ListN.{length};
 ghost use Rattle.flat.specs.Reading.{reading, RootFits};
-ghost use Rattle.utils.specs.Join.{resultOf, joining, joiningRoots, fittingFound, Joins};
+ghost use Rattle.utils.specs.Join.{node, resultOf, joining, joiningRoots, fittingFound, Joins};
 ghost use Rattle.utils_supertype.specs.Pair.{isListed, decimalWithInteger, pairChecked, rootSupertype, supertypeOf};
 use datatypes::kind::is_nested;
 use flat::Checked;
@@ -16,8 +16,6 @@ use flat::kind::Kind;
 use node::node_supertype;
 use utils::join::Found;
 use utils::join::Joined;
-use utils::join::Node;
-use utils::join::Supertype;
 use utils::join::put;
 
 fn is_listed(kind: u8) -> bool
@@ -58,16 +56,13 @@ pub fn check_pair(left: u8, right: u8) -> Checked
     Checked::Valid
 }
 
-fn join_nodes(to_string: bool, l: Node, r: Node) -> Found
-    requires { ⌜ RootFits (Root.Node (l .kind) (l .arg)) × RootFits (Root.Node (r .kind) (r .arg)) ⌝ }
-    ensures { λ t. ⌜ resultOf t ≡ rootSupertype false «to_string» l r ⌝ }
+fn join_nodes(to_string: bool, a: u8, x: u64, b: u8, y: u64) -> Found
+    requires { ⌜ RootFits (Root.Node a x) × RootFits (Root.Node b y) ⌝ }
+    ensures { λ t. ⌜ resultOf t ≡ rootSupertype false «to_string» (node a x) (node b y) ⌝ }
 {
-    match check_pair(l.kind, r.kind) {
+    match check_pair(a, b) {
         Checked::Refused(e) => Found::Refused(e),
-        Checked::Valid => match node_supertype(to_string, l, r) {
-            Supertype::Some(n) => Found::Some(n),
-            Supertype::Nothing => Found::Nothing,
-        },
+        Checked::Valid => node_supertype(to_string, a, x, b, y),
     }
 }
 
@@ -80,13 +75,7 @@ pub fn join_roots(to_string: bool, left: Root, right: Root) -> Found
         Root::Refused(e) => Found::Refused(e),
         Root::Node(k, a) => match right {
             Root::Refused(e) => Found::Refused(e),
-            Root::Node(l, b) => {
-                join_nodes(
-                    to_string,
-                    Node { kind: k, arg: a },
-                    Node { kind: l, arg: b },
-                )
-            }
+            Root::Node(l, b) => join_nodes(to_string, k, a, l, b),
         },
     }
 }

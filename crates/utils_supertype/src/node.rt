@@ -2,16 +2,15 @@
 ghost use mathlib.Core.Path.{_≡_};
 ghost use mathlib.Core.Bool.{true, false};
 ghost use Prim.Native.Nat.{_+_, _*_, _/_, _%_, _≤_, max};
-ghost use Rattle.flat.specs.Kind.{Null, Boolean, UInt8, Int64, Decimal, Datetime};
+ghost use Rattle.flat.specs.Kind.{Boolean, UInt8, Int64};
 ghost use Rattle.datatypes.specs.DynInt.{valueOf};
-ghost use Rattle.utils.specs.Join.{node};
+ghost use Rattle.utils.specs.Join.{node, Supertype, foundIn};
 ghost use Rattle.utils_arms.specs.Node.{fits};
 ghost use Rattle.utils_arms.specs.Supertype.{smallestFitting, dynNumber, knownSupertype, run, supertype};
 ghost use Rattle.utils_arms.specs.Rule.{ruleOf, Apart};
 use datatypes::node::equal_node;
 use flat::kind::Kind;
-use utils::join::Node;
-use utils::join::Supertype;
+use utils::join::Found;
 use utils_arms::number::numeric;
 use utils_arms::plan::Plan;
 use utils_arms::plan::planned;
@@ -19,37 +18,24 @@ use utils_numbers::dyn_int::materialize_dyn_int;
 use utils_numbers::dyn_int::materialize_dyn_int_pos;
 use utils_numbers::dyn_int::materialize_smallest_dyn_int;
 
-// A type of a kind that has no argument.
-fn plain(kind: u8) -> Node
-    ensures { λ r. ⌜ r ≡ node kind 0 ⌝ }
-{
-    Node { kind, arg: 0 }
-}
-
 fn larger(a: u64, b: u64) -> u64
     ensures { λ r. ⌜ r ≡ max a b ⌝ }
 {
     if a < b { b } else { a }
 }
 
-// The larger precision and the larger scale.
-fn decimals(x: u64, y: u64) -> Node
-    ensures { λ r. ⌜ r ≡ node Decimal (256 * max (x / 256) (y / 256) + max (x % 256) (y % 256)) ⌝ }
+// The larger scale and the larger precision.
+fn decimals(x: u64, y: u64) -> u64
+    ensures { λ r. ⌜ r ≡ 256 * max (x / 256) (y / 256) + max (x % 256) (y % 256) ⌝ }
 {
-    Node {
-        kind: Kind::DECIMAL,
-        arg: 256 * larger(x / 256, y / 256) + larger(x % 256, y % 256),
-    }
+    256 * larger(x / 256, y / 256) + larger(x % 256, y % 256)
 }
 
 // The zone of x, and the larger unit, which is the coarser one.
-fn datetime(x: u64, y: u64) -> Node
-    ensures { λ r. ⌜ r ≡ node Datetime (4 * (x / 4) + max (x % 4) (y % 4)) ⌝ }
+fn datetime(x: u64, y: u64) -> u64
+    ensures { λ r. ⌜ r ≡ 4 * (x / 4) + max (x % 4) (y % 4) ⌝ }
 {
-    Node {
-        kind: Kind::DATETIME,
-        arg: 4 * (x / 4) + larger(x % 4, y % 4),
-    }
+    4 * (x / 4) + larger(x % 4, y % 4)
 }
 
 // The smallest type for a dyn int beside the integer type dt.
@@ -98,61 +84,51 @@ fn dyn_number(dt: u8, kind: u8, arg: u64) -> u8
     get_supertype_known(dt, k)
 }
 
-// Two different types, in the order of their kinds.
-fn ordered(to_string: bool, l: Node, r: Node) -> Supertype
-    requires { ⌜ (fits l ≡ true) × (fits r ≡ true) × Apart (l .kind) (r .kind) ⌝ }
-    ensures { λ t. ⌜ t ≡ run knownSupertype (ruleOf «to_string» (l .kind) (r .kind)) l r ⌝ }
+// Two different types, of the kinds a and b in order, with the arguments x and y.
+fn ordered(to_string: bool, a: u8, x: u64, b: u8, y: u64) -> Found
+    requires { ⌜ (fits (node a x) ≡ true) × (fits (node b y) ≡ true) × Apart a b ⌝ }
+    ensures { λ t. ⌜ t ≡ foundIn (run knownSupertype (ruleOf «to_string» a b) (node a x) (node b y)) ⌝ }
 {
-    let x = l.arg;
-    let y = r.arg;
-    match planned(to_string, l.kind, r.kind) {
-        Plan::No => Supertype::Nothing,
-        Plan::Left => Supertype::Some(l),
-        Plan::Right => Supertype::Some(r),
-        Plan::Kind(k) => Supertype::Some(plain(k)),
-        Plan::Decimals => Supertype::Some(decimals(x, y)),
-        Plan::DatetimeDuration => Supertype::Some(datetime(x, y)),
+    match planned(to_string, a, b) {
+        Plan::No => Found::Nothing,
+        Plan::Left => Found::Some(a, x),
+        Plan::Right => Found::Some(b, y),
+        Plan::Kind(k) => Found::Some(k, 0),
+        Plan::Decimals => Found::Some(Kind::DECIMAL, decimals(x, y)),
+        Plan::DatetimeDuration => Found::Some(Kind::DATETIME, datetime(x, y)),
         Plan::Datetimes => {
             if x / 4 == y / 4 {
-                Supertype::Some(datetime(y, x))
+                Found::Some(Kind::DATETIME, datetime(y, x))
             } else {
-                Supertype::Nothing
+                Found::Nothing
             }
         }
-        Plan::Durations => Supertype::Some(Node {
-            kind: Kind::DURATION,
-            arg: larger(x, y),
-        }),
-        Plan::DynNumber => Supertype::Some(plain(dyn_number(l.kind, r.kind, y))),
-        Plan::DynBoolean => Supertype::Some(plain(materialize_dyn_int(r.kind, y))),
-        Plan::DynDecimal => Supertype::Some(Node {
-            kind: Kind::DECIMAL,
-            arg: 256 * (x / 256) + 38,
-        }),
+        Plan::Durations => Found::Some(Kind::DURATION, larger(x, y)),
+        Plan::DynNumber => Found::Some(dyn_number(a, b, y), 0),
+        Plan::DynBoolean => Found::Some(materialize_dyn_int(b, y), 0),
+        Plan::DynDecimal => Found::Some(Kind::DECIMAL, 256 * (x / 256) + 38),
     }
 }
 
 // The implode flag has no part in it. The rule is symmetric except for any with String, and for dyn float or a dyn int with str.
-pub fn node_supertype(to_string: bool, l: Node, r: Node) -> Supertype
-    requires { ⌜ (fits l ≡ true) × (fits r ≡ true) ⌝ }
-    ensures { λ t. ⌜ t ≡ supertype false «to_string» l r ⌝ }
+pub fn node_supertype(to_string: bool, a: u8, x: u64, b: u8, y: u64) -> Found
+    requires { ⌜ (fits (node a x) ≡ true) × (fits (node b y) ≡ true) ⌝ }
+    ensures { λ t. ⌜ t ≡ foundIn (supertype false «to_string» (node a x) (node b y)) ⌝ }
 {
-    let a = l.kind;
-    let b = r.kind;
-    if equal_node(a, l.arg, b, r.arg) {
-        return Supertype::Some(l);
+    if equal_node(a, x, b, y) {
+        return Found::Some(a, x);
     }
     if a <= b {
-        return ordered(to_string, l, r);
+        return ordered(to_string, a, x, b, y);
     }
     if b == Kind::UNKNOWN_STR {
-        return Supertype::Some(plain(Kind::UNKNOWN_ANY));
+        return Found::Some(Kind::UNKNOWN_ANY, 0);
     }
     if a == Kind::UNKNOWN_ANY {
         if b == Kind::STRING {
-            return Supertype::Some(plain(Kind::STRING));
+            return Found::Some(Kind::STRING, 0);
         }
-        return ordered(to_string, r, l);
+        return ordered(to_string, b, y, a, x);
     }
-    ordered(to_string, r, l)
+    ordered(to_string, b, y, a, x)
 }

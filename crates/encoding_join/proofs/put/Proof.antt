@@ -1,9 +1,9 @@
 -- `encoding_join::put` meets its contract: what was found is one node. Assumes nothing.
 use mathlib.Core.Path.{refl, ap}
 use borrow.Author.Needs.{needs}
-use Rattle.flat.specs.Tree.{kindsOf, argsOf}
+use Rattle.flat.specs.Tree.{leaf, kindsOf, argsOf}
 use Rattle.encoding.proofs.Answers.{puts-type}
-use Rattle.utils.specs.Join.{typeOf, resultOf}
+use Rattle.utils.specs.Join.{resultOf}
 use Rattle.encoding_join.proofs.Joining.{joins-refused, joins-bytes, joins-refusal}
 use Rattle.encoding_join.proofs.put.Statement.{statement}
 use Rattle.encoding_join.proofs.put.Tie as tie
@@ -19,14 +19,14 @@ unfolding kindsOf argsOf
 returns-3 c =
     let at = c .before .before .before .before .before in
     let found = at .before .before .before .before .before .found2 in
-    rw (found .given .1) (joins-bytes 8 (puts-type (typeOf (found .given .0 .0)) refl refl (at .put .ensures)) (c .before .size .given .1))
+    rw (found .given .1) (joins-bytes 8 (puts-type (leaf (found .given .0 .0) (found .given .0 .1 .0)) refl refl (at .put .ensures)) (c .before .size .given .1))
 
 returns-4 : tie.Need-returns-4
 unfolding kindsOf argsOf
 returns-4 c =
     let at = c .before .before .before .before .before in
     let found = at .before .before .before .before .before .found2 in
-    rw (found .given .1) (joins-refusal 8 (puts-type (typeOf (found .given .0 .0)) refl refl (at .put .ensures)) (c .before .e .given .1))
+    rw (found .given .1) (joins-refusal 8 (puts-type (leaf (found .given .0 .0) (found .given .0 .1 .0)) refl refl (at .put .ensures)) (c .before .e .given .1))
 
 pub put-spec : {M : Type 1} → statement M
 put-spec =

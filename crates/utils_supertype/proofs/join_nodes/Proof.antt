@@ -1,7 +1,6 @@
 -- `utils_supertype::join_nodes` meets its contract. Assumes nothing.
-use mathlib.Core.Path.{sym, ap, _∙_}
+use mathlib.Core.Path.{sym, _∙_}
 use borrow.Author.Needs.{needs}
-use Rattle.utils.specs.Join.{foundOf}
 use Rattle.utils_supertype.proofs.Checks.{none-nested, root-fits, pair-refused, pair-joined}
 use Rattle.utils_supertype.proofs.join_nodes.Statement.{statement}
 use Rattle.utils_supertype.proofs.join_nodes.Tie as tie
@@ -15,14 +14,7 @@ returns : tie.Need-returns
 returns c = pair-refused _ _ _ _ (sym (c .before .e .given .1) ∙ c .before .before .before .check-pair .ensures)
 
 returns-2 : tie.Need-returns-2
-returns-2 c =
-    let at = c .before .before .before in
-    ap foundOf (sym (c .before .n .given .1)) ∙ pair-joined _ _ _ (sym (at .before .enum-told .given .1) ∙ at .before .before .before .check-pair .ensures) _ (at .node-supertype .ensures)
-
-returns-3 : tie.Need-returns-3
-returns-3 c =
-    let at = c .before .before in
-    ap foundOf (sym (c .enum-told2 .given .1)) ∙ pair-joined _ _ _ (sym (at .before .enum-told .given .1) ∙ at .before .before .before .check-pair .ensures) _ (at .node-supertype .ensures)
+returns-2 c = pair-joined _ _ _ (sym (c .before .enum-told .given .1) ∙ c .before .before .before .check-pair .ensures) _ (c .node-supertype .ensures)
 
 pub join-nodes-spec : {M : Type 1} → statement M
 join-nodes-spec =
@@ -30,7 +22,5 @@ join-nodes-spec =
     (tie.spec
     (λ c κs. search needs) (λ c. search needs) (λ c. search needs)
     node-supertype-requires
-    (λ c. search needs) (λ c. search needs)
     returns
-    returns-2
-    returns-3)
+    returns-2)

@@ -8,10 +8,10 @@ use Rattle.utils.proofs.join.put.Statement.{statement}
 use Rattle.utils.proofs.join.put.Tie as tie
 
 returns : tie.Need-returns
-returns c = kinds-too-short _ _ (c .before .before .found2 .given .1) _ _ (omega arith)
+returns c = kinds-too-short _ _ _ (c .before .before .found2 .given .1) _ _ (omega arith)
 
 returns-2 : tie.Need-returns-2
-returns-2 c = args-too-short _ _ (c .before .before .before .found2 .given .1) _ _ (omega arith) (omega arith)
+returns-2 c = args-too-short _ _ _ (c .before .before .before .found2 .given .1) _ _ (omega arith) (omega arith)
 
 returns-3 : tie.Need-returns-3
 returns-3 c = joins-nothing (rw (c .enum-told .given .1) refl)
@@ -20,7 +20,7 @@ returns-4 : tie.Need-returns-4
 returns-4 c = joins-refusal _ _ (ap resultOf (c .before .found .given .1))
 
 returns-5 : tie.Need-returns-5
-returns-5 c = one-node _ _ (c .before .before .before .found2 .given .1) _ _ (omega arith) (omega arith)
+returns-5 c = one-node _ _ _ (c .before .before .before .found2 .given .1) _ _ (omega arith) (omega arith)
 
 pub put-spec : {M : Type 1} → statement M
 put-spec =
