@@ -26,7 +26,7 @@ module _ (s : Bool) (w : ℕ) (z : ℤ) where
   sign : T (inRange s w z) → T (s || nonNeg z)
   sign h = and-left (s || nonNeg z) _ (subst T (in-range s w z) h)
 
-  size : T (inRange s w z) → mag z < 2 ^ bits s w
+  pub size : T (inRange s w z) → mag z < 2 ^ bits s w
   size h = ltb→lt (mag z) (2 ^ bits s w) (and-right (s || nonNeg z) _ (subst T (in-range s w z) h))
 
 -- 2 ^ a - 1 < 2 ^ b only where a ≤ b

@@ -1,8 +1,11 @@
 -- What becomes of a whole number in a float format: IEEE 754's roundTiesToEven. Assumes nothing: these are definitions.
+use mathlib.Core.Path.{_≡_}
 use mathlib.Core.Bool.{true, false, cond, _&&_, _||_}
-use Prim.Native.Nat.{ℕ, zero, suc, _+_, _*_, _/_, _%_, _^_}
+use Prim.Native.Nat.{ℕ, zero, suc, _+_, _-_, _*_, _/_, _%_, _^_, _≤_, _<_}
 use lib.Dec.{ltb, eqb}
 use lib.IntN.{ℤ, pos, negsuc, negℤ}
+use Rattle.utils_numbers.specs.Range.{Holds}
+use Rattle.utils_numbers.specs.Format.{format, WholeIn}
 
 -- how often n is halved until p bits hold it; n halvings are always enough
 unfoldable pub halvings : ℕ → ℕ → ℕ → ℕ
@@ -25,3 +28,21 @@ nearest p n = nearestQuotient n (lastUnit p n) * lastUnit p n
 unfoldable pub asFloat64 : ℤ → ℤ
 asFloat64 (pos n) = pos (nearest 53 n)
 asFloat64 (negsuc n) = negℤ (pos (nearest 53 (suc n)))
+
+-- how far apart two whole numbers are
+abbrev pub distance : ℕ → ℕ → ℕ
+distance a b = (a - b) + (b - a)
+
+-- nearest is what its name says; the numbers of p bits are m × 2 ^ q with m < 2 ^ p
+pub record RoundingLaws : Type 0 where
+  -- a whole number of at most p bits is kept
+  pub kept : (p n : ℕ) → n < 2 ^ p → nearest p n ≡ n
+  -- what n is rounded to is a number of p bits
+  pub fits : (p n : ℕ) → 1 ≤ p → (m q : ℕ) × (m < 2 ^ p) × (nearest p n ≡ m * 2 ^ q)
+  -- and none of them is nearer to n
+  pub nearer : (p n m q : ℕ) → 1 ≤ p → m < 2 ^ p → distance n (nearest p n) ≤ distance n (m * 2 ^ q)
+  -- where another is as near, the last of its p bits is 0 (a single bit leaves no such choice)
+  pub even : (p n m q : ℕ) → 2 ≤ p → m < 2 ^ p → distance n (m * 2 ^ q) ≡ distance n (nearest p n) → (m * 2 ^ q ≡ nearest p n → ⊥)
+      → (j i : ℕ) × (j < 2 ^ p) × (j % 2 ≡ 0) × (nearest p n ≡ j * 2 ^ i)
+  -- the numbers of every integer type are rounded to numbers of Float64's format
+  pub in-format : (k : ℕ) (z : ℤ) → Holds k z → WholeIn (format 53 1023) (asFloat64 z)
