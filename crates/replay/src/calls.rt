@@ -3,22 +3,30 @@ use crate::answer::is_answer;
 use crate::answer::is_reply;
 use crate::answer::same_numbers;
 use crate::output::Form;
+use crate::output::Rule;
 use crate::output::is_built;
+use crate::output::is_joined;
 use crate::parts::between;
 use crate::parts::first;
 use crate::parts::from;
+use crate::reader::Flag;
 use crate::reader::Found;
 use crate::reader::NODES;
+use crate::reader::read_flag;
 use crate::reader::read_type;
 use datatypes::answer::Answer;
 use datatypes::dtype;
 use datatypes::time_unit::TimeUnit;
 use datatypes::time_unit::Unit;
 use datatypes::time_unit::unit_of;
+use datatypes_cast::can_cast_to;
+use datatypes_eq::contains_dtype_recursive;
+use datatypes_eq::equal;
 use datatypes_inner::Inner;
 use flat::Checked;
 use flat::Flat;
 use flat::error::Error;
+use utils_report::join_report;
 
 fn is_checked(kinds: &[u8], args: &[u64], recorded: &[u64]) -> bool {
     match flat::check(kinds, args) {
@@ -90,19 +98,15 @@ fn is_inner(entry: u64, kinds: &[u8], args: &[u64], recorded: &[u64]) -> bool {
 }
 
 fn is_materialized(kinds: &[u8], args: &[u64], recorded: &[u64]) -> bool {
-    if recorded.len() == 0 {
-        return false;
+    match read_flag(recorded, 0) {
+        Flag::Is(allow_unknown) => is_built(
+            Form::Materialized(allow_unknown),
+            kinds,
+            args,
+            from(recorded, 1),
+        ),
+        Flag::Nothing => false,
     }
-    let allow_unknown = recorded[0];
-    if allow_unknown > 1 {
-        return false;
-    }
-    is_built(
-        Form::Materialized(allow_unknown == 1),
-        kinds,
-        args,
-        &recorded[1..],
-    )
 }
 
 // Unused widths are 0.
@@ -136,6 +140,30 @@ fn agrees_on(entry: u64, kinds: &[u8], args: &[u64], recorded: &[u64]) -> bool {
     }
 }
 
+// The flags are recorded first.
+fn is_supertype(
+    left_kinds: &[u8],
+    left_args: &[u64],
+    right_kinds: &[u8],
+    right_args: &[u64],
+    recorded: &[u64],
+) -> bool {
+    match read_flag(recorded, 0) {
+        Flag::Is(implode_list) => match read_flag(recorded, 1) {
+            Flag::Is(to_string) => is_joined(
+                Rule::Supertype(implode_list, to_string),
+                left_kinds,
+                left_args,
+                right_kinds,
+                right_args,
+                from(recorded, 2),
+            ),
+            Flag::Nothing => false,
+        },
+        Flag::Nothing => false,
+    }
+}
+
 fn agrees_on_two(
     entry: u64,
     left_kinds: &[u8],
@@ -146,26 +174,29 @@ fn agrees_on_two(
 ) -> bool {
     match entry {
         16 => {
-            let answer = datatypes_eq::equal(left_kinds, left_args, right_kinds, right_args);
+            let answer = equal(left_kinds, left_args, right_kinds, right_args);
             is_reply(recorded, answer.number(), answer.value())
         }
         17 => {
-            let answer = datatypes_eq::contains_dtype_recursive(
-                left_kinds,
-                left_args,
-                right_kinds,
-                right_args,
-            );
+            let answer = contains_dtype_recursive(left_kinds, left_args, right_kinds, right_args);
             is_reply(recorded, answer.number(), answer.value())
         }
-        _ => {
-            let verdict = datatypes_cast::can_cast_to(
-                left_kinds,
-                left_args,
-                right_kinds,
-                right_args,
-            );
+        18 => {
+            let verdict = can_cast_to(left_kinds, left_args, right_kinds, right_args);
             is_reply(recorded, verdict.number(), verdict.value())
+        }
+        26 => is_joined(
+            Rule::Lossless,
+            left_kinds,
+            left_args,
+            right_kinds,
+            right_args,
+            recorded,
+        ),
+        27 => is_supertype(left_kinds, left_args, right_kinds, right_args, recorded),
+        _ => {
+            let report = join_report(left_kinds, left_args, right_kinds, right_args);
+            is_reply(recorded, report.number(), report.value())
         }
     }
 }
@@ -247,6 +278,7 @@ pub fn agrees(entry: u64, line: &[u64]) -> bool {
     match entry {
         16..=18 => two_types(entry, line),
         25 => two_units(line),
+        26..=28 => two_types(entry, line),
         _ => one_type(entry, line),
     }
 }

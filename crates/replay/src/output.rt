@@ -7,6 +7,7 @@ use crate::parts::from;
 use crate::parts::rest;
 use crate::reader::NODES;
 use flat::Written;
+use utils::join::Joined;
 
 // What stands in the arrays before a call: no kind, and an argument that no recorded type has.
 const KIND: u8 = 255;
@@ -17,6 +18,12 @@ const ARG: u64 = 0x5EED_5EED_5EED_5EED;
 pub enum Form {
     Physical,
     Materialized(bool),
+}
+
+// Which rule joins two types; the flags are `allow_implode_list` and `allow_primitive_to_string`.
+pub enum Rule {
+    Lossless,
+    Supertype(bool, bool),
 }
 
 fn build(
@@ -38,6 +45,37 @@ fn build(
     }
 }
 
+fn join(
+    rule: Rule,
+    left_kinds: &[u8],
+    left_args: &[u64],
+    right_kinds: &[u8],
+    right_args: &[u64],
+    out_kinds: &mut [u8],
+    out_args: &mut [u64],
+) -> Joined {
+    match rule {
+        Rule::Lossless => utils_lossless::get_numeric_upcast_supertype_lossless(
+            left_kinds,
+            left_args,
+            right_kinds,
+            right_args,
+            out_kinds,
+            out_args,
+        ),
+        Rule::Supertype(implode_list, to_string) => utils_supertype::get_supertype_with_options(
+            left_kinds,
+            left_args,
+            right_kinds,
+            right_args,
+            implode_list,
+            to_string,
+            out_kinds,
+            out_args,
+        ),
+    }
+}
+
 fn number(written: Written) -> u64 {
     match written {
         Written::Nodes(_) => 0,
@@ -52,37 +90,42 @@ fn nodes(written: Written) -> usize {
     }
 }
 
-// Whether the answer and the result are the recorded ones, and past the result nothing is changed.
+// Whether the answer and the result, of so many nodes, are the recorded ones, and past the result nothing is changed.
 fn is_written(
-    written: Written,
+    number: u64,
+    nodes: usize,
     out_kinds: &[u8; NODES],
     out_args: &[u64; NODES],
     recorded: &[u64],
 ) -> bool {
-    let n = nodes(written);
     let kinds = [KIND; NODES];
     let args = [ARG; NODES];
-    if !check::same(rest(out_kinds, n), rest(&kinds, n)) {
+    if !check::same(rest(out_kinds, nodes), rest(&kinds, nodes)) {
         return false;
     }
-    if !same_numbers(from(out_args, n), from(&args, n)) {
+    if !same_numbers(from(out_args, nodes), from(&args, nodes)) {
         return false;
     }
     is_answer(
         recorded,
-        number(written),
-        n as u64,
-        first(out_kinds, n),
-        between(out_args, 0, n),
+        number,
+        nodes as u64,
+        first(out_kinds, nodes),
+        between(out_args, 0, nodes),
     )
 }
 
-// Whether a type is built as recorded, in arrays of as many places as the room says, which is recorded first.
-pub fn is_built(form: Form, kinds: &[u8], args: &[u64], recorded: &[u64]) -> bool {
+// How many places of the arrays a call is given, which is recorded first; more than there are where no number stands there.
+fn read_room(recorded: &[u64]) -> usize {
     if recorded.len() == 0 {
-        return false;
+        return NODES + 1;
     }
-    let room = recorded[0] as usize;
+    recorded[0] as usize
+}
+
+// Whether a type is built as recorded.
+pub fn is_built(form: Form, kinds: &[u8], args: &[u64], recorded: &[u64]) -> bool {
+    let room = read_room(recorded);
     if room > NODES {
         return false;
     }
@@ -95,5 +138,44 @@ pub fn is_built(form: Form, kinds: &[u8], args: &[u64], recorded: &[u64]) -> boo
         &mut out_kinds[0..room],
         &mut out_args[0..room],
     );
-    is_written(written, &out_kinds, &out_args, &recorded[1..])
+    is_written(
+        number(written),
+        nodes(written),
+        &out_kinds,
+        &out_args,
+        from(recorded, 1),
+    )
+}
+
+// Whether two types are joined as recorded.
+pub fn is_joined(
+    rule: Rule,
+    left_kinds: &[u8],
+    left_args: &[u64],
+    right_kinds: &[u8],
+    right_args: &[u64],
+    recorded: &[u64],
+) -> bool {
+    let room = read_room(recorded);
+    if room > NODES {
+        return false;
+    }
+    let mut out_kinds = [KIND; NODES];
+    let mut out_args = [ARG; NODES];
+    let joined = join(
+        rule,
+        left_kinds,
+        left_args,
+        right_kinds,
+        right_args,
+        &mut out_kinds[0..room],
+        &mut out_args[0..room],
+    );
+    is_written(
+        joined.number(),
+        joined.value() as usize,
+        &out_kinds,
+        &out_args,
+        from(recorded, 1),
+    )
 }

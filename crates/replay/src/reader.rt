@@ -1,4 +1,4 @@
-// Reads the numbers of a line, and a type among them.
+// Reads the numbers of a line, and a type or a flag among them.
 use flat::Flat;
 
 // The most numbers of a line.
@@ -115,4 +115,21 @@ pub fn read_type(line: &[u64], kinds: &mut [u8; NODES]) -> Found {
         return Found::Nothing;
     }
     Found::At(n, args, args + m)
+}
+
+pub enum Flag {
+    Is(bool),
+    Nothing,
+}
+
+// Reads a flag, which is 0 or 1; Nothing where none stands there.
+pub fn read_flag(numbers: &[u64], at: usize) -> Flag {
+    if at >= numbers.len() {
+        return Flag::Nothing;
+    }
+    match numbers[at] {
+        0 => Flag::Is(false),
+        1 => Flag::Is(true),
+        _ => Flag::Nothing,
+    }
 }
