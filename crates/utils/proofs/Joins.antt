@@ -12,7 +12,7 @@ use Rattle.flat.specs.declared.error.Error.{Error}
 use Rattle.flat.specs.declared.error.Error.the-variants.{OutputTooShort}
 use Rattle.flat.specs.declared.Root.{Root}
 use Rattle.flat.proofs.Outputs.{few-kinds, few-args, room}
-use Rattle.utils.specs.Join.{Node, node, Supertype, Some, Nothing, rootNode, foundOf, foundIn, resultOf, joining, joiningRoots, fittingFound, Joins}
+use Rattle.utils.specs.Join.{Node, node, Supertype, Some, Nothing, rootNode, foundOf, commonOf, foundCommon, resultOf, joining, joiningRoots, fittingFound, Joins}
 use Rattle.utils.specs.declared.join.Found.{Found}
 use Rattle.utils.specs.declared.join.Joined.{Joined}
 
@@ -29,9 +29,9 @@ unfolding fitting
 joins-refusal k a h = joins-refused (rw h)
 
 -- ---- what a rule finds that rests on the two roots alone
-pub found-result : (s : Supertype) → resultOf (foundIn s) ≡ foundOf s
-found-result (Some n) = refl
-found-result Nothing = refl
+pub found-common : (s : Supertype) → foundCommon (commonOf s) ≡ foundOf s
+found-common (Some n) = refl
+found-common Nothing = refl
 
 pub joining-roots : (rule : Node → Node → Option Reading) (left right : Reading) → joining (λ t u. rule (rootNode t) (rootNode u)) left right ≡ joiningRoots rule (rootOf left) (rootOf right)
 unfolding joining joiningRoots

@@ -9,6 +9,7 @@ use Rattle.flat.specs.Reading.{Reading, refused, type}
 use Rattle.flat.specs.Reader.{mapO}
 use Rattle.flat.specs.Output.{fitting, kindsOver, argsOver}
 use Rattle.flat.specs.declared.Root.{Root}
+use Rattle.utils.specs.declared.join.Common.{Common}
 use Rattle.utils.specs.declared.join.Found.{Found}
 use Rattle.utils.specs.declared.join.Joined.{Joined}
 
@@ -38,11 +39,16 @@ abbrev pub foundOf : Supertype → Option Reading
 foundOf (Some n) = some (type (typeOf n))
 foundOf Nothing = none
 
--- as the code has it
-abbrev pub foundIn : Supertype → Found
-foundIn (Some n) = Found.Some (n .kind) (n .arg)
-foundIn Nothing = Found.Nothing
+-- as the code has it, and what was found by that
+abbrev pub commonOf : Supertype → Common
+commonOf (Some n) = Common.Some (n .kind) (n .arg)
+commonOf Nothing = Common.Nothing
 
+abbrev pub foundCommon : Common → Option Reading
+foundCommon (Common.Some k a) = some (type (leaf k a))
+foundCommon Common.Nothing = none
+
+-- so, or the refusal
 abbrev pub resultOf : Found → Option Reading
 resultOf (Found.Some k a) = some (type (leaf k a))
 resultOf Found.Nothing = none

@@ -4,7 +4,13 @@ ghost use lib.ListN.{length};
 ghost use Rattle.utils.specs.Join.{resultOf, fittingFound, joinedNumber, joinedValue, Joins};
 use flat::error::Error;
 
-// The type that two types have in common, as its kind and argument, None, or the refusal.
+// The source's Option: the type that two types have in common, as its kind and argument, where there is one.
+pub enum Common {
+    Some(u8, u64),
+    Nothing,
+}
+
+// So, or the refusal.
 pub enum Found {
     Some(u8, u64),
     Nothing,

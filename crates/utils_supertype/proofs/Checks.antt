@@ -1,5 +1,5 @@
 -- What the checks of two kinds say, and what a call comes to after them. Assumes nothing.
-use mathlib.Core.Path.{_≡_, refl, sym, _∙_, ap₂}
+use mathlib.Core.Path.{_≡_, refl, sym, _∙_, ap, ap₂}
 use mathlib.Core.Bool.{Bool, true, false, cond, _&&_, _||_, and-true, and-false, or-true, or-false, true≢false}
 use mathlib.Core.Option.{Option, some}
 use Prim.Native.Nat.{ℕ, _≤_}
@@ -17,9 +17,9 @@ use Rattle.flat.specs.declared.Checked.the-variants as checked
 use Rattle.flat.specs.declared.Root.{Root}
 use Rattle.datatypes.specs.Predicate.{isNested}
 use Rattle.datatypes.proofs.Runs.{says, of-run}
-use Rattle.utils.specs.Join.{Node, rootNode, foundOf, foundIn, resultOf, joining, joiningRoots}
-use Rattle.utils.specs.declared.join.Found.{Found}
-use Rattle.utils.proofs.Joins.{found-result, joining-roots}
+use Rattle.utils.specs.Join.{Node, rootNode, foundOf, commonOf, foundCommon, joining, joiningRoots}
+use Rattle.utils.specs.declared.join.Common.{Common}
+use Rattle.utils.proofs.Joins.{found-common, joining-roots}
 use Rattle.utils_arms.specs.Node.{fits}
 use Rattle.utils_arms.specs.Supertype.{supertype}
 use Rattle.utils_arms.proofs.Recursive.{supertype-laws}
@@ -83,9 +83,9 @@ module _ (s : Bool) (l r : Node) where
   unfolding rootSupertype
   pair-refused e p = rw (← p)
 
-  pub pair-joined : checked.Valid ≡ pairChecked (l .kind) (r .kind) → (f : Found) → f ≡ foundIn (supertype false s l r) → resultOf f ≡ rootSupertype false s l r
+  pub pair-joined : checked.Valid ≡ pairChecked (l .kind) (r .kind) → (c d : Common) → c ≡ commonOf (supertype false s l r) → c ≡ d → foundCommon d ≡ rootSupertype false s l r
   unfolding rootSupertype
-  pair-joined p f e = rw (← p, e) (found-result (supertype false s l r))
+  pair-joined p c d e h = rw (← p) (ap foundCommon (sym h ∙ e) ∙ found-common (supertype false s l r))
 
 -- what is found of the roots of two readings; the implode flag has no part in it
 pub joined : (i s : Bool) (left right : Reading) {found : Option Reading} {l r : Root} → l ≡ rootOf left → r ≡ rootOf right → found ≡ joiningRoots (rootSupertype false s) l r → found ≡ joining (supertypeOf i s) left right

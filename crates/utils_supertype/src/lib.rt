@@ -14,6 +14,7 @@ use flat::Root;
 use flat::error::Error;
 use flat::kind::Kind;
 use node::node_supertype;
+use utils::join::Common;
 use utils::join::Found;
 use utils::join::Joined;
 use utils::join::put;
@@ -62,7 +63,10 @@ fn join_nodes(to_string: bool, a: u8, x: u64, b: u8, y: u64) -> Found
 {
     match check_pair(a, b) {
         Checked::Refused(e) => Found::Refused(e),
-        Checked::Valid => node_supertype(to_string, a, x, b, y),
+        Checked::Valid => match node_supertype(to_string, a, x, b, y) {
+            Common::Some(k, v) => Found::Some(k, v),
+            Common::Nothing => Found::Nothing,
+        },
     }
 }
 

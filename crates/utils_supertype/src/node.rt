@@ -4,13 +4,13 @@ ghost use mathlib.Core.Bool.{true, false};
 ghost use Prim.Native.Nat.{_+_, _*_, _/_, _%_, _≤_, max};
 ghost use Rattle.flat.specs.Kind.{Boolean, UInt8, Int64};
 ghost use Rattle.datatypes.specs.DynInt.{valueOf};
-ghost use Rattle.utils.specs.Join.{node, Supertype, foundIn};
+ghost use Rattle.utils.specs.Join.{node, Supertype, commonOf};
 ghost use Rattle.utils_arms.specs.Node.{fits};
 ghost use Rattle.utils_arms.specs.Supertype.{smallestFitting, dynNumber, knownSupertype, run, supertype};
 ghost use Rattle.utils_arms.specs.Rule.{ruleOf, Apart};
 use datatypes::node::equal_node;
 use flat::kind::Kind;
-use utils::join::Found;
+use utils::join::Common;
 use utils_arms::number::numeric;
 use utils_arms::plan::Plan;
 use utils_arms::plan::planned;
@@ -85,48 +85,48 @@ fn dyn_number(dt: u8, kind: u8, arg: u64) -> u8
 }
 
 // Two different types, of the kinds a and b in order, with the arguments x and y.
-fn ordered(to_string: bool, a: u8, x: u64, b: u8, y: u64) -> Found
+fn ordered(to_string: bool, a: u8, x: u64, b: u8, y: u64) -> Common
     requires { ⌜ (fits (node a x) ≡ true) × (fits (node b y) ≡ true) × Apart a b ⌝ }
-    ensures { λ t. ⌜ t ≡ foundIn (run knownSupertype (ruleOf «to_string» a b) (node a x) (node b y)) ⌝ }
+    ensures { λ t. ⌜ t ≡ commonOf (run knownSupertype (ruleOf «to_string» a b) (node a x) (node b y)) ⌝ }
 {
     match planned(to_string, a, b) {
-        Plan::No => Found::Nothing,
-        Plan::Left => Found::Some(a, x),
-        Plan::Right => Found::Some(b, y),
-        Plan::Kind(k) => Found::Some(k, 0),
-        Plan::Decimals => Found::Some(Kind::DECIMAL, decimals(x, y)),
-        Plan::DatetimeDuration => Found::Some(Kind::DATETIME, datetime(x, y)),
+        Plan::No => Common::Nothing,
+        Plan::Left => Common::Some(a, x),
+        Plan::Right => Common::Some(b, y),
+        Plan::Kind(k) => Common::Some(k, 0),
+        Plan::Decimals => Common::Some(Kind::DECIMAL, decimals(x, y)),
+        Plan::DatetimeDuration => Common::Some(Kind::DATETIME, datetime(x, y)),
         Plan::Datetimes => {
             if x / 4 == y / 4 {
-                Found::Some(Kind::DATETIME, datetime(y, x))
+                Common::Some(Kind::DATETIME, datetime(y, x))
             } else {
-                Found::Nothing
+                Common::Nothing
             }
         }
-        Plan::Durations => Found::Some(Kind::DURATION, larger(x, y)),
-        Plan::DynNumber => Found::Some(dyn_number(a, b, y), 0),
-        Plan::DynBoolean => Found::Some(materialize_dyn_int(b, y), 0),
-        Plan::DynDecimal => Found::Some(Kind::DECIMAL, 256 * (x / 256) + 38),
+        Plan::Durations => Common::Some(Kind::DURATION, larger(x, y)),
+        Plan::DynNumber => Common::Some(dyn_number(a, b, y), 0),
+        Plan::DynBoolean => Common::Some(materialize_dyn_int(b, y), 0),
+        Plan::DynDecimal => Common::Some(Kind::DECIMAL, 256 * (x / 256) + 38),
     }
 }
 
 // The implode flag has no part in it. The rule is symmetric except for any with String, and for dyn float or a dyn int with str.
-pub fn node_supertype(to_string: bool, a: u8, x: u64, b: u8, y: u64) -> Found
+pub fn node_supertype(to_string: bool, a: u8, x: u64, b: u8, y: u64) -> Common
     requires { ⌜ (fits (node a x) ≡ true) × (fits (node b y) ≡ true) ⌝ }
-    ensures { λ t. ⌜ t ≡ foundIn (supertype false «to_string» (node a x) (node b y)) ⌝ }
+    ensures { λ t. ⌜ t ≡ commonOf (supertype false «to_string» (node a x) (node b y)) ⌝ }
 {
     if equal_node(a, x, b, y) {
-        return Found::Some(a, x);
+        return Common::Some(a, x);
     }
     if a <= b {
         return ordered(to_string, a, x, b, y);
     }
     if b == Kind::UNKNOWN_STR {
-        return Found::Some(Kind::UNKNOWN_ANY, 0);
+        return Common::Some(Kind::UNKNOWN_ANY, 0);
     }
     if a == Kind::UNKNOWN_ANY {
         if b == Kind::STRING {
-            return Found::Some(Kind::STRING, 0);
+            return Common::Some(Kind::STRING, 0);
         }
         return ordered(to_string, b, y, a, x);
     }

@@ -14,7 +14,14 @@ returns : tie.Need-returns
 returns c = pair-refused _ _ _ _ (sym (c .before .e .given .1) ∙ c .before .before .before .check-pair .ensures)
 
 returns-2 : tie.Need-returns-2
-returns-2 c = pair-joined _ _ _ (sym (c .before .enum-told .given .1) ∙ c .before .before .before .check-pair .ensures) _ (c .node-supertype .ensures)
+returns-2 c =
+    let at = c .before .before .before in
+    pair-joined _ _ _ (sym (at .before .enum-told .given .1) ∙ at .before .before .before .check-pair .ensures) _ _ (at .node-supertype .ensures) (c .before .k .given .1)
+
+returns-3 : tie.Need-returns-3
+returns-3 c =
+    let at = c .before .before in
+    pair-joined _ _ _ (sym (at .before .enum-told .given .1) ∙ at .before .before .before .check-pair .ensures) _ _ (at .node-supertype .ensures) (c .enum-told2 .given .1)
 
 pub join-nodes-spec : {M : Type 1} → statement M
 join-nodes-spec =
@@ -22,5 +29,7 @@ join-nodes-spec =
     (tie.spec
     (λ c κs. search needs) (λ c. search needs) (λ c. search needs)
     node-supertype-requires
+    (λ c. search needs) (λ c. search needs)
     returns
-    returns-2)
+    returns-2
+    returns-3)
