@@ -158,6 +158,12 @@ pub fn check_root_one(kind: u8, arg: u64) -> Root
       deep ← ⟦Flat::MAX_DEPTH⟧ .entry
       ⌜ (r ≡ rootOf (reading nodes deep (kind ∷ []) (arg ∷ []))) × RootFits r ⌝ }
 {
+    // the common case: a type without children
+    if kind < Kind::LIST {
+        if argument_fits(kind, arg) {
+            return Root::Node(kind, arg);
+        }
+    }
     match check_one(kind, arg) {
         Checked::Valid => Root::Node(kind, arg),
         Checked::Refused(e) => Root::Refused(e),

@@ -12,6 +12,7 @@ macro_rules! predicates {
             $(#[$doc])*
             ///
             /// Refused by numbers 1 to 5.
+            #[inline]
             pub fn $name(encoded: &[u8]) -> Result<bool, Error> {
                 ffi::dtype::$name(encoded)
             }
@@ -72,6 +73,7 @@ predicates! {
 /// assert_eq!(lomzegash::dtype::equal(&minus_1, &plus_300), Ok(true));
 /// assert_eq!(lomzegash::dtype::equal(&minus_1, &int8), Ok(false));
 /// ```
+#[inline]
 pub fn equal(left: &[u8], right: &[u8]) -> Result<bool, Error> {
     ffi::dtype::equal(left, right)
 }
@@ -79,6 +81,7 @@ pub fn equal(left: &[u8], right: &[u8]) -> Result<bool, Error> {
 /// Whether the left type is equal to the right or holds one that is, by [`equal`].
 ///
 /// Refused by numbers 1 to 5 of the left type, then of the right.
+#[inline]
 pub fn contains_dtype_recursive(left: &[u8], right: &[u8]) -> Result<bool, Error> {
     ffi::dtype::contains_dtype_recursive(left, right)
 }
@@ -96,6 +99,7 @@ pub fn contains_dtype_recursive(left: &[u8], right: &[u8]) -> Result<bool, Error
 /// assert_eq!(can_cast_to(&boolean, &null), Ok(Some(false)));
 /// assert_eq!(can_cast_to(&date, &null), Ok(None));
 /// ```
+#[inline]
 pub fn can_cast_to(left: &[u8], right: &[u8]) -> Result<Option<bool>, Error> {
     ffi::dtype::can_cast_to(left, right)
 }
@@ -114,6 +118,7 @@ pub fn can_cast_to(left: &[u8], right: &[u8]) -> Result<Option<bool>, Error> {
 /// assert_eq!(lomzegash::dtype::inner_dtype(&out[..11], &mut []), Ok(None));
 /// # Ok::<(), lomzegash::Error>(())
 /// ```
+#[inline]
 pub fn inner_dtype(encoded: &[u8], out: &mut [u8]) -> Result<Option<usize>, Error> {
     ffi::dtype::inner_dtype(encoded, out)
 }
@@ -121,6 +126,7 @@ pub fn inner_dtype(encoded: &[u8], out: &mut [u8]) -> Result<Option<usize>, Erro
 /// Writes the type inside all Lists and Arrays at the front, the type itself where there are none.
 ///
 /// Refused by numbers 1 to 5, then by [`Error::OutputTooShort`].
+#[inline]
 pub fn leaf_dtype(encoded: &[u8], out: &mut [u8]) -> Result<usize, Error> {
     ffi::dtype::leaf_dtype(encoded, out)
 }
@@ -128,6 +134,7 @@ pub fn leaf_dtype(encoded: &[u8], out: &mut [u8]) -> Result<usize, Error> {
 /// Writes the type inside all Arrays at the front; None where there are none.
 ///
 /// Refused by numbers 1 to 5, then by [`Error::OutputTooShort`].
+#[inline]
 pub fn array_leaf_dtype(encoded: &[u8], out: &mut [u8]) -> Result<Option<usize>, Error> {
     ffi::dtype::array_leaf_dtype(encoded, out)
 }
@@ -144,6 +151,7 @@ pub fn array_leaf_dtype(encoded: &[u8], out: &mut [u8]) -> Result<Option<usize>,
 /// assert_eq!(shape.map(|shape| shape.widths().to_vec()), Some(vec![3, 0]));
 /// # Ok::<(), lomzegash::Error>(())
 /// ```
+#[inline]
 pub fn get_shape(encoded: &[u8]) -> Result<Option<Shape>, Error> {
     ffi::dtype::get_shape(encoded)
 }
@@ -164,6 +172,7 @@ pub fn get_shape(encoded: &[u8]) -> Result<Option<Shape>, Error> {
 /// assert_eq!(out, [1, 0, INT64, 0, 0, 0, 0, 0, 0, 0, 0]);
 /// assert_eq!(materialize_unknown(&any, false, &mut out), Err(lomzegash::Error::Unknown));
 /// ```
+#[inline]
 pub fn materialize_unknown(encoded: &[u8], allow_unknown: bool, out: &mut [u8]) -> Result<usize, Error> {
     ffi::dtype::materialize_unknown(encoded, allow_unknown.into(), out)
 }
@@ -171,6 +180,7 @@ pub fn materialize_unknown(encoded: &[u8], allow_unknown: bool, out: &mut [u8]) 
 /// Writes the physical form of the type, in which its values are kept.
 ///
 /// Refused by numbers 1 to 5, then by [`Error::OutputTooShort`].
+#[inline]
 pub fn to_physical(encoded: &[u8], out: &mut [u8]) -> Result<usize, Error> {
     ffi::dtype::to_physical(encoded, out)
 }

@@ -29,11 +29,13 @@ extern "C" {
     fn lz_get_time_units(left: u8, right: u8) -> Reply;
 }
 
+#[inline]
 pub(crate) fn check(encoded: &[u8]) -> Result<(), Error> {
     // SAFETY: pointer and length are those of one slice, which is only read.
     unsafe { lz_check(encoded.as_ptr(), encoded.len()) }.nothing()
 }
 
+#[inline]
 pub(crate) fn decode(encoded: &[u8], kinds: &mut [u8], args: &mut [u64]) -> Result<usize, Error> {
     // SAFETY: each pointer and length are those of one slice; the two written are borrowed mutably, so none overlap.
     unsafe {
@@ -42,11 +44,13 @@ pub(crate) fn decode(encoded: &[u8], kinds: &mut [u8], args: &mut [u64]) -> Resu
     .result()
 }
 
+#[inline]
 pub(crate) fn encode(kinds: &[u8], args: &[u64], out: &mut [u8]) -> Result<usize, Error> {
     // SAFETY: each pointer and length are those of one slice; the one written is borrowed mutably, so none overlap.
     unsafe { lz_encode(kinds.as_ptr(), kinds.len(), args.as_ptr(), args.len(), out.as_mut_ptr(), out.len()) }.result()
 }
 
+#[inline]
 pub(crate) fn get_time_units(left: u8, right: u8) -> Result<u8, Error> {
     // SAFETY: there is no pointer, and any two numbers are allowed.
     unsafe { lz_get_time_units(left, right) }.unit()

@@ -22,16 +22,19 @@ pub type Output<'a> = (&'a mut [u8], &'a mut [u64]);
 /// assert_eq!(is_known((&[LIST, UNKNOWN_STR], &[0, 0])), Ok(false));
 /// assert_eq!(is_known((&[LIST], &[0])), Err(lomzegash::Error::Shape));
 /// ```
+#[inline]
 pub fn is_known(dtype: Nodes) -> Result<bool, Error> {
     ffi::flat::is_known(dtype)
 }
 
 /// Whether two types are equal. Names count; unknown integers are equal whatever they hold.
+#[inline]
 pub fn equal(left: Nodes, right: Nodes) -> Result<bool, Error> {
     ffi::flat::equal(left, right)
 }
 
 /// Whether a cast makes sense; None is no verdict.
+#[inline]
 pub fn can_cast_to(from: Nodes, to: Nodes) -> Result<Option<bool>, Error> {
     ffi::flat::can_cast_to(from, to)
 }
@@ -40,6 +43,7 @@ pub fn can_cast_to(from: Nodes, to: Nodes) -> Result<Option<bool>, Error> {
 ///
 /// Refused by numbers 1 to 5, by [`Error::Unknown`] where `any` is a part of it and isn't allowed, then by
 /// [`Error::OutputTooShort`]; a refused call writes nothing.
+#[inline]
 pub fn materialize_unknown(dtype: Nodes, allow_unknown: bool, out: Output) -> Result<usize, Error> {
     ffi::flat::materialize_unknown(dtype, allow_unknown.into(), out)
 }
@@ -55,6 +59,7 @@ pub fn materialize_unknown(dtype: Nodes, allow_unknown: bool, out: Output) -> Re
 /// assert_eq!(lomzegash::flat::to_physical((&[LIST, DATE], &[0, 0]), (&mut kinds, &mut args)), Ok(2));
 /// assert_eq!((kinds, args), ([LIST, INT32, 9], [0, 0, 9]));
 /// ```
+#[inline]
 pub fn to_physical(dtype: Nodes, out: Output) -> Result<usize, Error> {
     ffi::flat::to_physical(dtype, out)
 }
@@ -74,6 +79,7 @@ pub fn to_physical(dtype: Nodes, out: Output) -> Result<usize, Error> {
 /// assert_eq!(get_numeric_upcast_supertype_lossless(old, new, (&mut kinds, &mut args)), Ok(Some(1)));
 /// assert_eq!((kinds, args), ([INT128, 9], [0, 9]));
 /// ```
+#[inline]
 pub fn get_numeric_upcast_supertype_lossless(left: Nodes, right: Nodes, out: Output) -> Result<Option<usize>, Error> {
     ffi::flat::get_numeric_upcast_supertype_lossless(left, right, out)
 }
@@ -83,6 +89,7 @@ pub fn get_numeric_upcast_supertype_lossless(left: Nodes, right: Nodes, out: Out
 ///
 /// Refused by numbers 1 to 5 of the left type, then of the right, by [`Error::Nested`] where either is nested, by
 /// [`Error::DecimalWithInteger`], then by [`Error::OutputTooShort`]; a None or a refused call writes nothing.
+#[inline]
 pub fn get_supertype_with_options(
     left: Nodes,
     right: Nodes,

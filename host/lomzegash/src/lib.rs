@@ -45,6 +45,7 @@ pub use shape::Shape;
 /// assert_eq!(lomzegash::check(&encoded), Ok(()));
 /// assert_eq!(lomzegash::check(&encoded[..19]), Err(lomzegash::Error::Length));
 /// ```
+#[inline]
 pub fn check(encoded: &[u8]) -> Result<(), Error> {
     ffi::check(encoded)
 }
@@ -61,6 +62,7 @@ pub fn check(encoded: &[u8]) -> Result<(), Error> {
 /// assert_eq!(lomzegash::decode(&encoded, &mut kinds, &mut args), Ok(2));
 /// assert_eq!((kinds, args), ([28, 8, 9], [0, 0, 9]));
 /// ```
+#[inline]
 pub fn decode(encoded: &[u8], kinds: &mut [u8], args: &mut [u64]) -> Result<usize, Error> {
     ffi::decode(encoded, kinds, args)
 }
@@ -76,6 +78,7 @@ pub fn decode(encoded: &[u8], kinds: &mut [u8], args: &mut [u64]) -> Result<usiz
 /// assert_eq!(out[20], 9);
 /// assert_eq!(lomzegash::encode(&[28], &[0], &mut out), Err(lomzegash::Error::Shape));
 /// ```
+#[inline]
 pub fn encode(kinds: &[u8], args: &[u64], out: &mut [u8]) -> Result<usize, Error> {
     ffi::encode(kinds, args, out)
 }
@@ -96,6 +99,7 @@ pub const fn encoded_len(nodes: usize) -> usize {
 /// encoded[..4].copy_from_slice(&[0x02, 0x00, 0x1C, 0x08]);
 /// assert_eq!(lomzegash::decode_to_vec(&encoded), Ok((vec![28, 8], vec![0, 0])));
 /// ```
+#[inline]
 pub fn decode_to_vec(encoded: &[u8]) -> Result<(Vec<u8>, Vec<u64>), Error> {
     // Nine bytes a node: no encoded type of this length has more nodes.
     let room = encoded.len() / 9;
@@ -114,6 +118,7 @@ pub fn decode_to_vec(encoded: &[u8]) -> Result<(Vec<u8>, Vec<u64>), Error> {
 /// assert_eq!(encoded.len(), 20);
 /// # Ok::<(), lomzegash::Error>(())
 /// ```
+#[inline]
 pub fn encode_to_vec(kinds: &[u8], args: &[u64]) -> Result<Vec<u8>, Error> {
     let mut encoded = vec![0; encoded_len(kinds.len())];
     let written = encode(kinds, args, &mut encoded)?;

@@ -21,6 +21,7 @@ impl SuperTypeOptions {
     pub const OFF: SuperTypeOptions = SuperTypeOptions { allow_implode_list: false, allow_primitive_to_string: false };
 
     /// The flags as the C interface takes them.
+    #[inline]
     pub(crate) fn flags(self) -> (u8, u8) {
         (self.allow_implode_list.into(), self.allow_primitive_to_string.into())
     }
@@ -60,6 +61,7 @@ impl JoinReport {
 /// assert_eq!(out, [1, 0, INT128, 0, 0, 0, 0, 0, 0, 0, 0, 9]);
 /// assert_eq!(get_numeric_upcast_supertype_lossless(&old, &old, &mut []), Ok(None));
 /// ```
+#[inline]
 pub fn get_numeric_upcast_supertype_lossless(
     left: &[u8],
     right: &[u8],
@@ -83,6 +85,7 @@ pub fn get_numeric_upcast_supertype_lossless(
 /// assert_eq!(get_supertype_with_options(&old, &new, SuperTypeOptions::OFF, &mut out), Ok(Some(11)));
 /// assert_eq!(out, [1, 0, FLOAT64, 0, 0, 0, 0, 0, 0, 0, 0, 9]);
 /// ```
+#[inline]
 pub fn get_supertype_with_options(
     left: &[u8],
     right: &[u8],
@@ -105,6 +108,7 @@ pub fn get_supertype_with_options(
 /// assert_eq!(join_report(&old, &new), Ok(JoinReport::LosesNeedlessly));
 /// assert_eq!(join_report(&old, &longest), Ok(JoinReport::LosesInevitably));
 /// ```
+#[inline]
 pub fn join_report(left: &[u8], right: &[u8]) -> Result<JoinReport, Error> {
     ffi::supertype::join_report(left, right)
 }

@@ -9,6 +9,7 @@ use crate::{ffi, Error};
 /// assert_eq!(get_time_units(0, 2), Ok(2));
 /// assert_eq!(get_time_units(0, 3), Err(lomzegash::Error::Argument));
 /// ```
+#[inline]
 pub fn get_time_units(left: u8, right: u8) -> Result<u8, Error> {
     ffi::get_time_units(left, right)
 }

@@ -29,6 +29,7 @@ pub const JOINS: [Join; 5] =
 
 impl Join {
     /// The port's call on encoded types.
+    #[inline]
     pub fn on_bytes(self, left: &[u8], right: &[u8], out: &mut [u8]) -> Result<Option<usize>, Error> {
         match self {
             Join::Lossless => supertype::get_numeric_upcast_supertype_lossless(left, right, out),
@@ -37,6 +38,7 @@ impl Join {
     }
 
     /// The port's call on flat types.
+    #[inline]
     pub fn on_nodes(self, left: Nodes, right: Nodes, out: Output) -> Result<Option<usize>, Error> {
         match self {
             Join::Lossless => flat::get_numeric_upcast_supertype_lossless(left, right, out),

@@ -10,6 +10,7 @@ macro_rules! of_one_type {
         }
 
         $(
+            #[inline]
             pub(crate) fn $name(encoded: &[u8]) -> Result<bool, Error> {
                 // SAFETY: pointer and length are those of one slice, which is only read.
                 unsafe { $symbol(encoded.as_ptr(), encoded.len()) }.yes_or_no()
@@ -25,6 +26,7 @@ macro_rules! of_two_types {
         }
 
         $(
+            #[inline]
             pub(crate) fn $name(left: &[u8], right: &[u8]) -> Result<$answer, Error> {
                 // SAFETY: each pointer and length are those of one slice, which is only read.
                 unsafe { $symbol(left.as_ptr(), left.len(), right.as_ptr(), right.len()) }.$result()
@@ -40,6 +42,7 @@ macro_rules! to_a_type {
         }
 
         $(
+            #[inline]
             pub(crate) fn $name(encoded: &[u8], out: &mut [u8]) -> Result<$answer, Error> {
                 // SAFETY: each pointer and length are those of one slice; the one written is borrowed mutably, so they
                 // don't overlap.
@@ -90,12 +93,14 @@ extern "C" {
     ) -> Reply;
 }
 
+#[inline]
 pub(crate) fn get_shape(encoded: &[u8]) -> Result<Option<Shape>, Error> {
     // SAFETY: pointer and length are those of one slice, which is only read.
     unsafe { lz_get_shape(encoded.as_ptr(), encoded.len()) }.result()
 }
 
 /// `allow_unknown` is off where it is 0 and else on.
+#[inline]
 pub(crate) fn materialize_unknown(encoded: &[u8], allow_unknown: u8, out: &mut [u8]) -> Result<usize, Error> {
     // SAFETY: each pointer and length are those of one slice; the one written is borrowed mutably, so they don't overlap.
     unsafe { lz_materialize_unknown(encoded.as_ptr(), encoded.len(), allow_unknown, out.as_mut_ptr(), out.len()) }

@@ -79,17 +79,20 @@ extern "C" {
     ) -> Reply;
 }
 
+#[inline]
 pub(crate) fn is_known((kinds, args): Nodes) -> Result<bool, Error> {
     // SAFETY: each pointer and length are those of one slice, which is only read.
     unsafe { lz_flat_is_known(kinds.as_ptr(), kinds.len(), args.as_ptr(), args.len()) }.yes_or_no()
 }
 
+#[inline]
 pub(crate) fn equal((lk, la): Nodes, (rk, ra): Nodes) -> Result<bool, Error> {
     // SAFETY: each pointer and length are those of one slice, which is only read.
     unsafe { lz_flat_equal(lk.as_ptr(), lk.len(), la.as_ptr(), la.len(), rk.as_ptr(), rk.len(), ra.as_ptr(), ra.len()) }
         .yes_or_no()
 }
 
+#[inline]
 pub(crate) fn can_cast_to((fk, fa): Nodes, (tk, ta): Nodes) -> Result<Option<bool>, Error> {
     // SAFETY: each pointer and length are those of one slice, which is only read.
     unsafe {
@@ -99,6 +102,7 @@ pub(crate) fn can_cast_to((fk, fa): Nodes, (tk, ta): Nodes) -> Result<Option<boo
 }
 
 /// `allow_unknown` is off where it is 0 and else on.
+#[inline]
 pub(crate) fn materialize_unknown((kinds, args): Nodes, allow_unknown: u8, (ok, oa): Output) -> Result<usize, Error> {
     // SAFETY: each pointer and length are those of one slice; the two written are borrowed mutably, so none overlap.
     unsafe {
@@ -117,6 +121,7 @@ pub(crate) fn materialize_unknown((kinds, args): Nodes, allow_unknown: u8, (ok, 
     .always_written()
 }
 
+#[inline]
 pub(crate) fn to_physical((kinds, args): Nodes, (ok, oa): Output) -> Result<usize, Error> {
     // SAFETY: each pointer and length are those of one slice; the two written are borrowed mutably, so none overlap.
     unsafe {
@@ -134,6 +139,7 @@ pub(crate) fn to_physical((kinds, args): Nodes, (ok, oa): Output) -> Result<usiz
     .always_written()
 }
 
+#[inline]
 pub(crate) fn get_numeric_upcast_supertype_lossless(
     (lk, la): Nodes,
     (rk, ra): Nodes,
@@ -160,6 +166,7 @@ pub(crate) fn get_numeric_upcast_supertype_lossless(
 }
 
 /// Either flag is off where it is 0 and else on.
+#[inline]
 pub(crate) fn get_supertype_with_options(
     (lk, la): Nodes,
     (rk, ra): Nodes,

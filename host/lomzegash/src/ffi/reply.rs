@@ -26,6 +26,7 @@ pub(super) struct ShapeReply {
 /// here.
 impl Reply {
     /// The value or the refusal.
+    #[inline]
     pub(super) fn result(self) -> Result<usize, Error> {
         match (self.number, self.value) {
             (0, value) => Ok(value as usize),
@@ -35,36 +36,43 @@ impl Reply {
     }
 
     /// No value, 0, or the refusal.
+    #[inline]
     pub(super) fn nothing(self) -> Result<(), Error> {
         self.one_of(&[()])
     }
 
     /// No, 0, or yes, 1, or the refusal.
+    #[inline]
     pub(super) fn yes_or_no(self) -> Result<bool, Error> {
         self.one_of(&[false, true])
     }
 
     /// No, 0, yes, 1, or no verdict, 2, or the refusal.
+    #[inline]
     pub(super) fn verdict(self) -> Result<Option<bool>, Error> {
         self.one_of(&[Some(false), Some(true), None])
     }
 
     /// One of three time units or the refusal.
+    #[inline]
     pub(super) fn unit(self) -> Result<u8, Error> {
         self.one_of(&[0, 1, 2])
     }
 
     /// One of the reports or the refusal.
+    #[inline]
     pub(super) fn join_report(self) -> Result<JoinReport, Error> {
         self.one_of(&JoinReport::ALL)
     }
 
     /// The number of bytes or nodes of a result, or None, 0, or the refusal.
+    #[inline]
     pub(super) fn written(self) -> Result<Option<usize>, Error> {
         self.result().map(|bytes| (bytes > 0).then_some(bytes))
     }
 
     /// The number of bytes or nodes of a result that is never None, or the refusal.
+    #[inline]
     pub(super) fn always_written(self) -> Result<usize, Error> {
         match self {
             Reply { number: 0, value: 0 } => ruled_out(&self),
@@ -82,6 +90,7 @@ impl Reply {
 
 impl ShapeReply {
     /// The widths, or None where there are none, or the refusal. Panics as those of [`Reply`].
+    #[inline]
     pub(super) fn result(self) -> Result<Option<Shape>, Error> {
         let count = self.count as usize;
         if self.widths.get(count..).is_none_or(|unused| unused.iter().any(|&width| width > 0)) {

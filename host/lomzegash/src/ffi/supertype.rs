@@ -26,6 +26,7 @@ extern "C" {
     fn lz_join_report(left: *const u8, left_len: usize, right: *const u8, right_len: usize) -> Reply;
 }
 
+#[inline]
 pub(crate) fn get_numeric_upcast_supertype_lossless(
     left: &[u8],
     right: &[u8],
@@ -46,6 +47,7 @@ pub(crate) fn get_numeric_upcast_supertype_lossless(
 }
 
 /// Either flag is off where it is 0 and else on.
+#[inline]
 pub(crate) fn get_supertype_with_options(
     left: &[u8],
     right: &[u8],
@@ -68,6 +70,7 @@ pub(crate) fn get_supertype_with_options(
     .written()
 }
 
+#[inline]
 pub(crate) fn join_report(left: &[u8], right: &[u8]) -> Result<JoinReport, Error> {
     // SAFETY: each pointer and length are those of one slice, which is only read.
     unsafe { lz_join_report(left.as_ptr(), left.len(), right.as_ptr(), right.len()) }.join_report()
