@@ -1,7 +1,7 @@
 -- The worked cases hold, of the definitions. Assumes nothing.
-use mathlib.Core.Path.{_≡_, refl}
+use mathlib.Core.Path.{refl}
 use mathlib.Core.Bool.{true, false}
-use Rattle.flat.specs.Tree.{Fields, empty, field, count, headKind, headArg}
+use Rattle.flat.specs.Tree.{empty, field, count, headKind, headArg}
 use Rattle.datatypes.specs.Match.{among}
 use Rattle.datatypes.specs.Predicate.{isFloat, isUnknownInt, isSignedInteger, isUnsignedInteger, isInteger, isPrimitiveNumeric, isPrimitive, isNested, isString, isUnknown}
 use Rattle.datatypes.specs.Equality.{equalNode, equal}

@@ -1,7 +1,7 @@
 -- `Unknown(Int(v))`, document 01's dyn v, and the dyn integer helpers of supertype.rs: each is the first of some types whose range holds v. Assumes
 -- nothing: these are definitions.
 use mathlib.Core.Bool.{cond}
-use mathlib.Core.List.{List, [], _∷_}
+use mathlib.Core.List.{[], _∷_}
 use Prim.Native.Nat.{ℕ}
 use lib.Dec.{eqb}
 use lib.IntN.{ℤ, pos, negsuc}

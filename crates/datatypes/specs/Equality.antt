@@ -1,5 +1,5 @@
 -- When two types are equal: `PartialEq` of dtype.rs and of field.rs. Assumes nothing: these are definitions.
-use mathlib.Core.Bool.{Bool, true, false, _&&_, _||_}
+use mathlib.Core.Bool.{Bool, false, _&&_, _||_}
 use Prim.Native.Nat.{ℕ}
 use lib.Dec.{eqb}
 use Rattle.flat.specs.Tree.{DataType, leaf, list, array, struct, Fields, empty, field}

@@ -3,7 +3,7 @@ use mathlib.Core.Bool.{Bool, true, false, cond, _&&_}
 use mathlib.Core.List.{List, [], _∷_}
 use Prim.Native.Nat.{ℕ, _-_, _^_}
 use lib.ListN.{getD}
-use lib.IntN.{ℤ, pos, negsuc, negℤ}
+use lib.IntN.{ℤ, pos, negℤ}
 use lib.Signed.{leZ, ltZ}
 use Rattle.datatypes.specs.Predicate.{isSignedInteger}
 

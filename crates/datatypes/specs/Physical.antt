@@ -1,6 +1,6 @@
 -- `to_physical` of dtype.rs and of field.rs. Assumes nothing: these are definitions.
 use mathlib.Core.Bool.{cond}
-use mathlib.Core.List.{List, [], _∷_}
+use mathlib.Core.List.{[], _∷_}
 use Prim.Native.Nat.{ℕ}
 use lib.Dec.{eqb}
 use Rattle.flat.specs.Kind

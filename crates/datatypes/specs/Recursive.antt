@@ -1,6 +1,5 @@
 -- The predicates of dtype.rs that look into a type. Assumes nothing: these are definitions.
 use mathlib.Core.Bool.{Bool, true, false, not, _&&_, _||_}
-use Prim.Native.Nat.{ℕ}
 use Rattle.flat.specs.Tree.{DataType, leaf, list, array, struct, Fields, empty, field}
 use Rattle.datatypes.specs.Predicate.{isUnknown}
 use Rattle.datatypes.specs.Equality.{equal}

@@ -7,7 +7,7 @@ use Prim.Native.Nat.{ℕ, _≤_}
 use lib.Dec.{eqb}
 use lib.ListN.{length}
 use Rattle.flat.specs.Kind
-use Rattle.flat.specs.Tree.{DataType, leaf, list, array, struct, Fields, empty, field, kindsOf, kindsOfs, argsOf, argsOfs, headKind}
+use Rattle.flat.specs.Tree.{DataType, leaf, list, array, struct, Fields, empty, field, kindsOf, kindsOfs, argsOf, argsOfs}
 use Rattle.flat.specs.Walk.{orElse}
 use Rattle.flat.specs.Output.{over}
 use Rattle.datatypes.specs.Materialize.{materialize}

@@ -12,6 +12,7 @@ use flat::Checked;
 use flat::Flat;
 use flat::Root;
 use flat::Written;
+use flat::argument::leaf_fits;
 use flat::error::Error;
 
 // The layout of an encoded type.
@@ -151,7 +152,11 @@ pub fn check_root(encoded: &[u8]) -> Root
 {
     let n = node_count(encoded);
     if n == 1 {
-        return flat::check_root_one(encoded[2], bytes::word(encoded, 3));
+        let kind = encoded[2];
+        let arg = bytes::word(encoded, 3);
+        if leaf_fits(kind, arg) {
+            return Root::Node(kind, arg);
+        }
     }
     match check(encoded) {
         Checked::Refused(e) => Root::Refused(e),

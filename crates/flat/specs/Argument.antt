@@ -46,3 +46,7 @@ follows free a = true
 -- a is an argument of the kind k; a code above 31 is no kind, and has none
 unfoldable pub argumentFits : ℕ → ℕ → Bool
 argumentFits k a = leb k Kind.Field && follows (ruleOf k) a
+
+-- one node is a type: its kind has no child, and a is an argument of it
+abbrev pub leafFits : ℕ → ℕ → Bool
+leafFits k a = leb k Kind.UnknownIntNeg && argumentFits k a

@@ -11,6 +11,7 @@ ghost use lib.ListN.{length};
 ghost use Rattle.flat.specs.Reader.{nodeAt};
 ghost use Rattle.flat.specs.Reading.{kindsFit, argumentsFit, shaped, reading, checkedOf, rootOf, RootFits};
 use argument::argument_fits;
+use argument::leaf_fits;
 use error::Error;
 use kind::Kind;
 use span::Span;
@@ -151,25 +152,6 @@ pub fn check(kinds: &[u8], args: &[u64]) -> Checked
     check_shape(kinds, args)
 }
 
-// Checks one node, and gives it.
-pub fn check_root_one(kind: u8, arg: u64) -> Root
-    ensures { λ r. do
-      nodes ← ⟦Flat::MAX_NODES⟧ .entry
-      deep ← ⟦Flat::MAX_DEPTH⟧ .entry
-      ⌜ (r ≡ rootOf (reading nodes deep (kind ∷ []) (arg ∷ []))) × RootFits r ⌝ }
-{
-    // the common case: a type without children
-    if kind < Kind::LIST {
-        if argument_fits(kind, arg) {
-            return Root::Node(kind, arg);
-        }
-    }
-    match check_one(kind, arg) {
-        Checked::Valid => Root::Node(kind, arg),
-        Checked::Refused(e) => Root::Refused(e),
-    }
-}
-
 // Checks a type, and gives its root: refusals 1 to 5.
 pub fn check_root(kinds: &[u8], args: &[u64]) -> Root
     ensures { λ r. do
@@ -180,7 +162,11 @@ pub fn check_root(kinds: &[u8], args: &[u64]) -> Root
     // the common case: one node needs no scan and no walk
     if kinds.len() == 1 {
         if args.len() == 1 {
-            return check_root_one(kinds[0], args[0]);
+            let kind = kinds[0];
+            let arg = args[0];
+            if leaf_fits(kind, arg) {
+                return Root::Node(kind, arg);
+            }
         }
     }
     match check(kinds, args) {

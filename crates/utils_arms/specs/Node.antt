@@ -1,11 +1,11 @@
 -- The parts of a node's argument, and the types that have them. Assumes nothing: these are definitions.
-use mathlib.Core.Bool.{Bool, cond, not, _&&_}
-use mathlib.Core.List.{List, [], _∷_}
+use mathlib.Core.Bool.{Bool, cond, not}
+use mathlib.Core.List.{[], _∷_}
 use Prim.Native.Nat.{ℕ, _+_, _*_, _/_, _%_}
-use lib.Dec.{leb, eqb}
+use lib.Dec.{eqb}
 use lib.IntN.{ℤ, pos, negsuc}
 use Rattle.flat.specs.Kind
-use Rattle.flat.specs.Argument.{argumentFits}
+use Rattle.flat.specs.Argument.{leafFits}
 use Rattle.datatypes.specs.Match.{among}
 use Rattle.datatypes.specs.TimeUnit.{unitNumber}
 use Rattle.datatypes.specs.DynInt.{valueOf}
@@ -56,6 +56,6 @@ same l r = equalNode (l .kind) (l .arg) (r .kind) (r .arg)
 unfoldable pub plain : ℕ → Bool
 plain k = not (among (Kind.Decimal ∷ Kind.Datetime ∷ Kind.Duration ∷ Kind.UnknownIntPos ∷ Kind.UnknownIntNeg ∷ []) k)
 
--- a node that is a type of its own: its kind has no child, and its argument follows its kind's rule
+-- a node that is a type
 unfoldable pub fits : Node → Bool
-fits n = leb (n .kind) Kind.UnknownIntNeg && argumentFits (n .kind) (n .arg)
+fits n = leafFits (n .kind) (n .arg)

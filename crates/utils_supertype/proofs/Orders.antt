@@ -4,7 +4,7 @@ use mathlib.Core.Bool.{Bool, true, false}
 use Prim.Native.Nat.{ℕ, _≤_, _<_}
 use native.Mathlib.Omega.{arith}
 use Rattle.flat.specs.Kind
-use Rattle.utils.specs.Join.{Node, Supertype, Some, node}
+use Rattle.utils.specs.Join.{Node, Some, node}
 use Rattle.utils_arms.specs.declared.plan.Plan.the-variants as plan
 use Rattle.utils_arms.specs.Node.{same, fits}
 use Rattle.utils_arms.specs.Supertype.{planOf, run, inner, supertypeWith, knownSupertype, supertype}

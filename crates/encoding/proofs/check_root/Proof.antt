@@ -1,10 +1,11 @@
--- `encoding::check_root` meets its contract: one node, then any other number. Assumes nothing.
+-- `encoding::check_root` meets its contract: one node with no child, then any type. Assumes nothing.
+use lib.Dec.{lit≤}
 use borrow.Author.Needs.{needs}
 use native.Mathlib.Omega.{arith}
 use mathlib.Core.Path.{sym, _∙_}
 use Rattle.encoding.specs.Encoding.{decoding}
 use Rattle.encoding.proofs.Answers.{Sized, nodes-some, decoding-one, EncodedForm, counted-form, form-root}
-use Rattle.flat.proofs.Roots.{root-refused}
+use Rattle.flat.proofs.Roots.{leaf-root, root-refused}
 use Rattle.encoding.proofs.check_root.Statement.{statement}
 use Rattle.encoding.proofs.check_root.Tie as tie
 
@@ -13,9 +14,11 @@ one : (c : tie.Then1) → Sized 8 512 1 (c .before .before .before .args .encode
 one c = rw (c .if1 .taken) at (nodes-some (c .before .node-count .ensures) (λ z. omega (arith, c .if1 .taken)))
 
 returns : tie.Need-returns
-returns c = rw (decoding-one (one (c .before .before .before)), ← c .before .word .ensures) (c .check-root-one .ensures)
+returns c =
+    let at = c .before .before in
+    rw (decoding-one (one (at .before .before)), ← at .word .ensures) (leaf-root _ _ _ _ (lit≤ tt) (sym (c .before .leaf-fits .ensures) ∙ c .if2 .taken))
 
--- any other number
+-- any type
 form : (c : tie.After-enum-told) → EncodedForm 8 512 32 (c .before .before .before .before .node-count .result) (c .before .before .before .before .before .before .args .encoded .now)
 form c = counted-form (c .enum-told .given .1) (c .before .before .check .ensures) (c .before .before .before .before .node-count .ensures)
 

@@ -1,21 +1,22 @@
 -- `flat::check_root` meets its contract. Assumes nothing.
 use mathlib.Core.Path.{sym, _∙_}
 use native.Mathlib.Omega.{arith}
+use lib.Dec.{lit≤}
 use borrow.Author.Needs.{needs}
 use Rattle.flat.specs.Reading.{reading}
 use Rattle.flat.proofs.Meaning.{check-passed}
-use Rattle.flat.proofs.Roots.{root-read, root-refused, some-node, root-alone}
+use Rattle.flat.proofs.Roots.{root-read, some-node, leaf-root, root-refused, root-alone}
 use Rattle.flat.proofs.check_root.Statement.{statement}
 use Rattle.flat.proofs.check_root.Tie as tie
 
 returns : tie.Need-returns
-returns c = root-alone _ _ _ _ (omega arith) (omega arith) (c .check-root-one .ensures)
+returns c = root-alone _ _ _ _ (omega arith) (omega arith) (leaf-root _ _ _ _ (lit≤ tt) (sym (c .before .leaf-fits .ensures) ∙ c .if3 .taken))
 
-shared-slice-read-t15 : tie.Need-shared-slice-read-t15
-shared-slice-read-t15 c = search (needs, some-node (check-passed (sym (c .before .enum-told .given .1) ∙ c .before .before .before .check .ensures)) .0)
+shared-slice-read-t18 : tie.Need-shared-slice-read-t18
+shared-slice-read-t18 c = search (needs, some-node (check-passed (sym (c .before .enum-told .given .1) ∙ c .before .before .before .check .ensures)) .0)
 
-shared-slice-read-t17 : tie.Need-shared-slice-read-t17
-shared-slice-read-t17 c = search (needs, some-node (check-passed (sym (c .before .before .enum-told .given .1) ∙ c .before .before .before .before .check .ensures)) .1)
+shared-slice-read-t20 : tie.Need-shared-slice-read-t20
+shared-slice-read-t20 c = search (needs, some-node (check-passed (sym (c .before .before .enum-told .given .1) ∙ c .before .before .before .before .check .ensures)) .1)
 
 returns-2 : tie.Need-returns-2
 returns-2 c = root-read (check-passed (sym (c .before .before .enum-told .given .1) ∙ c .before .before .before .before .check .ensures))
@@ -30,8 +31,8 @@ check-root-spec =
     (λ c. search needs) (λ c. search needs) (λ c κs. search needs)
     returns
     (λ c κs. search needs) (λ c. search needs)
-    shared-slice-read-t15
-    shared-slice-read-t17
+    shared-slice-read-t18
+    shared-slice-read-t20
     (λ c. search needs)
     returns-2
     returns-3)

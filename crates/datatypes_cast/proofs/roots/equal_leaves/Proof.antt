@@ -1,5 +1,4 @@
 -- `datatypes_cast::roots::equal_leaves` meets its contract. Assumes nothing.
-use mathlib.Core.Path.{sym, _∙_}
 use borrow.Author.Needs.{needs}
 use borrow.Author.Tests.{le-leb, lt-leb}
 use Rattle.datatypes_cast.specs.Walk.{equalLeaves}
