@@ -170,10 +170,10 @@ lz_reply lz_get_supertype_with_options(const uint8_t *left, size_t left_len,
 
 /* What the values of lz_join_report say. */
 enum lz_join {
-    LZ_JOIN_KEEPS = 0,            /* the supertype keeps every whole number of both */
-    LZ_JOIN_LOSES_NEEDLESSLY = 1, /* it doesn't, and an integer type exists that holds both ranges */
-    LZ_JOIN_LOSES_INEVITABLY = 2, /* it doesn't, and no integer type holds both ranges */
-    LZ_JOIN_NOT_INTEGERS = 3      /* the two aren't integer types, codes 2 to 11 */
+    LZ_JOIN_KEPT = 0,        /* the supertype keeps every whole number of both */
+    LZ_JOIN_AVOIDABLE = 1,   /* it doesn't, and an integer type exists that holds both ranges */
+    LZ_JOIN_UNAVOIDABLE = 2, /* it doesn't, and no integer type holds both ranges */
+    LZ_JOIN_NOT_INTEGERS = 3 /* the two aren't integer types, codes 2 to 11 */
 };
 
 /*

@@ -11,7 +11,6 @@ ghost use lib.ListN.{length};
 ghost use Rattle.flat.specs.Reader.{nodeAt};
 ghost use Rattle.flat.specs.Reading.{kindsFit, argumentsFit, shaped, reading, checkedOf, rootOf, RootFits};
 use argument::argument_fits;
-use argument::leaf_fits;
 use error::Error;
 use kind::Kind;
 use span::Span;
@@ -164,9 +163,10 @@ pub fn check_root(kinds: &[u8], args: &[u64]) -> Root
         if args.len() == 1 {
             let kind = kinds[0];
             let arg = args[0];
-            if leaf_fits(kind, arg) {
-                return Root::Node(kind, arg);
-            }
+            return match check_one(kind, arg) {
+                Checked::Valid => Root::Node(kind, arg),
+                Checked::Refused(e) => Root::Refused(e),
+            };
         }
     }
     match check(kinds, args) {

@@ -8,7 +8,7 @@ use lomzegash::supertype::{
 };
 use lomzegash::Error;
 
-/// Two probe numbers side by side, the first of which is the last of 53 bits.
+/// Two probe numbers side by side, the first that 53 bits do not hold and the next.
 const PROBES: [u64; 2] = [1 << 53, (1 << 53) + 1];
 
 /// Prints what both rules say, what the report says, and two numbers that become one.
@@ -47,9 +47,9 @@ fn joined(join: impl FnOnce(&mut [u8]) -> Result<Option<usize>, Error>) -> Strin
 
 fn words(report: JoinReport) -> &'static str {
     match report {
-        JoinReport::Keeps => "the supertype keeps every number of both",
-        JoinReport::LosesNeedlessly => "the supertype loses numbers, and needlessly: an integer type holds all of both",
-        JoinReport::LosesInevitably => "the supertype loses numbers, and no integer type holds all of both",
+        JoinReport::Kept => "the supertype keeps every number of both",
+        JoinReport::Avoidable => "the supertype loses numbers, and needlessly: an integer type holds all of both",
+        JoinReport::Unavoidable => "the supertype loses numbers, and no integer type holds all of both",
         JoinReport::NotIntegers => "these aren't two integer types",
     }
 }
@@ -62,7 +62,7 @@ mod tests {
     fn the_question_has_its_answer() {
         let lines = lines();
         assert!(lines[1].ends_with(" Float64") && lines[2].ends_with(" Int128"), "{lines:?}");
-        assert!(lines[3].ends_with(words(JoinReport::LosesNeedlessly)), "{lines:?}");
+        assert!(lines[3].ends_with(words(JoinReport::Avoidable)), "{lines:?}");
         assert!(lines[5].ends_with(" 9007199254740992 becomes 9007199254740992"), "{lines:?}");
         assert!(lines[6].contains(" 9007199254740993 becomes 9007199254740992:"), "{lines:?}");
     }

@@ -31,11 +31,11 @@ impl SuperTypeOptions {
 #[derive(Debug, Clone, Copy, PartialEq, Eq, Hash)]
 pub enum JoinReport {
     /// It keeps every whole number of both.
-    Keeps = 0,
+    Kept = 0,
     /// It doesn't, and an integer type exists that holds both ranges: the lossless upcast.
-    LosesNeedlessly = 1,
+    Avoidable = 1,
     /// It doesn't, and no integer type holds both ranges.
-    LosesInevitably = 2,
+    Unavoidable = 2,
     /// The two aren't integer types, UInt8 to Int128.
     NotIntegers = 3,
 }
@@ -43,7 +43,7 @@ pub enum JoinReport {
 impl JoinReport {
     /// Every report, in the order of their values.
     pub const ALL: [JoinReport; 4] =
-        [JoinReport::Keeps, JoinReport::LosesNeedlessly, JoinReport::LosesInevitably, JoinReport::NotIntegers];
+        [JoinReport::Kept, JoinReport::Avoidable, JoinReport::Unavoidable, JoinReport::NotIntegers];
 }
 
 /// Writes the smallest numeric type that both can be cast to without loss; None where there is none, where the two are
@@ -104,9 +104,9 @@ pub fn get_supertype_with_options(
 /// use lomzegash::supertype::{join_report, JoinReport};
 ///
 /// let [old, new, longest] = [INT32, UINT64, UINT128].map(|kind| lomzegash::encode_to_vec(&[kind], &[0]).unwrap());
-/// assert_eq!(join_report(&old, &old), Ok(JoinReport::Keeps));
-/// assert_eq!(join_report(&old, &new), Ok(JoinReport::LosesNeedlessly));
-/// assert_eq!(join_report(&old, &longest), Ok(JoinReport::LosesInevitably));
+/// assert_eq!(join_report(&old, &old), Ok(JoinReport::Kept));
+/// assert_eq!(join_report(&old, &new), Ok(JoinReport::Avoidable));
+/// assert_eq!(join_report(&old, &longest), Ok(JoinReport::Unavoidable));
 /// ```
 #[inline]
 pub fn join_report(left: &[u8], right: &[u8]) -> Result<JoinReport, Error> {

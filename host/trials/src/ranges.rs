@@ -61,9 +61,9 @@ pub fn join_report(left: u8, right: u8, supertype: impl FnOnce() -> u8) -> JoinR
     };
     let is_needless = INTEGERS.iter().any(|(_, range)| range.includes(left) && range.includes(right));
     match (keeps, is_needless) {
-        (true, _) => JoinReport::Keeps,
-        (false, true) => JoinReport::LosesNeedlessly,
-        (false, false) => JoinReport::LosesInevitably,
+        (true, _) => JoinReport::Kept,
+        (false, true) => JoinReport::Avoidable,
+        (false, false) => JoinReport::Unavoidable,
     }
 }
 

@@ -60,9 +60,9 @@ static int joins(void) {
     if (out[2] != 0x0B) return 35;
     if (!is(lz_get_supertype_with_options(int32, 11, uint64, 11, 1, 1, out, 12), LZ_OK, 11) || out[2] != 0x0E) return 36;
 
-    if (!is(lz_join_report(int32, 11, int32, 11), LZ_OK, LZ_JOIN_KEEPS)) return 37;
-    if (!is(lz_join_report(int32, 11, uint64, 11), LZ_OK, LZ_JOIN_LOSES_NEEDLESSLY)) return 38;
-    if (!is(lz_join_report(uint128, 11, int32, 11), LZ_OK, LZ_JOIN_LOSES_INEVITABLY)) return 39;
+    if (!is(lz_join_report(int32, 11, int32, 11), LZ_OK, LZ_JOIN_KEPT)) return 37;
+    if (!is(lz_join_report(int32, 11, uint64, 11), LZ_OK, LZ_JOIN_AVOIDABLE)) return 38;
+    if (!is(lz_join_report(uint128, 11, int32, 11), LZ_OK, LZ_JOIN_UNAVOIDABLE)) return 39;
     if (!is(lz_join_report(list, 20, int32, 11), LZ_OK, LZ_JOIN_NOT_INTEGERS)) return 40;
     return 0;
 }

@@ -170,9 +170,9 @@ fn the_reports_of_two_integer_types() {
         for right in UINT8..=INT128 {
             let (signed, unsigned) = (left.max(right), left.min(right));
             let expected = match unsigned {
-                UINT128 if is_signed(signed) => JoinReport::LosesInevitably,
-                UINT64 if is_signed(signed) && signed < INT128 => JoinReport::LosesNeedlessly,
-                _ => JoinReport::Keeps,
+                UINT128 if is_signed(signed) => JoinReport::Unavoidable,
+                UINT64 if is_signed(signed) && signed < INT128 => JoinReport::Avoidable,
+                _ => JoinReport::Kept,
             };
             let [l, r] = [left, right].map(|kind| Flat::new(&[(kind, 0)]).laid_out());
             assert_eq!(lomzegash::supertype::join_report(&l, &r), Ok(expected), "{left} and {right}");
