@@ -1,0 +1,23 @@
+//! Numbers in `specs/` that no proof can hold to anything, held to Rust's own constants.
+
+const INTEGER: &str = include_str!("../../../crates/datatypes/specs/Integer.antt");
+const FORMAT: &str = include_str!("../../../crates/utils_numbers/specs/Format.antt");
+
+#[test]
+fn the_widths_are_those_of_rusts_integers() {
+    let unsigned = [u8::BITS, u16::BITS, u32::BITS, u64::BITS, u128::BITS];
+    let signed = [i8::BITS, i16::BITS, i32::BITS, i64::BITS, i128::BITS];
+    let by_kind: Vec<String> = unsigned.iter().chain(&signed).map(u32::to_string).collect();
+    let definition = format!("\nwidthOf k = getD (0 ∷ 0 ∷ {} ∷ []) k 0\n", by_kind.join(" ∷ "));
+    assert!(INTEGER.contains(&definition), "{definition}");
+}
+
+/// binary16 has no type in stable Rust: its two numbers are read in the standard alone.
+#[test]
+fn the_formats_are_those_of_rusts_floats() {
+    let floats = [("Float32", f32::MANTISSA_DIGITS, f32::MAX_EXP), ("Float64", f64::MANTISSA_DIGITS, f64::MAX_EXP)];
+    for (kind, digits, past_most) in floats {
+        let definition = format!("(cond (eqb k Kind.{kind}) (some (format {digits} {}))\n", past_most - 1);
+        assert!(FORMAT.contains(&definition), "{definition}");
+    }
+}
