@@ -11,7 +11,8 @@ use Rattle.datatypes.specs.Materialize.{materialize, materializeUnknown}
 use Rattle.datatypes.specs.Physical.{physicalLeaf, physicalKind}
 use Rattle.utils_lossless.specs.Lossless.{choose, floats, signed, unsigned, mixed, upcastWhere, lossless, losslessOf}
 use Rattle.utils_arms.specs.Supertype.{unknownArms, arms, planOf, smallestFitting, dynNumber, run, inner, supertypeWith, knownSupertype, supertype}
-use Rattle.utils_supertype.specs.Pair.{isListed, decimalWithInteger, pairChecked, rootSupertype, supertypeOf}
+use Rattle.utils_numbers.specs.Range.{isListed}
+use Rattle.utils_supertype.specs.Pair.{decimalWithInteger, pairChecked, rootSupertype, supertypeOf}
 use Rattle.cases.specs.Cases.{CasesHold}
 
 pub cases-hold : CasesHold

@@ -1,7 +1,7 @@
 -- The number of each cause for which a call is refused: document 01's table. Assumes nothing: these are definitions.
 use Prim.Native.Nat.{ℕ}
 use Rattle.flat.specs.declared.error.Error.{Error}
-use Rattle.flat.specs.declared.error.Error.the-variants.{Length, Kind, Argument, Shape, Depth, Nested, Unknown, OutputTooShort, DecimalWithInteger}
+use Rattle.flat.specs.declared.error.Error.the-variants.{Length, Kind, Argument, Shape, Depth, Nested, Unknown, OutputTooShort, Channel, ChannelCode, NotInteger, NoUpcast, DecimalWithInteger}
 
 -- the number of a cause
 abbrev pub numberOf : Error → ℕ
@@ -13,4 +13,8 @@ numberOf Depth = 5
 numberOf Nested = 6
 numberOf Unknown = 7
 numberOf OutputTooShort = 8
+numberOf Channel = 9
+numberOf ChannelCode = 10
+numberOf NotInteger = 11
+numberOf NoUpcast = 12
 numberOf DecimalWithInteger = 13

@@ -11,6 +11,10 @@ pub enum Error {
     Nested,
     Unknown,
     OutputTooShort,
+    Channel,
+    ChannelCode,
+    NotInteger,
+    NoUpcast,
     DecimalWithInteger,
 }
 
@@ -27,6 +31,10 @@ impl Error {
             Error::Nested => 6,
             Error::Unknown => 7,
             Error::OutputTooShort => 8,
+            Error::Channel => 9,
+            Error::ChannelCode => 10,
+            Error::NotInteger => 11,
+            Error::NoUpcast => 12,
             Error::DecimalWithInteger => 13,
         }
     }

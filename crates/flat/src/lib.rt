@@ -11,6 +11,7 @@ ghost use lib.ListN.{length};
 ghost use Rattle.flat.specs.Reader.{nodeAt};
 ghost use Rattle.flat.specs.Reading.{kindsFit, argumentsFit, shaped, reading, checkedOf, rootOf, RootFits};
 use argument::argument_fits;
+use argument::leaf_fits;
 use error::Error;
 use kind::Kind;
 use span::Span;
@@ -158,15 +159,14 @@ pub fn check_root(kinds: &[u8], args: &[u64]) -> Root
       deep ← ⟦Flat::MAX_DEPTH⟧ .entry
       ⌜ (r ≡ rootOf (reading nodes deep (now (kinds .entry)) (now (args .entry)))) × RootFits r ⌝ }
 {
-    // the common case: one node needs no scan and no walk
+    // the common case: one node with no child needs no scan and no walk
     if kinds.len() == 1 {
         if args.len() == 1 {
             let kind = kinds[0];
             let arg = args[0];
-            return match check_one(kind, arg) {
-                Checked::Valid => Root::Node(kind, arg),
-                Checked::Refused(e) => Root::Refused(e),
-            };
+            if leaf_fits(kind, arg) {
+                return Root::Node(kind, arg);
+            }
         }
     }
     match check(kinds, args) {

@@ -11,9 +11,9 @@ use Rattle.flat.specs.Kind
 use Rattle.flat.proofs.Rules.{and-left, and-right, and-both, implies, area, in-area}
 use Rattle.datatypes.specs.Match.{among}
 use Rattle.datatypes.specs.Predicate.{isFloat, isUnknownInt, isSignedInteger, isUnsignedInteger, isInteger, isNested, isUnknown}
-use Rattle.utils_numbers.specs.Range.{Listed, Covers, Least, Room}
+use Rattle.utils_numbers.specs.Range.{Listed, isListed, Covers, Least, Room}
 use Rattle.utils_numbers.specs.Format.{Format, formatOf, FormatIncludes}
-use Rattle.utils_numbers.proofs.Tests.{isListed, to-listed, each, at, pairs, at-pair}
+use Rattle.utils_numbers.proofs.Tests.{to-listed, each, at, pairs, at-pair}
 use Rattle.utils_numbers.proofs.Ranges.{inside, includes, least-one}
 use Rattle.utils_numbers.proofs.Formats.{wider-format}
 use Rattle.utils_lossless.specs.Lossless.{choose, floats, signed, unsigned, mixed, upcastWhere, upcastOf}
@@ -35,7 +35,7 @@ abbrev right : ℕ → ℕ → Bool
 right l r = least l r (upcastOf l r)
 
 tested : T (pairs (apart right))
-unfolding upcastOf upcastWhere choose signed unsigned mixed among isFloat isUnknownInt isSignedInteger isUnsignedInteger isInteger isNested isUnknown
+unfolding isListed upcastOf upcastWhere choose signed unsigned mixed among isFloat isUnknownInt isSignedInteger isUnsignedInteger isInteger isNested isUnknown
 tested = tt
 
 module _ (l r : ℕ) (p : Listed l) (q : Listed r) where

@@ -2,17 +2,18 @@
 use mathlib.Core.Bool.{Bool, _&&_}
 use Prim.Native.Nat.{ℕ}
 use native.Mathlib.Omega.{arith}
-use lib.Dec.{T, leb, leb→le}
+use lib.Dec.{T, leb, leb→le, le→leb}
 use Rattle.flat.specs.Kind
-use Rattle.flat.proofs.Rules.{run, in-run, and-left, and-right}
-use Rattle.utils_numbers.specs.Range.{Listed}
-
--- a kind is one of them
-abbrev pub isListed : ℕ → Bool
-isListed k = leb Kind.UInt8 k && leb k Kind.Int128
+use Rattle.flat.proofs.Rules.{run, in-run, and-left, and-right, and-both}
+use Rattle.utils_numbers.specs.Range.{Listed, isListed}
 
 pub to-listed : (k : ℕ) → T (isListed k) → Listed k
+unfolding isListed
 to-listed k t = (leb→le Kind.UInt8 k (and-left (leb Kind.UInt8 k) _ t), leb→le k Kind.Int128 (and-right (leb Kind.UInt8 k) _ t))
+
+pub of-listed : (k : ℕ) → Listed k → T (isListed k)
+unfolding isListed
+of-listed k l = and-both (leb Kind.UInt8 k) _ (le→leb Kind.UInt8 k (l .0)) (le→leb k Kind.Int128 (l .1))
 
 -- f holds of each of them
 abbrev pub each : (ℕ → Bool) → Bool

@@ -1,8 +1,9 @@
 -- The ten integer types, document 01's listed ones: when the range of one includes another, and which is the least over some. Assumes nothing: these are
 -- definitions.
+use mathlib.Core.Bool.{Bool, _&&_}
 use mathlib.Core.List.{List, [], _∷_}
 use Prim.Native.Nat.{ℕ, _≤_}
-use lib.Dec.{T}
+use lib.Dec.{T, leb}
 use lib.IntN.{ℤ}
 use Rattle.flat.specs.Kind
 use Rattle.datatypes.specs.Integer.{holds}
@@ -10,6 +11,10 @@ use Rattle.datatypes.specs.Integer.{holds}
 -- the listed integer types are the kinds UInt8 to Int128, 2 to 11
 abbrev pub Listed : ℕ → Type 0
 Listed k = (Kind.UInt8 ≤ k) × (k ≤ Kind.Int128)
+
+-- the same as a test
+unfoldable pub isListed : ℕ → Bool
+isListed k = leb Kind.UInt8 k && leb k Kind.Int128
 
 -- a column of the kind k could hold z: k is listed, and z is in its range
 abbrev pub Holds : ℕ → ℤ → Type 0

@@ -2,7 +2,7 @@
 ghost use mathlib.Core.Path.{_≡_};
 ghost use mathlib.Core.Bool.{true};
 ghost use mathlib.Core.Logic.{_↔_};
-ghost use Rattle.utils_numbers.specs.Range.{Listed, Includes};
+ghost use Rattle.utils_numbers.specs.Range.{Listed, isListed, Includes};
 ghost use Rattle.utils_numbers.specs.Table.{rowOf};
 use flat::kind::Kind;
 
@@ -54,6 +54,16 @@ const INTEGERS: [IntegerType; 10] = [
         signed: true,
     },
 ];
+
+// Whether a kind is one of them.
+pub fn is_listed(kind: u8) -> bool
+    ensures { λ r. ⌜ r ≡ isListed kind ⌝ }
+{
+    match kind {
+        Kind::UINT8..=Kind::INT128 => true,
+        _ => false,
+    }
+}
 
 // The row of a kind.
 pub fn integer(k: u8) -> IntegerType

@@ -13,8 +13,8 @@ use Rattle.flat.proofs.Rules.{and-left, and-right}
 use Rattle.datatypes.specs.Match.{among}
 use Rattle.datatypes.specs.Predicate.{isSignedInteger}
 use Rattle.utils.specs.Join.{Some, node}
-use Rattle.utils_numbers.specs.Range.{Listed, Holds, Includes}
-use Rattle.utils_numbers.proofs.Tests.{isListed, to-listed}
+use Rattle.utils_numbers.specs.Range.{Listed, isListed, Holds, Includes}
+use Rattle.utils_numbers.proofs.Tests.{to-listed}
 use Rattle.utils_lossless.specs.Lossless.{upcastOf}
 use Rattle.utils_lossless.specs.declared.upcast.Upcast.the-variants.{To}
 use Rattle.utils_arms.specs.Supertype.{supertype}
@@ -55,7 +55,7 @@ both-listed {u} {js} {a} {b} l t (first e m) = (subst Listed (sym e) l, among-li
 both-listed {u} {js} {a} {b} l t (second m e) = (among-listed js t a m, subst Listed (sym e) l)
 
 uint128-listed : (a b : ℕ) → uint128WithSigned a b ≡ true → Listed a × Listed b
-unfolding uint128WithSigned isSignedInteger
+unfolding isListed uint128WithSigned isSignedInteger
 uint128-listed a b e = both-listed (omega arith) tt (one-is UInt128 (Int8 ∷ Int16 ∷ Int32 ∷ Int64 ∷ Int128 ∷ []) a b (to-T e))
 
 uint64-is : (a b : ℕ) → uint64WithSigned a b ≡ true → OneIs UInt64 (Int8 ∷ Int16 ∷ Int32 ∷ Int64 ∷ []) a b
@@ -63,6 +63,7 @@ unfolding uint64WithSigned
 uint64-is a b e = one-is UInt64 (Int8 ∷ Int16 ∷ Int32 ∷ Int64 ∷ []) a b (to-T e)
 
 uint64-listed : (a b : ℕ) → uint64WithSigned a b ≡ true → Listed a × Listed b
+unfolding isListed
 uint64-listed a b e = both-listed (omega arith) tt (uint64-is a b e)
 
 -- a number of UInt64 is one of such a pair

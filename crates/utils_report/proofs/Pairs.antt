@@ -12,8 +12,8 @@ use Rattle.datatypes.specs.Predicate.{isNested}
 use Rattle.datatypes.specs.Equality.{equalNode}
 use Rattle.datatypes.proofs.Runs.{same, are-same}
 use Rattle.utils.specs.Join.{Node, Supertype, Some, Nothing, node}
-use Rattle.utils_numbers.specs.Range.{Listed, Includes}
-use Rattle.utils_numbers.proofs.Tests.{isListed, to-listed, at, pairs, at-pair}
+use Rattle.utils_numbers.specs.Range.{Listed, isListed, Includes}
+use Rattle.utils_numbers.proofs.Tests.{to-listed, at, pairs, at-pair}
 use Rattle.utils_numbers.proofs.Ranges.{inside, includes}
 use Rattle.utils_lossless.specs.Lossless.{choose, floats, signed, unsigned, mixed, upcastWhere, upcastOf}
 use Rattle.utils_lossless.specs.declared.upcast.Upcast.{Upcast}
@@ -79,7 +79,7 @@ unfolding joined
 answered-at a b = cond (uint64WithSigned a b) (isFloat a b (joined a b)) (isInteger a b (joined a b))
 
 answered-hold : T (pairs answered-at)
-unfolding answered-at
+unfolding isListed answered-at
 answered-hold = tt
 
 module _ (a b : ℕ) (p : Listed a) (q : Listed b) where

@@ -20,10 +20,11 @@ use Rattle.datatypes.proofs.Runs.{says, of-run}
 use Rattle.utils.specs.Join.{Node, rootNode, foundOf, commonOf, foundCommon, joining, joiningRoots}
 use Rattle.utils.specs.declared.join.Common.{Common}
 use Rattle.utils.proofs.Joins.{found-common, joining-roots}
+use Rattle.utils_numbers.specs.Range.{isListed}
 use Rattle.utils_arms.specs.Node.{fits}
 use Rattle.utils_arms.specs.Supertype.{supertype}
 use Rattle.utils_arms.proofs.Recursive.{supertype-laws}
-use Rattle.utils_supertype.specs.Pair.{isListed, decimalWithInteger, pairChecked, afterCheck, rootSupertype, supertypeOf}
+use Rattle.utils_supertype.specs.Pair.{decimalWithInteger, pairChecked, afterCheck, rootSupertype, supertypeOf}
 
 -- ---- two kinds
 

@@ -9,13 +9,10 @@ use Rattle.flat.specs.Reading.{Reading, refused}
 use Rattle.flat.specs.declared.error.Error.the-variants.{Nested, DecimalWithInteger}
 use Rattle.flat.specs.declared.Checked.{Checked}
 use Rattle.flat.specs.declared.Checked.the-variants.{Valid, Refused}
-use Rattle.datatypes.specs.Predicate.{isSignedInteger, isUnsignedInteger, isNested}
+use Rattle.datatypes.specs.Predicate.{isNested}
 use Rattle.utils.specs.Join.{Node, rootNode, foundOf}
+use Rattle.utils_numbers.specs.Range.{isListed}
 use Rattle.utils_arms.specs.Supertype.{supertype}
-
--- an integer code 2 to 11
-unfoldable pub isListed : ℕ → Bool
-isListed k = isUnsignedInteger k || isSignedInteger k
 
 -- a Decimal with an integer, on either side
 unfoldable pub decimalWithInteger : ℕ → ℕ → Bool

@@ -6,7 +6,7 @@ ghost use mathlib.Core.Bool.{false};
 ghost use lib.ListN.{length};
 ghost use Rattle.flat.specs.Reading.{reading, RootFits};
 ghost use Rattle.utils.specs.Join.{node, resultOf, joining, joiningRoots, fittingFound, Joins};
-ghost use Rattle.utils_supertype.specs.Pair.{isListed, decimalWithInteger, pairChecked, rootSupertype, supertypeOf};
+ghost use Rattle.utils_supertype.specs.Pair.{decimalWithInteger, pairChecked, rootSupertype, supertypeOf};
 use datatypes::kind::is_nested;
 use flat::Checked;
 use flat::Flat;
@@ -18,15 +18,7 @@ use utils::join::Common;
 use utils::join::Found;
 use utils::join::Joined;
 use utils::join::put;
-
-fn is_listed(kind: u8) -> bool
-    ensures { λ r. ⌜ r ≡ isListed kind ⌝ }
-{
-    match kind {
-        Kind::UINT8..=Kind::INT128 => true,
-        _ => false,
-    }
-}
+use utils_numbers::integer::is_listed;
 
 // A Decimal with an integer type, on either side.
 fn decimal_with_integer(left: u8, right: u8) -> bool

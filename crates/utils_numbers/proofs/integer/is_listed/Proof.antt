@@ -1,10 +1,10 @@
--- `utils_supertype::is_listed` meets its contract. Assumes nothing.
+-- `utils_numbers::integer::is_listed` meets its contract. Assumes nothing.
 use mathlib.Core.Bool.{true, false}
 use native.Mathlib.Omega.{arith}
 use Rattle.datatypes.proofs.Runs.{says, of-run}
-use Rattle.utils_supertype.specs.Pair.{isListed}
-use Rattle.utils_supertype.proofs.is_listed.Statement.{statement}
-use Rattle.utils_supertype.proofs.is_listed.Tie as tie
+use Rattle.utils_numbers.specs.Range.{isListed}
+use Rattle.utils_numbers.proofs.integer.is_listed.Statement.{statement}
+use Rattle.utils_numbers.proofs.integer.is_listed.Tie as tie
 
 pub is-listed-spec : {M : Type 1} → statement M
 is-listed-spec =
