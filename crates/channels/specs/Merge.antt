@@ -1,0 +1,78 @@
+-- What a merge comes to: its answer, and the types as it leaves them. Assumes nothing: these are definitions.
+use mathlib.Core.Path.{_≡_}
+use mathlib.Core.Bool.{Bool, true, false, _||_}
+use mathlib.Core.List.{List}
+use Prim.Native.Nat.{ℕ}
+use lib.Dec.{ltb, eqb}
+use lib.ListN.{length, replicate, getD, set}
+use Rattle.flat.specs.Refusal.{numberOf}
+use Rattle.flat.specs.Tree.{headKind, leaf}
+use Rattle.flat.specs.Reading.{Reading, refused, type}
+use Rattle.flat.specs.declared.Root.{Root}
+use Rattle.flat.specs.declared.error.Error.{Error}
+use Rattle.flat.specs.declared.error.Error.the-variants.{Channel, ChannelCode, NotInteger, NoUpcast}
+use Rattle.utils_numbers.specs.Range.{isListed}
+use Rattle.utils_lossless.specs.Lossless.{upcastOf}
+use Rattle.utils_lossless.specs.declared.upcast.Upcast.{Upcast}
+use Rattle.utils_lossless.specs.declared.upcast.Upcast.the-variants.{To, Nothing}
+use Rattle.channels.specs.declared.ChannelTypes.{ChannelTypes}
+use Rattle.channels.specs.declared.Merged.{Merged}
+use Rattle.channels.specs.declared.Merged.the-variants.{Held, Refused}
+use Rattle.channels.specs.declared.Outcome.{Outcome}
+
+-- document 01's number of an answer, and the value beside it: the code now held
+abbrev pub mergedNumber : Merged → ℕ
+mergedNumber (Held c) = 0
+mergedNumber (Refused e) = numberOf e
+
+abbrev pub mergedValue : Merged → ℕ
+mergedValue (Held c) = c
+mergedValue (Refused e) = 0
+
+-- the types of so many channels, all of them empty
+abbrev pub started : ℕ → ChannelTypes
+started channels = record { codes = replicate channels 0 }
+
+-- a where the test holds, else b
+abbrev pub choose : Bool → Merged → Merged → Merged
+choose true a b = a
+choose false a b = b
+
+-- a where the test holds, else refused by e
+abbrev pub unless : Bool → Error → Merged → Merged
+unless test e a = choose test a (Refused e)
+
+-- 12: the upcast is None
+abbrev pub upcastHeld : Upcast → Merged
+upcastHeld (To c) = Held c
+upcastHeld Nothing = Refused NoUpcast
+
+-- A channel that holds `held` is offered a type of the kind k. 10: it holds neither 0 nor 2 to 11. 11: the type is none of 2 to 11. On an empty channel
+-- the type is kept; an equal type keeps the held one; otherwise the lossless upcast of held and offered is kept.
+unfoldable pub mergedWith : ℕ → ℕ → Merged
+mergedWith held k =
+    unless (eqb held 0 || isListed held) ChannelCode
+    (unless (isListed k) NotInteger
+    (choose (eqb held 0) (Held k)
+    (choose (eqb held k) (Held held)
+    (upcastHeld (upcastOf held k)))))
+
+-- The offered type goes through 1 to 5 first. 9: there is no such channel.
+unfoldable pub mergedOf : List ℕ → ℕ → Reading → Merged
+mergedOf codes channel (refused e) = Refused e
+mergedOf codes channel (type t) = unless (ltb channel (length codes)) Channel (mergedWith (getD codes channel 0) (headKind t))
+
+-- an accepted type's channel holds the code of the answer; a refused call leaves all codes
+abbrev pub codesAfter : List ℕ → ℕ → Merged → List ℕ
+codesAfter codes channel (Held c) = set codes channel c
+codesAfter codes channel (Refused e) = codes
+
+-- What the contract of a merge says: a column is merged into a channel of these types, and this is the outcome.
+pub record Merges (types : ChannelTypes) (channel : ℕ) (column : Reading) (outcome : Outcome) : Type 0 where
+  pub answers : outcome .answer ≡ mergedOf (types .codes) channel column
+  pub leaves : outcome .types .codes ≡ codesAfter (types .codes) channel (mergedOf (types .codes) channel column)
+
+-- a column told by the root of its type, on which alone a merge rests
+abbrev pub rootColumn : Root → Reading
+rootColumn (Root.Refused e) = refused e
+rootColumn (Root.Node k a) = type (leaf k a)

@@ -1,0 +1,60 @@
+-- The model that the types of the channels are held to, document 01's book: a page of types for each channel. It is fed each merge's channel and type, nothing
+-- of the codes or the answers. Assumes nothing: these are definitions.
+use mathlib.Core.Path.{_≡_}
+use mathlib.Core.Bool.{cond}
+use mathlib.Core.List.{List, [], _∷_}
+use Prim.Native.Nat.{ℕ, _≤_, _<_}
+use lib.Dec.{eqb}
+use Rattle.flat.specs.Tree.{DataType, headKind}
+use Rattle.flat.specs.Reading.{Reading, refused, type, reading}
+use Rattle.flat.specs.declared.error.Error.{Error}
+use Rattle.flat.specs.declared.error.Error.the-variants.{Channel, NotInteger, NoUpcast}
+use Rattle.utils_numbers.specs.Range.{Listed, Least, Room}
+use Rattle.channels.specs.declared.Merged.{Merged}
+use Rattle.channels.specs.declared.Merged.the-variants.{Held, Refused}
+
+-- a merge, document 01's offer: a channel, and a flat type of any content
+pub record Merge : Type 0 where
+  pub channel : ℕ
+  pub kinds : List ℕ
+  pub args : List ℕ
+
+-- "A column is the type offered, valid where it passes 1 to 5"
+abbrev pub columnOf : (nodes deep : ℕ) → Merge → Reading
+columnOf nodes deep m = reading nodes deep (m .kinds) (m .args)
+
+-- "a page of types for each channel": an integer type is its kind
+abbrev pub Model : Type 0
+Model = ℕ → List ℕ
+
+-- "all empty at the start"
+abbrev pub blank : Model
+blank i = []
+
+-- the type k joins the channel's page
+abbrev pub joining : Model → ℕ → ℕ → Model
+joining b channel k i = cond (eqb i channel) (k ∷ b i) (b i)
+
+-- "A channel with an empty page stands at code 0, any other at the code of the type that demand 3 names, taken over the types on its page"
+abbrev pub Stands : List ℕ → ℕ → Type 0
+Stands [] c = c ≡ 0
+Stands (k ∷ ks) c = Least c (k ∷ ks)
+
+-- The model is fed a column for a channel: its answer, and the model afterwards.
+pub data Enters (channels : ℕ) (b : Model) (channel : ℕ) : Reading → Merged → Model → Type 0 where
+  -- "An offer that 1 to 5, 9 or 11 turn down answers the lowest such number and changes no page"
+  not-a-type : {e : Error} → Enters channels b channel (refused e) (Refused e) b
+  no-channel : {t : DataType} → channels ≤ channel → Enters channels b channel (type t) (Refused Channel) b
+  not-integer : {t : DataType} → channel < channels → ¬ Listed (headKind t) → Enters channels b channel (type t) (Refused NotInteger) b
+  -- "Any other is accepted exactly when some listed type's range includes its range and those on its channel's page; its type then joins that page";
+  -- "an accepted offer answers where its channel then stands"
+  accepted : {t : DataType} {c : ℕ} → channel < channels → Listed (headKind t) → Room (headKind t ∷ b channel) → Stands (headKind t ∷ b channel) c
+      → Enters channels b channel (type t) (Held c) (joining b channel (headKind t))
+  -- "Otherwise it answers 12 and no page changes"
+  no-room : {t : DataType} → channel < channels → Listed (headKind t) → ¬ Room (headKind t ∷ b channel) → Enters channels b channel (type t) (Refused NoUpcast) b
+
+-- The model is fed a list of merges, the latest first in the list: its answers, and the model after them.
+pub data Feeds (channels nodes deep : ℕ) : List Merge → List Merged → Model → Type 0 where
+  none : Feeds channels nodes deep [] [] blank
+  next : {ms : List Merge} {xs : List Merged} {b b′ : Model} {m : Merge} {a : Merged} → Feeds channels nodes deep ms xs b
+      → Enters channels b (m .channel) (columnOf nodes deep m) a b′ → Feeds channels nodes deep (m ∷ ms) (a ∷ xs) b′

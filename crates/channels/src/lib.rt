@@ -1,0 +1,145 @@
+// The type of each channel, document 01's season record: a column's type is merged into a channel (document 01's offer) without ever losing a number.
+ghost use mathlib.Core.Path.{_≡_};
+ghost use Rattle.flat.specs.Reading.{reading};
+ghost use Rattle.channels.specs.Merge.{mergedWith, mergedNumber, mergedValue, started, rootColumn, Merges};
+use flat::Flat;
+use flat::Root;
+use flat::error::Error;
+use utils_lossless::upcast::Upcast;
+use utils_lossless::upcast::upcast_kinds;
+use utils_numbers::integer::is_listed;
+
+// For each channel the kind of the integer type that it holds, or 0 while it is empty.
+pub struct ChannelTypes {
+    pub codes: [u8; ChannelTypes::CHANNELS],
+}
+
+// What a merge answers: the code that its channel now holds, or the refusal.
+pub enum Merged {
+    Held(u8),
+    Refused(Error),
+}
+
+// The answer of a merge, beside the types as it leaves them.
+pub struct Outcome {
+    pub types: ChannelTypes,
+    pub answer: Merged,
+}
+
+impl Merged {
+    // Document 01's number.
+    pub fn number(self) -> u64
+        ensures { λ r. ⌜ r ≡ mergedNumber self ⌝ }
+    {
+        match self {
+            Merged::Held(_) => 0,
+            Merged::Refused(e) => e.number(),
+        }
+    }
+
+    // The value beside the number.
+    pub fn value(self) -> u64
+        ensures { λ r. ⌜ r ≡ mergedValue self ⌝ }
+    {
+        match self {
+            Merged::Held(c) => c as u64,
+            Merged::Refused(_) => 0,
+        }
+    }
+}
+
+// The answer of a channel that holds `held` to a column of this kind: refusals 10, 11 and 12.
+fn merge_kind(held: u8, kind: u8) -> Merged
+    ensures { λ r. ⌜ r ≡ mergedWith held kind ⌝ }
+{
+    if held != 0 {
+        if !is_listed(held) {
+            return Merged::Refused(Error::ChannelCode);
+        }
+    }
+    if !is_listed(kind) {
+        return Merged::Refused(Error::NotInteger);
+    }
+    if held == 0 {
+        return Merged::Held(kind);
+    }
+    if held == kind {
+        return Merged::Held(held);
+    }
+    match upcast_kinds(held, kind) {
+        Upcast::To(c) => Merged::Held(c),
+        Upcast::Nothing => Merged::Refused(Error::NoUpcast),
+    }
+}
+
+impl ChannelTypes {
+    // The number of channels.
+    pub const CHANNELS: usize = 32;
+
+    // All channels empty.
+    pub fn empty() -> Self
+        ensures { λ r. do
+          channels ← ⟦ChannelTypes::CHANNELS⟧ .entry
+          ⌜ r ≡ started channels ⌝ }
+    {
+        Self {
+            codes: [0u8; ChannelTypes::CHANNELS],
+        }
+    }
+
+    // Merges a column, told by the root of its type, into a channel: its refusal, then 9 to 12.
+    pub fn merge_root(self, channel: usize, column: Root) -> Outcome
+        ensures { λ r. ⌜ Merges self channel (rootColumn column) r ⌝ }
+    {
+        match column {
+            Root::Refused(e) => Outcome {
+                types: self,
+                answer: Merged::Refused(e),
+            },
+            Root::Node(kind, _) => {
+                if channel >= ChannelTypes::CHANNELS {
+                    return Outcome {
+                        types: self,
+                        answer: Merged::Refused(Error::Channel),
+                    };
+                }
+                match merge_kind(self.codes[channel], kind) {
+                    Merged::Held(c) => {
+                        let mut next = self;
+                        next.codes[channel] = c;
+                        Outcome {
+                            types: next,
+                            answer: Merged::Held(c),
+                        }
+                    }
+                    Merged::Refused(e) => Outcome {
+                        types: self,
+                        answer: Merged::Refused(e),
+                    },
+                }
+            }
+        }
+    }
+
+    // Merges a column's type into a channel: refusals 1 to 5, then 9 to 12.
+    pub fn merge(self, channel: usize, kinds: &[u8], args: &[u64]) -> Outcome
+        ensures { λ r. do
+          nodes ← ⟦Flat::MAX_NODES⟧ .entry
+          deep ← ⟦Flat::MAX_DEPTH⟧ .entry
+          ⌜ Merges self channel (reading nodes deep (now (kinds .entry)) (now (args .entry))) r ⌝ }
+    {
+        self.merge_root(channel, flat::check_root(kinds, args))
+    }
+}
+
+// The lent form: the types are taken apart, the column is merged by value, and the types are put back.
+pub fn merge_in_place(types: &mut ChannelTypes, channel: usize, kinds: &[u8], args: &[u64]) -> Merged
+    ensures { λ a. do
+      nodes ← ⟦Flat::MAX_NODES⟧ .entry
+      deep ← ⟦Flat::MAX_DEPTH⟧ .entry
+      ⌜ Merges (now (types .entry)) channel (reading nodes deep (now (kinds .entry)) (now (args .entry))) (record { types = now (types .exit); answer = a }) ⌝ }
+{
+    let next = (*types).merge(channel, kinds, args);
+    *types = next.types;
+    next.answer
+}
