@@ -1,5 +1,6 @@
--- What an answer says as a reply, of one type and of two, of a part of a type, and of a type that is built anew.
+-- What an answer says as a reply, of one type and of two, of a part of a type, of a type that is built anew, and of a merge.
 mod Replies
 mod Pairs
 mod Parts
 mod Builds
+mod Merges

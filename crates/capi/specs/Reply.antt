@@ -22,6 +22,8 @@ use Rattle.utils.specs.Join.{joinedOf, joinedNumber, joinedValue, kindsFound, a
 use Rattle.utils.specs.declared.join.Joined.{Joined}
 use Rattle.utils_report.specs.Report.{Reports, reportNumber, reportValue}
 use Rattle.utils_report.specs.declared.Report.{Report}
+use Rattle.channels.specs.Merge.{mergedNumber, mergedValue, mergedOf, codesAfter}
+use Rattle.channels.specs.declared.Merged.{Merged}
 use Rattle.encoding_join.specs.Join.{joinedBytes, bytesFound}
 use Rattle.flat.specs.declared.Written.{Written}
 use Rattle.capi.specs.declared.Reply.{Reply}
@@ -88,6 +90,15 @@ pub record ReportReply (left right : Reading) (reply : Reply) : Type 0 where
   pub report : Report
   pub reports : Reports left right report
   pub replies : reply ≡ reportReply report
+
+-- the code now held
+abbrev pub mergedReply : Merged → Reply
+mergedReply a = record { number = mergedNumber a; value = mergedValue a }
+
+-- What a call comes to that merges a column into a channel: the reply, and the codes of the channels, cs before the call and cs′ after it.
+pub record MergeReply (channels : ℕ) (cs : List ℕ) (channel : ℕ) (column : Reading) (cs′ : List ℕ) (reply : Reply) : Type 0 where
+  pub replies : reply ≡ mergedReply (mergedOf channels cs channel column)
+  pub codes : cs′ ≡ codesAfter cs channel (mergedOf channels cs channel column)
 
 -- What a call comes to that writes a flat type: the number of nodes, and the two lent arrays, ks and xs before the call and ks′ and xs′ after it.
 pub record DecodeReply (r : Reading) (ks xs ks′ xs′ : List ℕ) (reply : Reply) : Type 0 where

@@ -1,5 +1,6 @@
 // The C entry points. Each is a call of a proved function on an encoded type, whose answer is given as two numbers.
 mod build;
+mod channel;
 mod flat_type;
 mod join;
 mod pair;

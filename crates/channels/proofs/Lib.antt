@@ -1,1 +1,3 @@
--- The laws behind the merges.
+-- The laws behind the merges. Those that other crates' proofs cite are `pub`.
+pub mod Arms
+mod Contracts

@@ -4,7 +4,7 @@ use mathlib.Core.Bool.{Bool, true, false, _||_}
 use mathlib.Core.List.{List}
 use Prim.Native.Nat.{ℕ}
 use lib.Dec.{ltb, eqb}
-use lib.ListN.{length, replicate, getD, set}
+use lib.ListN.{replicate, getD, set}
 use Rattle.flat.specs.Refusal.{numberOf}
 use Rattle.flat.specs.Tree.{headKind, leaf}
 use Rattle.flat.specs.Reading.{Reading, refused, type}
@@ -58,9 +58,9 @@ mergedWith held k =
     (upcastHeld (upcastOf held k)))))
 
 -- The offered type goes through 1 to 5 first. 9: there is no such channel.
-unfoldable pub mergedOf : List ℕ → ℕ → Reading → Merged
-mergedOf codes channel (refused e) = Refused e
-mergedOf codes channel (type t) = unless (ltb channel (length codes)) Channel (mergedWith (getD codes channel 0) (headKind t))
+unfoldable pub mergedOf : (channels : ℕ) → List ℕ → ℕ → Reading → Merged
+mergedOf channels codes channel (refused e) = Refused e
+mergedOf channels codes channel (type t) = unless (ltb channel channels) Channel (mergedWith (getD codes channel 0) (headKind t))
 
 -- an accepted type's channel holds the code of the answer; a refused call leaves all codes
 abbrev pub codesAfter : List ℕ → ℕ → Merged → List ℕ
@@ -68,9 +68,9 @@ codesAfter codes channel (Held c) = set codes channel c
 codesAfter codes channel (Refused e) = codes
 
 -- What the contract of a merge says: a column is merged into a channel of these types, and this is the outcome.
-pub record Merges (types : ChannelTypes) (channel : ℕ) (column : Reading) (outcome : Outcome) : Type 0 where
-  pub answers : outcome .answer ≡ mergedOf (types .codes) channel column
-  pub leaves : outcome .types .codes ≡ codesAfter (types .codes) channel (mergedOf (types .codes) channel column)
+pub record Merges (channels : ℕ) (types : ChannelTypes) (channel : ℕ) (column : Reading) (outcome : Outcome) : Type 0 where
+  pub answers : outcome .answer ≡ mergedOf channels (types .codes) channel column
+  pub leaves : outcome .types .codes ≡ codesAfter (types .codes) channel (mergedOf channels (types .codes) channel column)
 
 -- a column told by the root of its type, on which alone a merge rests
 abbrev pub rootColumn : Root → Reading

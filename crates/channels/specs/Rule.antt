@@ -19,10 +19,10 @@ use Rattle.channels.specs.Model.{Merge, columnOf, Model, Stands, Feeds}
 -- The merges of a list stand with the latest first: what was merged before a merge is the rest of the list, and every merge of a list is the first of one.
 
 -- "each offer given the record as the last one left it and nobody else writing it": every step is what the contracts say of a merge
-pub data Run (nodes deep : ℕ) (s₀ : ChannelTypes) : List Merge → List Merged → ChannelTypes → Type 0 where
-  none : Run nodes deep s₀ [] [] s₀
-  next : {ms : List Merge} {xs : List Merged} {s : ChannelTypes} {m : Merge} {o : Outcome} → Run nodes deep s₀ ms xs s
-      → Merges s (m .channel) (columnOf nodes deep m) o → Run nodes deep s₀ (m ∷ ms) (o .answer ∷ xs) (o .types)
+pub data Run (channels nodes deep : ℕ) (s₀ : ChannelTypes) : List Merge → List Merged → ChannelTypes → Type 0 where
+  none : Run channels nodes deep s₀ [] [] s₀
+  next : {ms : List Merge} {xs : List Merged} {s : ChannelTypes} {m : Merge} {o : Outcome} → Run channels nodes deep s₀ ms xs s
+      → Merges channels s (m .channel) (columnOf nodes deep m) o → Run channels nodes deep s₀ (m ∷ ms) (o .answer ∷ xs) (o .types)
 
 -- the code of a channel
 abbrev pub codeAt : ChannelTypes → ℕ → ℕ
@@ -61,26 +61,26 @@ answersTo ch (m ∷ ms) (a ∷ xs) = cond (eqb (m .channel) ch) (a ∷ answersTo
 
 pub record ChannelRule (channels nodes deep : ℕ) : Type 0 where
   -- every list has a run, from any codes, so that nothing is said of nothing
-  pub runs : (s₀ : ChannelTypes) (ms : List Merge) → (xs : List Merged) × (s : ChannelTypes) × Run nodes deep s₀ ms xs s
+  pub runs : (s₀ : ChannelTypes) (ms : List Merge) → (xs : List Merged) × (s : ChannelTypes) × Run channels nodes deep s₀ ms xs s
   -- "After every list each of the 32 codes is where its channel stands in the book, and every offer, accepted or refused, has had the book's answer."
-  pub by-the-model : {ms : List Merge} {xs : List Merged} {s : ChannelTypes} → Run nodes deep (started channels) ms xs s
+  pub by-the-model : {ms : List Merge} {xs : List Merged} {s : ChannelTypes} → Run channels nodes deep (started channels) ms xs s
       → (b : Model) × Feeds channels nodes deep ms xs b × (length (s .codes) ≡ channels) × ((ch : ℕ) → ch < channels → Stands (b ch) (codeAt s ch))
   -- and there is no other book: the offers settle its answers and its pages
   pub one-model : {ms : List Merge} {xs ys : List Merged} {b b′ : Model} → Feeds channels nodes deep ms xs b → Feeds channels nodes deep ms ys b′ → (xs ≡ ys) × (b ≡ b′)
   -- "no channel ends with a type that misses a number its accepted columns could hold"
-  pub keeps : {ms : List Merge} {xs : List Merged} {s : ChannelTypes} → Run nodes deep (started channels) ms xs s
+  pub keeps : {ms : List Merge} {xs : List Merged} {s : ChannelTypes} → Run channels nodes deep (started channels) ms xs s
       → (ch : ℕ) → ch < channels → Covers (codeAt s ch) (accepted nodes deep ch ms xs)
   -- "After it each channel with an accepted column holds the one listed integer type whose range includes all theirs and lies inside every listed type that does
   -- so; one without is empty."
-  pub holds : {ms : List Merge} {xs : List Merged} {s : ChannelTypes} → Run nodes deep (started channels) ms xs s
+  pub holds : {ms : List Merge} {xs : List Merged} {s : ChannelTypes} → Run channels nodes deep (started channels) ms xs s
       → (ch : ℕ) → ch < channels → Stands (accepted nodes deep ch ms xs) (codeAt s ch)
   pub the-one : {ks : List ℕ} {t u : ℕ} → Least t ks → Least u ks → t ≡ u
   -- "a valid column of a listed integer type, on a valid channel, is refused exactly when no listed type includes its range and those accepted there before"
-  pub refused-when : {ms : List Merge} {xs : List Merged} {s : ChannelTypes} {m : Merge} {a : Merged} {t : DataType} → Run nodes deep (started channels) (m ∷ ms) (a ∷ xs) s
+  pub refused-when : {ms : List Merge} {xs : List Merged} {s : ChannelTypes} {m : Merge} {a : Merged} {t : DataType} → Run channels nodes deep (started channels) (m ∷ ms) (a ∷ xs) s
       → columnOf nodes deep m ≡ type t → Listed (headKind t) → m .channel < channels → IsRefused a ↔ (Room (headKind t ∷ accepted nodes deep (m .channel) ms xs) → ⊥)
   -- "Every answer is the code then held or the refusal's number."
-  pub answers : {ms : List Merge} {xs : List Merged} {s : ChannelTypes} {m : Merge} {a : Merged} → Run nodes deep (started channels) (m ∷ ms) (a ∷ xs) s
+  pub answers : {ms : List Merge} {xs : List Merged} {s : ChannelTypes} {m : Merge} {a : Merged} → Run channels nodes deep (started channels) (m ∷ ms) (a ∷ xs) s
       → Tells a (codeAt s (m .channel))
   -- "A channel's code and its offers' answers are the same in such a list and in the one that keeps only its own offers, even from a record not started empty."
-  pub alone : (ch : ℕ) {ms : List Merge} {xs ys : List Merged} {s₀ s t : ChannelTypes} → Run nodes deep s₀ ms xs s → Run nodes deep s₀ (only ch ms) ys t
+  pub alone : (ch : ℕ) {ms : List Merge} {xs ys : List Merged} {s₀ s t : ChannelTypes} → length (s₀ .codes) ≡ channels → Run channels nodes deep s₀ ms xs s → Run channels nodes deep s₀ (only ch ms) ys t
       → (codeAt s ch ≡ codeAt t ch) × (answersTo ch ms xs ≡ ys)

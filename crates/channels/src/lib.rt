@@ -1,6 +1,9 @@
 // The type of each channel, document 01's season record: a column's type is merged into a channel (document 01's offer) without ever losing a number.
 ghost use mathlib.Core.Path.{_≡_};
+ghost use mathlib.Core.Bool.{_||_};
+ghost use lib.Dec.{eqb};
 ghost use Rattle.flat.specs.Reading.{reading};
+ghost use Rattle.utils_numbers.specs.Range.{isListed};
 ghost use Rattle.channels.specs.Merge.{mergedWith, mergedNumber, mergedValue, started, rootColumn, Merges};
 use flat::Flat;
 use flat::Root;
@@ -10,6 +13,7 @@ use utils_lossless::upcast::upcast_kinds;
 use utils_numbers::integer::is_listed;
 
 // For each channel the kind of the integer type that it holds, or 0 while it is empty.
+#[repr(C)]
 pub struct ChannelTypes {
     pub codes: [u8; ChannelTypes::CHANNELS],
 }
@@ -48,14 +52,22 @@ impl Merged {
     }
 }
 
+// Whether a channel may hold a code: 0, or an integer type's.
+fn is_channel_code(code: u8) -> bool
+    ensures { λ r. ⌜ r ≡ (eqb code 0 || isListed code) ⌝ }
+{
+    if code == 0 {
+        return true;
+    }
+    is_listed(code)
+}
+
 // The answer of a channel that holds `held` to a column of this kind: refusals 10, 11 and 12.
 fn merge_kind(held: u8, kind: u8) -> Merged
     ensures { λ r. ⌜ r ≡ mergedWith held kind ⌝ }
 {
-    if held != 0 {
-        if !is_listed(held) {
-            return Merged::Refused(Error::ChannelCode);
-        }
+    if !is_channel_code(held) {
+        return Merged::Refused(Error::ChannelCode);
     }
     if !is_listed(kind) {
         return Merged::Refused(Error::NotInteger);
@@ -89,7 +101,9 @@ impl ChannelTypes {
 
     // Merges a column, told by the root of its type, into a channel: its refusal, then 9 to 12.
     pub fn merge_root(self, channel: usize, column: Root) -> Outcome
-        ensures { λ r. ⌜ Merges self channel (rootColumn column) r ⌝ }
+        ensures { λ r. do
+          channels ← ⟦ChannelTypes::CHANNELS⟧ .entry
+          ⌜ Merges channels self channel (rootColumn column) r ⌝ }
     {
         match column {
             Root::Refused(e) => Outcome {
@@ -124,20 +138,27 @@ impl ChannelTypes {
     // Merges a column's type into a channel: refusals 1 to 5, then 9 to 12.
     pub fn merge(self, channel: usize, kinds: &[u8], args: &[u64]) -> Outcome
         ensures { λ r. do
+          channels ← ⟦ChannelTypes::CHANNELS⟧ .entry
           nodes ← ⟦Flat::MAX_NODES⟧ .entry
           deep ← ⟦Flat::MAX_DEPTH⟧ .entry
-          ⌜ Merges self channel (reading nodes deep (now (kinds .entry)) (now (args .entry))) r ⌝ }
+          ⌜ Merges channels self channel (reading nodes deep (now (kinds .entry)) (now (args .entry))) r ⌝ }
     {
         self.merge_root(channel, flat::check_root(kinds, args))
     }
 }
 
 // The lent form: the types are taken apart, the column is merged by value, and the types are put back.
-pub fn merge_in_place(types: &mut ChannelTypes, channel: usize, kinds: &[u8], args: &[u64]) -> Merged
+pub fn merge_in_place(
+    types: &mut ChannelTypes,
+    channel: usize,
+    kinds: &[u8],
+    args: &[u64],
+) -> Merged
     ensures { λ a. do
+      channels ← ⟦ChannelTypes::CHANNELS⟧ .entry
       nodes ← ⟦Flat::MAX_NODES⟧ .entry
       deep ← ⟦Flat::MAX_DEPTH⟧ .entry
-      ⌜ Merges (now (types .entry)) channel (reading nodes deep (now (kinds .entry)) (now (args .entry))) (record { types = now (types .exit); answer = a }) ⌝ }
+      ⌜ Merges channels (now (types .entry)) channel (reading nodes deep (now (kinds .entry)) (now (args .entry))) (record { types = now (types .exit); answer = a }) ⌝ }
 {
     let next = (*types).merge(channel, kinds, args);
     *types = next.types;

@@ -1,11 +1,14 @@
-// The calls that join two encoded types, by their roots.
+// The calls that join two encoded types, and that merge one into a channel, by their roots.
 ghost use lib.ListN.{length};
 ghost use Rattle.encoding.specs.Encoding.{decoding};
 ghost use Rattle.utils.specs.Join.{resultOf, joining};
 ghost use Rattle.utils_lossless.specs.Lossless.{losslessOf};
 ghost use Rattle.utils_supertype.specs.Pair.{supertypeOf};
 ghost use Rattle.utils_report.specs.Report.{Reports};
+ghost use Rattle.channels.specs.Merge.{Merges};
 ghost use Rattle.encoding_join.specs.Join.{fittingFoundBytes, JoinsBytes};
+use channels::ChannelTypes;
+use channels::Outcome;
 use encoding::Encoded;
 use encoding::Encoding;
 use encoding::check_root;
@@ -80,4 +83,16 @@ pub fn join_report(left: &[u8], right: &[u8]) -> Report
     let l = check_root(left);
     let r = check_root(right);
     report_roots(l, r)
+}
+
+// Merges the type of a column into a channel: refusals 1 to 5, then 9 to 12.
+pub fn merge(types: ChannelTypes, channel: usize, column: &[u8]) -> Outcome
+    ensures { λ r. do
+      channels ← ⟦ChannelTypes::CHANNELS⟧ .entry
+      nodes ← ⟦Flat::MAX_NODES⟧ .entry
+      deep ← ⟦Flat::MAX_DEPTH⟧ .entry
+      w ← ⟦Encoding::ARGUMENT_BYTES⟧ .entry
+      ⌜ Merges channels types channel (decoding w nodes deep (now (column .entry))) r ⌝ }
+{
+    types.merge_root(channel, check_root(column))
 }

@@ -1,0 +1,73 @@
+// The calls that merge a column's type into a channel: the codes of the channels are lent, or come and go by value.
+ghost use mathlib.Core.Path.{_≡_};
+ghost use Rattle.flat.specs.Reading.{reading};
+ghost use Rattle.encoding.specs.Encoding.{decoding};
+ghost use Rattle.capi.specs.Reply.{mergedReply, MergeReply};
+use crate::Reply;
+use channels::ChannelTypes;
+use channels::Merged;
+use encoding::Encoding;
+use flat::Flat;
+
+// The reply to a merge, beside the types as it leaves them.
+#[repr(C)]
+pub struct TypesReply {
+    pub reply: Reply,
+    pub types: ChannelTypes,
+}
+
+fn merged_reply(answer: Merged) -> Reply
+    ensures { λ r. ⌜ r ≡ mergedReply answer ⌝ }
+{
+    Reply {
+        number: answer.number(),
+        value: answer.value(),
+    }
+}
+
+// Merges the type of a column into a channel of the lent codes. Gives the code that the channel now holds.
+#[no_mangle]
+pub extern "C" fn lz_channel_merge(
+    codes: &mut [u8; ChannelTypes::CHANNELS],
+    channel: usize,
+    column: &[u8],
+) -> Reply
+    ensures { λ r. do
+      channels ← ⟦ChannelTypes::CHANNELS⟧ .entry
+      nodes ← ⟦Flat::MAX_NODES⟧ .entry
+      deep ← ⟦Flat::MAX_DEPTH⟧ .entry
+      w ← ⟦Encoding::ARGUMENT_BYTES⟧ .entry
+      ⌜ MergeReply channels (now (codes .entry)) channel (decoding w nodes deep (now (column .entry))) (now (codes .exit)) r ⌝ }
+{
+    let before = *codes;
+    let next = encoding_join::merge(ChannelTypes { codes: before }, channel, column);
+    let types = next.types;
+    let after = types.codes;
+    *codes = after;
+    let answer = next.answer;
+    merged_reply(answer)
+}
+
+// The same of a flat type, with the codes by value.
+#[no_mangle]
+pub extern "C" fn lz_flat_channel_merged(
+    types: ChannelTypes,
+    channel: usize,
+    kinds: &[u8],
+    args: &[u64],
+) -> TypesReply
+    ensures { λ r. do
+      channels ← ⟦ChannelTypes::CHANNELS⟧ .entry
+      nodes ← ⟦Flat::MAX_NODES⟧ .entry
+      deep ← ⟦Flat::MAX_DEPTH⟧ .entry
+      ⌜ MergeReply channels (types .codes) channel (reading nodes deep (now (kinds .entry)) (now (args .entry))) (r .types .codes) (r .reply) ⌝ }
+{
+    let next = types.merge(channel, kinds, args);
+    let answer = next.answer;
+    let reply = merged_reply(answer);
+    let after = next.types;
+    TypesReply {
+        reply,
+        types: after,
+    }
+}

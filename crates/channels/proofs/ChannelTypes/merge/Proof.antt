@@ -1,0 +1,11 @@
+-- `channels::ChannelTypes::merge` meets its contract. Assumes nothing.
+use borrow.Author.Needs.{needs}
+use Rattle.channels.proofs.Arms.{by-root}
+use Rattle.channels.proofs.ChannelTypes.merge.Statement.{statement}
+use Rattle.channels.proofs.ChannelTypes.merge.Tie as tie
+
+returns : tie.Need-returns
+returns c = by-root (c .before .check-root .ensures .0) (c .merge-root .ensures)
+
+pub merge-spec : {M : Type 1} → statement M
+merge-spec = tie.close (tie.spec (λ c κs. search needs) (λ c κs. search needs) returns)
