@@ -3,16 +3,21 @@ use mathlib.Core.Path.{_≡_}
 use mathlib.Core.Bool.{Bool, true, false}
 use mathlib.Core.List.{List, [], _∷_, map}
 use mathlib.Core.Option.{Option, none, some}
-use Prim.Native.Nat.{ℕ, _+_, _-_, _^_}
+use Prim.Native.Nat.{ℕ, suc, _+_, _-_, _^_}
 use lib.IntN.{ℤ, pos, negsuc, negℤ}
+use lib.ListN.{getD, replicate}
 use Rattle.flat.specs.Kind
 use Rattle.flat.specs.Tree.{DataType, leaf, struct, Fields, empty, field}
 use Rattle.datatypes.specs.Cast.{canCastTo}
 use Rattle.flat.specs.Reading.{Reading, type}
+use Rattle.flat.specs.declared.error.Error.the-variants.{NoUpcast}
 use Rattle.datatypes.specs.DynInt.{materializeSmallestDynInt}
 use Rattle.datatypes.specs.Materialize.{materializeUnknown}
 use Rattle.utils_lossless.specs.Lossless.{losslessOf}
 use Rattle.utils_supertype.specs.Pair.{supertypeOf}
+use Rattle.channels.specs.Merge.{mergedOf, codesAfter}
+use Rattle.channels.specs.declared.Merged.{Merged}
+use Rattle.channels.specs.declared.Merged.the-variants.{Held, Refused}
 
 -- what is asked of the rules
 pub data Asked : Type 0 where
@@ -21,13 +26,23 @@ pub data Asked : Type 0 where
   smallest-dyn-int : ℤ → Asked
   can-cast : DataType → DataType → Asked
   materialize : (allow : Bool) → DataType → Asked
+  merge-all : (channels : ℕ) → List DataType → Asked
 
--- what they answer: some type, None or a refusal; a kind; yes, no or no verdict; a type, or that the call is refused
+-- what they answer: some type, None or a refusal; a kind; yes, no or no verdict; a type, or that the call is refused; the answers, and the code that is left
 pub data Answered : Type 0 where
   joined : Option Reading → Answered
   kind : ℕ → Answered
   verdict : Option Bool → Answered
   result : Option DataType → Answered
+  merged : List Merged × ℕ → Answered
+
+-- the columns of these types are merged one after another into channel 0 of the codes
+abbrev pub mergeAll : (channels : ℕ) → List ℕ → List DataType → List Merged × ℕ
+mergeAll channels codes [] = ([], getD codes 0 0)
+mergeAll channels codes (t ∷ ts) =
+    let a = mergedOf channels codes 0 (type t) in
+    let rest = mergeAll channels (codesAfter codes 0 a) ts in
+    (a ∷ rest .0, rest .1)
 
 abbrev pub answer : Asked → Answered
 answer (supertype implode toString l r) = joined (supertypeOf implode toString l r)
@@ -35,6 +50,7 @@ answer (lossless l r) = joined (losslessOf l r)
 answer (smallest-dyn-int v) = kind (materializeSmallestDynInt v)
 answer (can-cast from to) = verdict (canCastTo from to)
 answer (materialize allow t) = result (materializeUnknown allow t)
+answer (merge-all channels ts) = merged (mergeAll channels (replicate channels 0) ts)
 
 pub record Case : Type 0 where
   pub corner : ℕ
@@ -65,6 +81,9 @@ gives t = result (some t)
 abbrev pub refused : Answered
 refused = result none
 
+abbrev pub leaves : List Merged → ℕ → Answered
+leaves answers code = merged (answers, code)
+
 -- a type without an argument
 abbrev pub of : ℕ → DataType
 of k = leaf k 0
@@ -81,9 +100,9 @@ one n t = struct (field n t empty)
 abbrev pub two : ℕ → DataType → DataType → DataType
 two n t u = struct (field n t (field (n + 1) u empty))
 
--- The table, for any flags i (implode) and s (primitive to string) and any fields fs.
-abbrev pub table : Bool → Bool → Fields → List Case
-table i s fs =
+-- The table, for any flags i (implode) and s (primitive to string), any fields fs and any number n of further channels.
+abbrev pub table : Bool → Bool → Fields → ℕ → List Case
+table i s fs n =
     -- 1: Ints are equal whatever they hold, so the left one returns
     case 1 (supertype i s (dyn (pos 1)) (dyn (pos 300))) (joins (dyn (pos 1)))
     ∷ case 1 (supertype i s (dyn (pos 300)) (dyn (pos 1))) (joins (dyn (pos 300)))
@@ -131,8 +150,11 @@ table i s fs =
     ∷ case 15 (materialize false (of Kind.UnknownAny)) refused
     ∷ case 15 (materialize true (two 1 (of Kind.UnknownStr) (of Kind.UnknownAny))) (gives (two 1 (of Kind.String) (of Kind.UnknownAny)))
     ∷ case 15 (materialize false (two 1 (of Kind.UnknownStr) (of Kind.UnknownAny))) refused
+    -- 18: into one channel; 12 leaves the code that was held
+    ∷ case 18 (merge-all (suc n) (of Kind.UInt64 ∷ of Kind.Int8 ∷ of Kind.UInt128 ∷ [])) (leaves (Held Kind.UInt64 ∷ Held Kind.Int128 ∷ Refused NoUpcast ∷ []) Kind.Int128)
+    ∷ case 18 (merge-all (suc n) (of Kind.UInt128 ∷ of Kind.UInt8 ∷ [])) (leaves (Held Kind.UInt128 ∷ Held Kind.UInt128 ∷ []) Kind.UInt128)
     ∷ []
 
 -- The claim: every row's answer is what the definitions answer.
 abbrev pub CasesHold : Type 0
-CasesHold = (i s : Bool) (fs : Fields) → map (λ (c : Case). answer (c .asked)) (table i s fs) ≡ map (λ (c : Case). c .answered) (table i s fs)
+CasesHold = (i s : Bool) (fs : Fields) (n : ℕ) → map (λ (c : Case). answer (c .asked)) (table i s fs n) ≡ map (λ (c : Case). c .answered) (table i s fs n)

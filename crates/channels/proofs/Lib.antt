@@ -1,3 +1,6 @@
--- The laws behind the merges. Those that other crates' proofs cite are `pub`.
+-- The merges meet the definitions, their contracts are the step of a run, and the rule holds of every list of them. What other crates' proofs cite is `pub`.
 pub mod Arms
 mod Contracts
+mod Pages
+mod Models
+pub mod Rule

@@ -6,22 +6,18 @@ use mathlib.Core.List.{List, [], _∷_}
 use Prim.Native.Nat.{ℕ, _≤_, _<_}
 use lib.Dec.{eqb}
 use Rattle.flat.specs.Tree.{DataType, headKind}
-use Rattle.flat.specs.Reading.{Reading, refused, type, reading}
+use Rattle.flat.specs.Reading.{Reading, refused, type}
 use Rattle.flat.specs.declared.error.Error.{Error}
 use Rattle.flat.specs.declared.error.Error.the-variants.{Channel, NotInteger, NoUpcast}
 use Rattle.utils_numbers.specs.Range.{Listed, Least, Room}
 use Rattle.channels.specs.declared.Merged.{Merged}
 use Rattle.channels.specs.declared.Merged.the-variants.{Held, Refused}
 
--- a merge, document 01's offer: a channel, and a flat type of any content
+-- a merge, document 01's offer: a channel, and the column whose type is offered. "A column is the type offered, valid where it passes 1 to 5": its arrays read as a
+-- type, or are refused
 pub record Merge : Type 0 where
   pub channel : ℕ
-  pub kinds : List ℕ
-  pub args : List ℕ
-
--- "A column is the type offered, valid where it passes 1 to 5"
-abbrev pub columnOf : (nodes deep : ℕ) → Merge → Reading
-columnOf nodes deep m = reading nodes deep (m .kinds) (m .args)
+  pub column : Reading
 
 -- "a page of types for each channel": an integer type is its kind
 abbrev pub Model : Type 0
@@ -33,7 +29,7 @@ blank i = []
 
 -- the type k joins the channel's page
 abbrev pub joining : Model → ℕ → ℕ → Model
-joining b channel k i = cond (eqb i channel) (k ∷ b i) (b i)
+joining b channel k i = cond (eqb channel i) (k ∷ b i) (b i)
 
 -- "A channel with an empty page stands at code 0, any other at the code of the type that demand 3 names, taken over the types on its page"
 abbrev pub Stands : List ℕ → ℕ → Type 0
@@ -54,7 +50,7 @@ pub data Enters (channels : ℕ) (b : Model) (channel : ℕ) : Reading → Merge
   no-room : {t : DataType} → channel < channels → Listed (headKind t) → ¬ Room (headKind t ∷ b channel) → Enters channels b channel (type t) (Refused NoUpcast) b
 
 -- The model is fed a list of merges, the latest first in the list: its answers, and the model after them.
-pub data Feeds (channels nodes deep : ℕ) : List Merge → List Merged → Model → Type 0 where
-  none : Feeds channels nodes deep [] [] blank
-  next : {ms : List Merge} {xs : List Merged} {b b′ : Model} {m : Merge} {a : Merged} → Feeds channels nodes deep ms xs b
-      → Enters channels b (m .channel) (columnOf nodes deep m) a b′ → Feeds channels nodes deep (m ∷ ms) (a ∷ xs) b′
+pub data Feeds (channels : ℕ) : List Merge → List Merged → Model → Type 0 where
+  none : Feeds channels [] [] blank
+  next : {ms : List Merge} {xs : List Merged} {b b′ : Model} {m : Merge} {a : Merged} → Feeds channels ms xs b
+      → Enters channels b (m .channel) (m .column) a b′ → Feeds channels (m ∷ ms) (a ∷ xs) b′

@@ -2,7 +2,7 @@
 use mathlib.Core.Path.{_≡_}
 use mathlib.Core.Bool.{cond}
 use mathlib.Core.Logic.{_↔_}
-use mathlib.Core.List.{List, [], _∷_}
+use mathlib.Core.List.{List, [], _∷_, _++_}
 use Prim.Native.Nat.{ℕ, _<_}
 use lib.Dec.{eqb}
 use lib.ListN.{length, getD}
@@ -14,15 +14,16 @@ use Rattle.channels.specs.declared.Merged.{Merged}
 use Rattle.channels.specs.declared.Merged.the-variants.{Held, Refused}
 use Rattle.channels.specs.declared.Outcome.{Outcome}
 use Rattle.channels.specs.Merge.{started, Merges}
-use Rattle.channels.specs.Model.{Merge, columnOf, Model, Stands, Feeds}
+use Rattle.channels.specs.Model.{Merge, Model, Stands, Feeds}
 
--- The merges of a list stand with the latest first: what was merged before a merge is the rest of the list, and every merge of a list is the first of one.
+-- A list of merges stands with the latest first, so that what was merged before a merge is the rest of the list.
 
--- "each offer given the record as the last one left it and nobody else writing it": every step is what the contracts say of a merge
-pub data Run (channels nodes deep : ℕ) (s₀ : ChannelTypes) : List Merge → List Merged → ChannelTypes → Type 0 where
-  none : Run channels nodes deep s₀ [] [] s₀
-  next : {ms : List Merge} {xs : List Merged} {s : ChannelTypes} {m : Merge} {o : Outcome} → Run channels nodes deep s₀ ms xs s
-      → Merges channels s (m .channel) (columnOf nodes deep m) o → Run channels nodes deep s₀ (m ∷ ms) (o .answer ∷ xs) (o .types)
+-- "each offer given the record as the last one left it and nobody else writing it": a step is what the contract of either form says of a merge
+-- (proofs/Contracts.antt)
+pub data Run (channels : ℕ) (s₀ : ChannelTypes) : List Merge → List Merged → ChannelTypes → Type 0 where
+  none : Run channels s₀ [] [] s₀
+  next : {ms : List Merge} {xs : List Merged} {s : ChannelTypes} {m : Merge} {o : Outcome} → Run channels s₀ ms xs s
+      → Merges channels s (m .channel) (m .column) o → Run channels s₀ (m ∷ ms) (o .answer ∷ xs) (o .types)
 
 -- the code of a channel
 abbrev pub codeAt : ChannelTypes → ℕ → ℕ
@@ -42,12 +43,16 @@ abbrev pub kindIn : Reading → ℕ
 kindIn (refused e) = 0
 kindIn (type t) = headKind t
 
--- the types of the columns that were accepted on a channel
-abbrev pub accepted : (nodes deep ch : ℕ) → List Merge → List Merged → List ℕ
-accepted nodes deep ch [] xs = []
-accepted nodes deep ch (m ∷ ms) [] = []
-accepted nodes deep ch (m ∷ ms) (Refused e ∷ xs) = accepted nodes deep ch ms xs
-accepted nodes deep ch (m ∷ ms) (Held c ∷ xs) = cond (eqb (m .channel) ch) (kindIn (columnOf nodes deep m) ∷ accepted nodes deep ch ms xs) (accepted nodes deep ch ms xs)
+-- the types of the columns that were accepted on a channel, by the answers
+abbrev pub accepted : (ch : ℕ) → List Merge → List Merged → List ℕ
+accepted ch [] xs = []
+accepted ch (m ∷ ms) [] = []
+accepted ch (m ∷ ms) (Refused e ∷ xs) = accepted ch ms xs
+accepted ch (m ∷ ms) (Held c ∷ xs) = cond (eqb (m .channel) ch) (kindIn (m .column) ∷ accepted ch ms xs) (accepted ch ms xs)
+
+abbrev pub AllListed : List ℕ → Type 0
+AllListed [] = Unit {0}
+AllListed (k ∷ ks) = Listed k × AllListed ks
 
 -- the merges into one channel, and the answers that they had
 abbrev pub only : ℕ → List Merge → List Merge
@@ -59,28 +64,32 @@ answersTo ch [] xs = []
 answersTo ch (m ∷ ms) [] = []
 answersTo ch (m ∷ ms) (a ∷ xs) = cond (eqb (m .channel) ch) (a ∷ answersTo ch ms xs) (answersTo ch ms xs)
 
-pub record ChannelRule (channels nodes deep : ℕ) : Type 0 where
-  -- every list has a run, from any codes, so that nothing is said of nothing
-  pub runs : (s₀ : ChannelTypes) (ms : List Merge) → (xs : List Merged) × (s : ChannelTypes) × Run channels nodes deep s₀ ms xs s
+-- The claim, of any number of channels: `ChannelTypes` has 32, and `ChannelTypes::empty` gives `started` of them.
+pub record ChannelRule (channels : ℕ) : Type 0 where
+  -- every list has a run, from any codes, so that nothing is said of nothing; and so has what was merged before, so that what is said of the latest merge of a
+  -- list is said of each
+  pub runs : (s₀ : ChannelTypes) (ms : List Merge) → (xs : List Merged) × (s : ChannelTypes) × Run channels s₀ ms xs s
+  pub before : (later ms : List Merge) {xs : List Merged} {s₀ s : ChannelTypes} → Run channels s₀ (later ++ ms) xs s
+      → (ys zs : List Merged) × (t : ChannelTypes) × Run channels s₀ ms zs t × (xs ≡ ys ++ zs)
   -- "After every list each of the 32 codes is where its channel stands in the book, and every offer, accepted or refused, has had the book's answer."
-  pub by-the-model : {ms : List Merge} {xs : List Merged} {s : ChannelTypes} → Run channels nodes deep (started channels) ms xs s
-      → (b : Model) × Feeds channels nodes deep ms xs b × (length (s .codes) ≡ channels) × ((ch : ℕ) → ch < channels → Stands (b ch) (codeAt s ch))
+  pub by-the-model : {ms : List Merge} {xs : List Merged} {s : ChannelTypes} → Run channels (started channels) ms xs s
+      → (b : Model) × Feeds channels ms xs b × (length (s .codes) ≡ channels) × ((ch : ℕ) → ch < channels → Stands (b ch) (codeAt s ch))
   -- and there is no other book: the offers settle its answers and its pages
-  pub one-model : {ms : List Merge} {xs ys : List Merged} {b b′ : Model} → Feeds channels nodes deep ms xs b → Feeds channels nodes deep ms ys b′ → (xs ≡ ys) × (b ≡ b′)
+  pub one-model : {ms : List Merge} {xs ys : List Merged} {b b′ : Model} → Feeds channels ms xs b → Feeds channels ms ys b′ → (xs ≡ ys) × (b ≡ b′)
   -- "no channel ends with a type that misses a number its accepted columns could hold"
-  pub keeps : {ms : List Merge} {xs : List Merged} {s : ChannelTypes} → Run channels nodes deep (started channels) ms xs s
-      → (ch : ℕ) → ch < channels → Covers (codeAt s ch) (accepted nodes deep ch ms xs)
+  pub keeps : {ms : List Merge} {xs : List Merged} {s : ChannelTypes} → Run channels (started channels) ms xs s
+      → (ch : ℕ) → ch < channels → AllListed (accepted ch ms xs) × Covers (codeAt s ch) (accepted ch ms xs)
   -- "After it each channel with an accepted column holds the one listed integer type whose range includes all theirs and lies inside every listed type that does
   -- so; one without is empty."
-  pub holds : {ms : List Merge} {xs : List Merged} {s : ChannelTypes} → Run channels nodes deep (started channels) ms xs s
-      → (ch : ℕ) → ch < channels → Stands (accepted nodes deep ch ms xs) (codeAt s ch)
+  pub holds : {ms : List Merge} {xs : List Merged} {s : ChannelTypes} → Run channels (started channels) ms xs s
+      → (ch : ℕ) → ch < channels → Stands (accepted ch ms xs) (codeAt s ch)
   pub the-one : {ks : List ℕ} {t u : ℕ} → Least t ks → Least u ks → t ≡ u
-  -- "a valid column of a listed integer type, on a valid channel, is refused exactly when no listed type includes its range and those accepted there before"
-  pub refused-when : {ms : List Merge} {xs : List Merged} {s : ChannelTypes} {m : Merge} {a : Merged} {t : DataType} → Run channels nodes deep (started channels) (m ∷ ms) (a ∷ xs) s
-      → columnOf nodes deep m ≡ type t → Listed (headKind t) → m .channel < channels → IsRefused a ↔ (Room (headKind t ∷ accepted nodes deep (m .channel) ms xs) → ⊥)
+  -- "In it a valid column of a listed integer type, on a valid channel, is refused exactly when no listed type includes its range and those accepted there before."
+  pub refused-when : {ms : List Merge} {xs : List Merged} {s : ChannelTypes} {m : Merge} {a : Merged} {t : DataType} → Run channels (started channels) (m ∷ ms) (a ∷ xs) s
+      → m .column ≡ type t → Listed (headKind t) → m .channel < channels → IsRefused a ↔ ¬ Room (headKind t ∷ accepted (m .channel) ms xs)
   -- "Every answer is the code then held or the refusal's number."
-  pub answers : {ms : List Merge} {xs : List Merged} {s : ChannelTypes} {m : Merge} {a : Merged} → Run channels nodes deep (started channels) (m ∷ ms) (a ∷ xs) s
+  pub answers : {ms : List Merge} {xs : List Merged} {s₀ s : ChannelTypes} {m : Merge} {a : Merged} → length (s₀ .codes) ≡ channels → Run channels s₀ (m ∷ ms) (a ∷ xs) s
       → Tells a (codeAt s (m .channel))
   -- "A channel's code and its offers' answers are the same in such a list and in the one that keeps only its own offers, even from a record not started empty."
-  pub alone : (ch : ℕ) {ms : List Merge} {xs ys : List Merged} {s₀ s t : ChannelTypes} → length (s₀ .codes) ≡ channels → Run channels nodes deep s₀ ms xs s → Run channels nodes deep s₀ (only ch ms) ys t
+  pub alone : (ch : ℕ) {ms : List Merge} {xs ys : List Merged} {s₀ s t : ChannelTypes} → length (s₀ .codes) ≡ channels → Run channels s₀ ms xs s → Run channels s₀ (only ch ms) ys t
       → (codeAt s ch ≡ codeAt t ch) × (answersTo ch ms xs ≡ ys)

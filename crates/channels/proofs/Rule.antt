@@ -1,0 +1,152 @@
+-- The rule of the channels' types holds. Assumes nothing.
+use mathlib.Core.Path.{_≡_, refl, sym, ap, _∙_}
+use mathlib.Core.Bool.{Bool, true, false, cond}
+use mathlib.Core.Logic.{_↔_}
+use mathlib.Core.List.{List, [], _∷_, _++_}
+use Prim.Native.Nat.{ℕ, _<_}
+use lib.Dec.{ltb, eqb}
+use lib.ListN.{length, getD, length-set}
+use lib.Seq.{getD-set-same, getD-set-other}
+use borrow.Author.Tests.{ltb-true, eqb-true, eqb-false}
+use Rattle.flat.specs.Tree.{DataType, headKind}
+use Rattle.flat.specs.Reading.{Reading, refused, type}
+use Rattle.flat.specs.declared.error.Error.the-variants.{Channel}
+use Rattle.utils_numbers.specs.Range.{Listed, Covers, Room}
+use Rattle.utils_numbers.proofs.Ranges.{least-one}
+use Rattle.channels.specs.declared.ChannelTypes.{ChannelTypes}
+use Rattle.channels.specs.declared.Merged.{Merged}
+use Rattle.channels.specs.declared.Merged.the-variants.{Held, Refused}
+use Rattle.channels.specs.declared.Outcome.{Outcome}
+use Rattle.channels.specs.Merge.{unless, mergedWith, mergedOf, codesAfter, started, Merges}
+use Rattle.channels.specs.Model.{Merge, Model, Stands, Feeds}
+use Rattle.channels.specs.Rule.{Run, codeAt, IsRefused, Tells, accepted, AllListed, only, answersTo, ChannelRule}
+use Rattle.channels.proofs.Models.{by-model, one-model, pages, all-listed, refused-where}
+
+-- ---- what a merge leaves, whatever the codes are
+
+module _ (codes : List ℕ) (channel : ℕ) where
+  -- as many codes, and those of the other channels
+  after-length : (a : Merged) → length (codesAfter codes channel a) ≡ length codes
+  after-length (Held c) = length-set codes channel c
+  after-length (Refused e) = refl
+
+  after-other : (a : Merged) (ch : ℕ) → (ch ≡ channel → ⊥) → getD (codesAfter codes channel a) ch 0 ≡ getD codes ch 0
+  after-other (Held c) ch n = getD-set-other codes channel ch c 0 n
+  after-other (Refused e) ch n = refl
+
+-- the channel's own code after an answer, where it held this one before
+abbrev codeAfter : ℕ → Merged → ℕ
+codeAfter held (Held c) = c
+codeAfter held (Refused e) = held
+
+module _ (channels : ℕ) where
+  after-own : (codes : List ℕ) (channel : ℕ) (column : Reading) → length codes ≡ channels → getD (codesAfter codes channel (mergedOf channels codes channel column)) channel 0 ≡ codeAfter (getD codes channel 0) (mergedOf channels codes channel column)
+  unfolding mergedOf
+  after-own codes channel (refused e) n = refl
+  after-own codes channel (type t) n = go (ltb channel channels) refl (mergedWith (getD codes channel 0) (headKind t))
+    where
+      go : (x : Bool) → ltb channel channels ≡ x → (a : Merged) → getD (codesAfter codes channel (unless x Channel a)) channel 0 ≡ codeAfter (getD codes channel 0) (unless x Channel a)
+      go false e a = refl
+      go true e (Held c) = getD-set-same codes channel c 0 (rw n (ltb-true channel channels e))
+      go true e (Refused x) = refl
+
+  -- the answer rests on the channel's own code
+  same-answer : (x y : List ℕ) (channel : ℕ) (column : Reading) → getD x channel 0 ≡ getD y channel 0 → mergedOf channels x channel column ≡ mergedOf channels y channel column
+  unfolding mergedOf
+  same-answer x y channel (refused e) h = refl
+  same-answer x y channel (type t) h = rw h
+
+-- the same of a merge
+module _ {channels : ℕ} {s : ChannelTypes} {channel : ℕ} {column : Reading} {o : Outcome} (h : Merges channels s channel column o) where
+  keeps-length : length (o .types .codes) ≡ length (s .codes)
+  keeps-length = rw (h .leaves) (after-length (s .codes) channel (mergedOf channels (s .codes) channel column))
+
+  keeps-other : (ch : ℕ) → (ch ≡ channel → ⊥) → codeAt (o .types) ch ≡ codeAt s ch
+  keeps-other ch n = rw (h .leaves) (after-other (s .codes) channel (mergedOf channels (s .codes) channel column) ch n)
+
+  own-code : length (s .codes) ≡ channels → codeAt (o .types) channel ≡ codeAfter (codeAt s channel) (o .answer)
+  own-code n = rw (h .answers, h .leaves) (after-own channels (s .codes) channel column n)
+
+-- one column merged into a channel of two types, which have the same code there
+same-merge : {channels : ℕ} {s t : ChannelTypes} {channel : ℕ} {column : Reading} {o p : Outcome} → Merges channels s channel column o → Merges channels t channel column p
+    → length (s .codes) ≡ channels → length (t .codes) ≡ channels → codeAt s channel ≡ codeAt t channel → (codeAt (o .types) channel ≡ codeAt (p .types) channel) × (o .answer ≡ p .answer)
+same-merge {channels} {s} {t} {channel} {column} {o} {p} h g m n e =
+    let a : o .answer ≡ p .answer = h .answers ∙ same-answer channels (s .codes) (t .codes) channel column e ∙ sym (g .answers) in
+    (cc (own-code h m, own-code g n), a)
+
+-- an answer is the code after it
+tells : (held : ℕ) (a : Merged) {code : ℕ} → code ≡ codeAfter held a → Tells a code
+tells held (Held c) e = sym e
+tells held (Refused x) e = tt
+
+-- ---- lists of merges, from any codes
+
+module _ {channels : ℕ} where
+  -- every list has a run
+  run-of : (s₀ : ChannelTypes) (ms : List Merge) → (xs : List Merged) × (s : ChannelTypes) × Run channels s₀ ms xs s
+  run-of s₀ [] = ([], s₀, Run.none)
+  run-of s₀ (m ∷ ms) =
+      let r = run-of s₀ ms in
+      let a : Merged = mergedOf channels (r .1 .codes) (m .channel) (m .column) in
+      let o : Outcome = record { types = record { codes = codesAfter (r .1 .codes) (m .channel) a }; answer = a } in
+      (a ∷ r .0, o .types, Run.next {o = o} (r .2) (record { answers = refl; leaves = refl }))
+
+  run-length : {ms : List Merge} {xs : List Merged} {s₀ s : ChannelTypes} → Run channels s₀ ms xs s → length (s .codes) ≡ length (s₀ .codes)
+  run-length Run.none = refl
+  run-length (Run.next r h) = keeps-length h ∙ run-length r
+
+  -- what was merged before is a run too
+  before : (later ms : List Merge) {xs : List Merged} {s₀ s : ChannelTypes} → Run channels s₀ (later ++ ms) xs s → (ys zs : List Merged) × (t : ChannelTypes) × Run channels s₀ ms zs t × (xs ≡ ys ++ zs)
+  before [] ms {xs} {s₀} {s} r = ([], xs, s, r, refl)
+  before (m ∷ later) ms (Run.next {o = o} r h) = let e = before later ms r in (o .answer ∷ e .0, e .1, e .2, e .3, ap (o .answer ∷_) (e .4))
+
+  answers : {ms : List Merge} {xs : List Merged} {s₀ s : ChannelTypes} {m : Merge} {a : Merged} → length (s₀ .codes) ≡ channels → Run channels s₀ (m ∷ ms) (a ∷ xs) s → Tells a (codeAt s (m .channel))
+  answers n (Run.next {s = s} {m = m} {o = o} r h) = tells (codeAt s (m .channel)) (o .answer) (own-code h (run-length r ∙ n))
+
+  -- a merge into another channel leaves this one as it was; one into this channel is in both lists
+  alone : (ch : ℕ) {ms : List Merge} {xs ys : List Merged} {s₀ s t : ChannelTypes} → length (s₀ .codes) ≡ channels → Run channels s₀ ms xs s → Run channels s₀ (only ch ms) ys t → (codeAt s ch ≡ codeAt t ch) × (answersTo ch ms xs ≡ ys)
+  alone ch n Run.none Run.none = (refl, refl)
+  alone ch {s₀ = s₀} n (Run.next {ms = ms} {xs = xs} {s = s} {m = m} {o = o} r h) q = go (eqb (m .channel) ch) refl (λ zs u p. alone ch n r p) q
+    where
+      go : {ys : List Merged} {t : ChannelTypes} (own : Bool) → eqb (m .channel) ch ≡ own
+          → ((zs : List Merged) (u : ChannelTypes) → Run channels s₀ (only ch ms) zs u → (codeAt s ch ≡ codeAt u ch) × (answersTo ch ms xs ≡ zs))
+          → Run channels s₀ (cond own (m ∷ only ch ms) (only ch ms)) ys t
+          → (codeAt (o .types) ch ≡ codeAt t ch) × (cond own (o .answer ∷ answersTo ch ms xs) (answersTo ch ms xs) ≡ ys)
+      go true e rest (Run.next {xs = zs} {s = u} r′ h′) =
+          let b = rest zs u r′ in
+          let d : m .channel ≡ ch = eqb-true (m .channel) ch e in
+          let a = same-merge h h′ (run-length r ∙ n) (run-length r′ ∙ n) (rw d (b .0)) in
+          (rw d at (a .0), cc)
+      go {ys} {t} false e rest r′ = let b = rest ys t r′ in (keeps-other h ch (λ d. eqb-false (m .channel) ch e (sym d)) ∙ b .0, b .1)
+
+-- ---- lists of merges, from types started empty
+
+-- where a channel stands, it covers its page
+covers-where : (ks : List ℕ) (c : ℕ) → Stands ks c → Covers c ks
+covers-where [] c e = tt
+covers-where (k ∷ ks) c m = m .covers
+
+module _ {channels : ℕ} where
+  holds : {ms : List Merge} {xs : List Merged} {s : ChannelTypes} → Run channels (started channels) ms xs s → (ch : ℕ) → ch < channels → Stands (accepted ch ms xs) (codeAt s ch)
+  holds r ch l = let g = by-model r in rw (pages (g .1) ch) at (g .2 .stands ch l)
+
+  keeps : {ms : List Merge} {xs : List Merged} {s : ChannelTypes} → Run channels (started channels) ms xs s → (ch : ℕ) → ch < channels → AllListed (accepted ch ms xs) × Covers (codeAt s ch) (accepted ch ms xs)
+  keeps {ms} {xs} {s} r ch l = let f = by-model r .1 in (rw (pages f ch) at (all-listed f ch), covers-where (accepted ch ms xs) (codeAt s ch) (holds r ch l))
+
+  refused-when : {ms : List Merge} {xs : List Merged} {m : Merge} {a : Merged} {t : DataType} {b : Model} → Feeds channels (m ∷ ms) (a ∷ xs) b
+      → m .column ≡ type t → Listed (headKind t) → m .channel < channels → IsRefused a ↔ ¬ Room (headKind t ∷ accepted (m .channel) ms xs)
+  refused-when {m = m} (Feeds.next f e) q i l = rw (← pages f (m .channel)) (refused-where (rw q at e) l i)
+
+pub channel-rule : (channels : ℕ) → ChannelRule channels
+channel-rule channels = record {
+  runs = run-of;
+  before = before;
+  by-the-model = λ r. let g = by-model r in (g .0, g .1, g .2 .size, g .2 .stands);
+  one-model = one-model;
+  keeps = keeps;
+  holds = holds;
+  the-one = least-one;
+  refused-when = λ r. refused-when (by-model r .1);
+  answers = answers;
+  alone = alone;
+}
