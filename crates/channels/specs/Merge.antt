@@ -51,8 +51,7 @@ upcastHeld Nothing = Refused NoUpcast
 -- the type is kept; an equal type keeps the held one; otherwise the lossless upcast of held and offered is kept.
 unfoldable pub mergedWith : ℕ → ℕ → Merged
 mergedWith held k =
-    unless (eqb held 0 || isListed held) ChannelCode
-    (unless (isListed k) NotInteger
+    unless (eqb held 0 || isListed held) ChannelCode (unless (isListed k) NotInteger
     (choose (eqb held 0) (Held k)
     (choose (eqb held k) (Held held)
     (upcastHeld (upcastOf held k)))))

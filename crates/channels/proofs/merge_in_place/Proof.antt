@@ -17,7 +17,7 @@ use prog.Wp.{Heap, Calls, Loops, WpFn, Tables}
 use ghost.Atoms.{Atoms, sem}
 use contract.Monad.{Fun}
 use contract.Running.{givenOf, tables, tablesOf}
-use types.Kit.{Given, Item, ‵, raw, _⊛_, some, later, _$_, _∵_, !, qed, by, move, keep, drop, use1, use2, use3, ⋆, split, join, pick, rewrite, fsplit, fsplit3, fjoin, fjoin3, feqI, frame, await, done}
+use types.Kit.{Given, Item, ‵, raw, _⊛_, some, later, _$_, _∵_, !, qed, by, move, keep, drop, use1, use3, ⋆, split, join, pick, rewrite, fsplit, fsplit3, fjoin, fjoin3, feqI, frame, await, done}
 use types.Run.{look, look-raw, init, store-raw, forget, stop, hop, fld, from, load, and-then, no-more, of-opd, assigns, land, returns, enter, alloc1, alloc0, params1, pass1, pass0, free1, free0}
 use types.Part.{whole, sub, look-in}
 use types.SemTy.{Body}
@@ -25,11 +25,11 @@ use sound.WpLaws.{FmC, fmOf, WpFn-mono}
 use denote.RattleType.{owns}
 use denote.Laws.{Is, shows}
 use denote.Memory.{mem}
-use denote.Plain.{uint-vals, uint-tells, uint-makes}
+use denote.Plain.{uint-vals, uint-tells}
 use denote.Builtin.{u8, u64, usize}
 use denote.Ref.{RefT, MutRef, ptr-vals, mut-tells, now}
-use denote.Slice.{sliceVal, ShrSlice, slice-vals, shr-slice-tells, shr-slice-lawful, shr-slice-copy}
-use denote.Signature.{plain}
+use denote.Slice.{sliceVal, ShrSlice, slice-vals, shr-slice-tells, shr-slice-lawful}
+use denote.Signature.{plain, shrSliceOf}
 use denote.Steps.{only, opens, closes, owned, peeks, nothing}
 use denote.Struct.Steps.{spelt}
 use denote.Struct.Laws as LL
@@ -39,7 +39,7 @@ use denote.Triple.Call.{calls-at}
 use denote.Triple.Entry.{onEntry}
 use denote.Triple.Spec.{Meets, tripleOf}
 use denote.Triple.Table.{entered, cited}
-use denote.Triple.Walked.{Stays, stay-ref, stay-none, stay-none-slice, walkOf, onExit, AllGo, goes-none, goes-none-slice, goes-ref, Walks, ends-at, walked, walk-meets}
+use denote.Triple.Walked.{Stays, stay-ref, stay-dropped, walkOf, onExit, AllGo, goes-dropped, goes-ref, Walks, ends-at, walked, walk-meets}
 use denote.Exit.{yes}
 use denote.Triple.Clauses.{ensured, lasts}
 use Rattle.channels.specs.declared.ChannelTypes.{ChannelTypes}
@@ -64,7 +64,7 @@ abbrev Arg : Type 0
 Arg = RefT ChannelTypes × (ℕ × (RefT (List ℕ) × (RefT (List ℕ) × Unit {0})))
 
 abbrev stayed : Stays (lent.ended .signature .params) (lent.ended .kept)
-stayed = (stay-ref (0 ∷ []) tt (plain (λ _. S.the-row)), (stay-none (λ _. usize) yes, (stay-none-slice (1 ∷ []) tt (plain (λ _. u8)) yes, (stay-none-slice (2 ∷ []) tt (plain (λ _. u64)) yes, tt))))
+stayed = (stay-ref (0 ∷ []) tt (plain (λ _. S.the-row)), (stay-dropped _ yes, (stay-dropped _ yes, (stay-dropped _ yes, tt))))
 
 abbrev val : ChannelTypes → Val
 val = LL.val S.the-type S′.the-laws
@@ -96,32 +96,26 @@ module _ {M : Type 1} (𝓤 : URA M) (H : Heap 𝓤) (A : Atoms 𝓤) (W : Given
   abbrev Post : Val → SProp 𝓤
   Post = walkOf 𝓤 H A lent.ended stayed (lent.clauses 𝓤 H A at-mem run) .post y
 
-  -- the tokens of the slices' lifetimes, and what the number and the slices own
+  -- the tokens of the slices' lifetimes, and what the number and the slices own, which the callee is given for good
   abbrev toks : Item 𝓤
   toks = ‵ (flft κ₁ q₁) ⊛ (‵ (flft κ₂ q₂) ⊛ ‵ ftrue)
 
   abbrev others : Fml
   others = owns (usize ∷ ShrSlice (named 1) κ₁ u8 ∷ ShrSlice (named 2) κ₂ u64 ∷ []) (n, (s, (t, tt))) (vint w64 n ∷ [], (sv ∷ [], (tv ∷ [], tt)))
 
-  abbrev Own-s : Fml
-  Own-s = ShrSlice (named 1) κ₁ u8 .own s (sv ∷ [])
-
-  abbrev Own-t : Fml
-  Own-t = ShrSlice (named 2) κ₂ u64 .own t (tv ∷ [])
-
   -- what the contract says of an outcome
   abbrev Said : Outcome → SProp 𝓤
   Said r = lent.clauses 𝓤 H A at-mem run (κ, (κ₁, (κ₂, tt))) x .ensures tt (r .answer) (record { ptr = (b, o); name = γ; now = r .types }, (n, (s, (t, tt))))
 
-  -- what is had at the return: the tokens of the slices' lifetimes, the last value, the borrow, its token, and what the number and the slices own
+  -- what is had at the return: the tokens of the slices' lifetimes, the last value, the borrow and its token
   abbrev had : Outcome → List (Item 𝓤)
-  had r = toks ∷ ‵ (fobs γ (S.the-row .coded .code (r .types))) ∷ ‵ (fbor κ (Body (mem S.the-row) b o γ)) ∷ ‵ (flft κ q) ∷ ‵ others ∷ []
+  had r = toks ∷ ‵ (fobs γ (S.the-row .coded .code (r .types))) ∷ ‵ (fbor κ (Body (mem S.the-row) b o γ)) ∷ ‵ (flft κ q) ∷ []
 
   hands-back : (r : Outcome) → Is N.the-row (r .answer) (answer-val (r .answer) ∷ [])
       → ent 𝓤 (⋆ 𝓤 H A (had r)) (onExit 𝓤 H A lent.ended stayed (κ, (κ₁, (κ₂, tt))) (q, (q₁, (q₂, tt))) at (answer-val (r .answer)) (r .answer) x (r .types, (tt, (tt, (tt, tt)))))
   hands-back r is =
       qed W (had r) ∵ move ! (3 ∷ 0 ∷ []) $ join ! $
-      frame ! $ feqI ! (List Val) (vptr b o ∷ []) (vptr b o ∷ []) refl $ fjoin3 ! $ fjoin ! $
+      frame ! $ feqI ! (List Val) (vptr b o ∷ []) (vptr b o ∷ []) refl $ fjoin3 ! $ nothing ! $ nothing ! $ fjoin ! $ nothing ! $ fjoin ! $ nothing ! $ fjoin ! $ move ! (1 ∷ 0 ∷ []) $ fjoin ! $
       owned ! N.the-row (Is N.the-row) (EL.makes N.the-type N′.the-plain 𝓤 H A) (r .answer) _ is $ move ! (1 ∷ 0 ∷ []) $ done !
 
   ends : (r : Outcome) → Is N.the-row (r .answer) (answer-val (r .answer) ∷ []) → ent 𝓤 (⋆ 𝓤 H A (raw (Said r) ∷ had r)) (Post (answer-val (r .answer)))
@@ -130,30 +124,17 @@ module _ {M : Type 1} (𝓤 : URA M) (H : Heap 𝓤) (A : Atoms 𝓤) (W : Given
       (ends-at 𝓤 H A lent.ended stayed (lent.clauses 𝓤 H A at-mem run) W y (answer-val (r .answer)) (r .answer) (r .types, (tt, (tt, (tt, tt)))) (tt, (tt, (tt, (tt, tt)))))
 
   exits : (r : Outcome) → Is N.the-row (r .answer) (answer-val (r .answer) ∷ [])
-      → ent 𝓤 (⋆ 𝓤 H A (‵ (fobs γ (S.the-row .coded .code (r .types))) ∷ ‵ (fbor κ (Body (mem S.the-row) b o γ)) ∷ ‵ (flft κ q) ∷ (toks ⊛ raw (Said r)) ∷ ‵ others ∷ [])) (Post (answer-val (r .answer)))
+      → ent 𝓤 (⋆ 𝓤 H A (‵ (fobs γ (S.the-row .coded .code (r .types))) ∷ ‵ (fbor κ (Body (mem S.the-row) b o γ)) ∷ ‵ (flft κ q) ∷ (toks ⊛ raw (Said r)) ∷ [])) (Post (answer-val (r .answer)))
   exits r is =
-      qed W (‵ (fobs γ (S.the-row .coded .code (r .types))) ∷ ‵ (fbor κ (Body (mem S.the-row) b o γ)) ∷ ‵ (flft κ q) ∷ (toks ⊛ raw (Said r)) ∷ ‵ others ∷ []) ∵
+      qed W (‵ (fobs γ (S.the-row .coded .code (r .types))) ∷ ‵ (fbor κ (Body (mem S.the-row) b o γ)) ∷ ‵ (flft κ q) ∷ (toks ⊛ raw (Said r)) ∷ []) ∵
       move ! (3 ∷ []) $ split ! $ move ! (1 ∷ 0 ∷ []) $ by ! (ends r is)
 
   abbrev to-merge : Merge 𝓤 H A at-mem run .Ghost
   to-merge = (((κ₁, (κ₂, tt)), (q₁, (q₂, tt)), tt, (h, (n, (s, (t, tt)))), (val h ∷ [], (vint w64 n ∷ [], (sv ∷ [], (tv ∷ [], tt))))), tt)
 
-  abbrev passed : Fml
-  passed = owns (S.the-row ∷ usize ∷ ShrSlice (named 0) κ₁ u8 ∷ ShrSlice (named 1) κ₂ u64 ∷ []) (h, (n, (s, (t, tt)))) (val h ∷ [], (vint w64 n ∷ [], (sv ∷ [], (tv ∷ [], tt))))
-
-  asked : ent 𝓤 (⋆ 𝓤 H A (toks ∷ ‵ passed ∷ [])) (Merge 𝓤 H A at-mem run .pre to-merge)
-  asked = qed W (toks ∷ ‵ passed ∷ []) ∵ join ! $ frame ! $ done !
-
-  -- what the record, the number and the slices own gives what the callee asks, and what the number and the slices own is kept
-  goes-merge : n < 2 ^ 64 → ent 𝓤 (⋆ 𝓤 H A (‵ (S.the-row .own h (val h ∷ [])) ∷ ‵ others ∷ toks ∷ [])) (sep 𝓤 (Merge 𝓤 H A at-mem run .pre to-merge) (sem 𝓤 H A others))
-  goes-merge gn =
-      qed W (‵ (S.the-row .own h (val h ∷ [])) ∷ ‵ others ∷ toks ∷ []) ∵ move ! (1 ∷ []) $ fsplit ! $ drop ! $ fsplit ! $
-      use1 W (‵ Own-s ⊛ ‵ Own-s) (shr-slice-copy 𝓤 H A W (named 1) κ₁ u8 .twice s (sv ∷ [])) $ split ! $ move ! (2 ∷ []) $ fsplit ! $
-      use1 W (‵ Own-t ⊛ ‵ Own-t) (shr-slice-copy 𝓤 H A W (named 2) κ₂ u64 .twice t (tv ∷ [])) $ split ! $
-      -- [args; args; true; kinds; kinds; the record; the tokens]
-      move ! (0 ∷ 2 ∷ []) $ fjoin ! $ move ! (2 ∷ 0 ∷ []) $ fjoin ! $ owned ! usize (Is usize) (uint-makes 𝓤 H A W w64) n _ (refl, gn) $ fjoin ! $
-      move ! (1 ∷ []) $ nothing ! $ move ! (1 ∷ 0 ∷ []) $ fjoin ! $ move ! (2 ∷ 0 ∷ []) $ fjoin ! $ owned ! usize (Is usize) (uint-makes 𝓤 H A W w64) n _ (refl, gn) $ fjoin ! $
-      move ! (2 ∷ 0 ∷ []) $ fjoin ! $ move ! (2 ∷ 0 ∷ []) $ use2 W (raw (Merge 𝓤 H A at-mem run .pre to-merge)) asked $ frame ! $ done !
+  -- the record that was copied out, the number, the slices and the tokens are what the callee asks
+  asked : ent 𝓤 (⋆ 𝓤 H A (‵ (S.the-row .own h (val h ∷ [])) ∷ ‵ others ∷ toks ∷ [])) (Merge 𝓤 H A at-mem run .pre to-merge)
+  asked = qed W (‵ (S.the-row .own h (val h ∷ [])) ∷ ‵ others ∷ toks ∷ []) ∵ fjoin ! $ move ! (1 ∷ 0 ∷ []) $ join ! $ frame ! $ done !
 
   -- the callee's contract says the same of it
   said : (r : Outcome) → ent 𝓤 (ensured 𝓤 H A merge.ended (merge.clauses 𝓤 H A at-mem run) (κ₁, (κ₂, tt)) (h, (n, (s, (t, tt)))) tt r) (Said r)
@@ -172,20 +153,20 @@ module _ {M : Type 1} (𝓤 : URA M) (H : Heap 𝓤) (A : Atoms 𝓤) (W : Given
         move ! (1 ∷ []) $ peeks ! S.the-row (Is S.the-row) (shows 𝓤 H A S.the-row) h (val h ∷ []) (λ was. move ! (1 ∷ 0 ∷ []) $
         -- [the record's cell; what it owns; the open borrow; obs; auth; room for _6; …; room for _5; …; _4; …; _3; …; _2; …; _1; …; room for _0; …; the others; the tokens]
         assigns ! (of-opd ! (load ! (from ! (hop ! (look ! 15 refl) (stop !))) (look-raw ! 0 refl))) (from ! (stop !)) (init ! 5 refl (LL.lawful S.the-type S′.the-laws 𝓤 H A W .typed h _ was .0)) $
-        move ! (1 ∷ 19 ∷ 20 ∷ []) $ use3 W (raw (Merge 𝓤 H A at-mem run .pre to-merge) ⊛ ‵ others) (goes-merge gn) $ split ! $
-        calls-at ! fm (Merge 𝓤 H A at-mem run) known to-merge (and-then ! (load ! (from ! (stop !)) (look ! 6 refl)) (and-then ! (load ! (from ! (stop !)) (look ! 14 refl)) (and-then ! (load ! (from ! (stop !)) (look ! 12 refl)) (and-then ! (load ! (from ! (stop !)) (look ! 10 refl)) (no-more !))))) (λ v.
+        move ! (1 ∷ 19 ∷ 20 ∷ []) $ use3 W (raw (Merge 𝓤 H A at-mem run .pre to-merge)) asked $
+        calls-at ! fm (Merge 𝓤 H A at-mem run) known to-merge (and-then ! (load ! (from ! (stop !)) (look ! 5 refl)) (and-then ! (load ! (from ! (stop !)) (look ! 13 refl)) (and-then ! (load ! (from ! (stop !)) (look ! 11 refl)) (and-then ! (load ! (from ! (stop !)) (look ! 9 refl)) (no-more !))))) (λ v.
         use1 W (later (some (λ (r : Outcome). (toks ⊛ ‵ (O.the-row .own r (v ∷ []))) ⊛ raw (ensured 𝓤 H A merge.ended (merge.clauses 𝓤 H A at-mem run) (κ₁, (κ₂, tt)) (h, (n, (s, (t, tt)))) tt r)))) (id⊢ 𝓤 _) $ await ! tt $ pick ! (λ r.
         split ! $ move ! (1 ∷ []) $ use1 W (raw (Said r)) (said r) $ move ! (1 ∷ 0 ∷ []) $ split ! $ move ! (0 ∷ 2 ∷ []) $ join ! $ move ! (1 ∷ []) $
         peeks ! O.the-row (Is O.the-row) (shows 𝓤 H A O.the-row) r (v ∷ []) (λ is.
-        -- [what the result owns; the tokens with what was said; the others; the record's cell; the open borrow; obs; auth; _6; …; room for _5; …]
-        land ! (from ! (stop !)) (init ! 9 refl (LL.lawful O.the-type O′.the-laws 𝓤 H A W .typed r _ is .0)) $
-        rewrite ! 9 (λ (u : Val). ‵ (fat fullShare O′.mir l₅ zero u)) (ap only (LL.tells O.the-type O′.the-laws r (v ∷ []) is)) refl $
-        assigns ! (of-opd ! (load ! (from ! (fld ! refl (stop !))) (look-in ! 9 (sub ! 0 refl (whole !))))) (from ! (hop ! (look ! 17 refl) (stop !))) (store-raw ! 3 refl (LL.lawful S.the-type S′.the-laws 𝓤 H A W .typed (r .types) _ (LL.owed O.the-type O′.the-laws r (v ∷ []) is .0) .0)) $
-        assigns ! (of-opd ! (load ! (from ! (fld ! refl (stop !))) (look-in ! 9 (sub ! 1 refl (whole !))))) (from ! (stop !)) (init ! 19 refl (EL.lawful N.the-type N′.the-laws 𝓤 H A W tt .typed (r .answer) _ (LL.owed O.the-type O′.the-laws r (v ∷ []) is .1 .0) .0)) $
-        drop ! $ owned ! S.the-row (Is S.the-row) (LL.makes S.the-type S′.the-plain 𝓤 H A) (r .types) _ (LL.owed O.the-type O′.the-laws r (v ∷ []) is .0) $ move ! (3 ∷ 0 ∷ 4 ∷ 5 ∷ 6 ∷ []) $ closes ! tt S.the-row (r .types) (val (r .types) ∷ []) b o $
-        returns ! (look ! 17 refl) $ forget ! 5 refl $ forget ! 7 refl $ forget ! 9 refl $ forget ! 11 refl $ forget ! 13 refl $ forget ! 15 refl $ forget ! 17 refl $
-        move ! (17 ∷ 18 ∷ []) $ free1 ! $ move ! (15 ∷ 16 ∷ []) $ free1 ! $ move ! (13 ∷ 14 ∷ []) $ free1 ! $ move ! (11 ∷ 12 ∷ []) $ free1 ! $ move ! (9 ∷ 10 ∷ []) $ free1 ! $ move ! (7 ∷ 8 ∷ []) $ free1 ! $ move ! (5 ∷ 6 ∷ []) $ free1 ! $ free0 ! $
-        keep ! (0 ∷ 1 ∷ 2 ∷ 3 ∷ 4 ∷ []) $ by ! (exits r (LL.owed O.the-type O′.the-laws r (v ∷ []) is .1 .0))))))))))))))
+        -- [what the result owns; the tokens with what was said; the record's cell; the open borrow; obs; auth; _6; …; room for _5; …]
+        land ! (from ! (stop !)) (init ! 8 refl (LL.lawful O.the-type O′.the-laws 𝓤 H A W .typed r _ is .0)) $
+        rewrite ! 8 (λ (u : Val). ‵ (fat fullShare O′.mir l₅ zero u)) (ap only (LL.tells O.the-type O′.the-laws r (v ∷ []) is)) refl $
+        assigns ! (of-opd ! (load ! (from ! (fld ! refl (stop !))) (look-in ! 8 (sub ! 0 refl (whole !))))) (from ! (hop ! (look ! 16 refl) (stop !))) (store-raw ! 2 refl (LL.lawful S.the-type S′.the-laws 𝓤 H A W .typed (r .types) _ (LL.owed O.the-type O′.the-laws r (v ∷ []) is .0) .0)) $
+        assigns ! (of-opd ! (load ! (from ! (fld ! refl (stop !))) (look-in ! 8 (sub ! 1 refl (whole !))))) (from ! (stop !)) (init ! 18 refl (EL.lawful N.the-type N′.the-laws 𝓤 H A W tt .typed (r .answer) _ (LL.owed O.the-type O′.the-laws r (v ∷ []) is .1 .0) .0)) $
+        drop ! $ owned ! S.the-row (Is S.the-row) (LL.makes S.the-type S′.the-plain 𝓤 H A) (r .types) _ (LL.owed O.the-type O′.the-laws r (v ∷ []) is .0) $ move ! (2 ∷ 0 ∷ 3 ∷ 4 ∷ 5 ∷ []) $ closes ! tt S.the-row (r .types) (val (r .types) ∷ []) b o $
+        returns ! (look ! 16 refl) $ forget ! 4 refl $ forget ! 6 refl $ forget ! 8 refl $ forget ! 10 refl $ forget ! 12 refl $ forget ! 14 refl $ forget ! 16 refl $
+        move ! (16 ∷ 17 ∷ []) $ free1 ! $ move ! (14 ∷ 15 ∷ []) $ free1 ! $ move ! (12 ∷ 13 ∷ []) $ free1 ! $ move ! (10 ∷ 11 ∷ []) $ free1 ! $ move ! (8 ∷ 9 ∷ []) $ free1 ! $ move ! (6 ∷ 7 ∷ []) $ free1 ! $ move ! (4 ∷ 5 ∷ []) $ free1 ! $ free0 ! $
+        keep ! (0 ∷ 1 ∷ 2 ∷ 3 ∷ []) $ by ! (exits r (LL.owed O.the-type O′.the-laws r (v ∷ []) is .1 .0))))))))))))))
 
 module _ {M : Type 1} (𝓤 : URA M) (H : Heap 𝓤) (A : Atoms 𝓤) (W : Given 𝓤 H A) (at-mem : Memory → SProp 𝓤) (run : Routine → Fun 𝓤) where
   lent-walks : (C : Calls 𝓤 H) (Λ : Loops 𝓤 H) → FmC 𝓤 H (W .laws) C → Triple 𝓤 (C #merge) (Merge 𝓤 H A at-mem run) → Walks 𝓤 H A lent.ended stayed (WpFn 𝓤 H C Λ code.function) (lent.clauses 𝓤 H A at-mem run)
@@ -193,7 +174,7 @@ module _ {M : Type 1} (𝓤 : URA M) (H : Heap 𝓤) (A : Atoms 𝓤) (W : Given
       (λ κs qs bounds a _ are. via 𝓤 _ (fst∗ 𝓤 _ (emp 𝓤)) (walk 𝓤 H A W at-mem run (κs .0) (κs .1 .0) (κs .1 .1 .0) (qs .0) (qs .1 .0) (qs .1 .1 .0) (a .0 .ptr .0) (a .0 .ptr .1) (a .0 .name) (a .0 .now) (a .1 .0) (a .1 .1 .0) (a .1 .1 .1 .0) C Λ fm known (are .1 .0 .1) (are .1 .1 .0) (are .1 .1 .1 .0)))
 
   goes : AllGo 𝓤 H A W 3 (lent.signature .params) (lent.ended .kept) stayed
-  goes = (goes-ref 𝓤 H A W 3 0 tt (plain (λ _. S.the-row)), (goes-none 𝓤 H A W 3 (λ _. usize) yes (λ κs x f. refl), (goes-none-slice 𝓤 H A W 3 (1 ∷ []) tt (plain (λ _. u8)) yes, (goes-none-slice 𝓤 H A W 3 (2 ∷ []) tt (plain (λ _. u64)) yes, tt))))
+  goes = (goes-ref 𝓤 H A W 3 0 tt (plain (λ _. S.the-row)), (goes-dropped 𝓤 H A W 3 (plain (λ _. usize)) yes (λ κs x f. refl), (goes-dropped 𝓤 H A W 3 (shrSliceOf (1 ∷ []) tt (plain (λ _. u8))) yes (λ κs x f. refl), (goes-dropped 𝓤 H A W 3 (shrSliceOf (2 ∷ []) tt (plain (λ _. u64))) yes (λ κs x f. refl), tt))))
 
 lent-meets : {M : Type 1} (𝓤 : URA M) (H : Heap 𝓤) (A : Atoms 𝓤) (W : Given 𝓤 H A) (at-mem : Memory → SProp 𝓤) (run : Routine → Fun 𝓤) (𝓣 : Tables 𝓤 H)
     → Triple 𝓤 (𝓣 .C #merge) (Merge 𝓤 H A at-mem run)
