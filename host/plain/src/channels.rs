@@ -103,19 +103,19 @@ impl Model {
     /// An offer: where its channel then stands, or the refusal, which changes no page.
     pub fn merge(&mut self, channel: usize, kinds: &[u8], args: &[u64]) -> Result<u8, Refusal> {
         check(kinds, args)?;
-        let page = self.accepted.get_mut(channel).ok_or(Refusal::Channel)?;
-        let offered = place(kinds[0]).ok_or(Refusal::NotInteger)?;
-        let mut joined = *page;
-        joined[offered] = true;
-        let code = innermost(joined).ok_or(Refusal::NoUpcast)?;
-        *page = joined;
+        let accepted = self.accepted.get_mut(channel).ok_or(Refusal::Channel)?;
+        let column = place(kinds[0]).ok_or(Refusal::NotInteger)?;
+        let mut with_column = *accepted;
+        with_column[column] = true;
+        let code = innermost(with_column).ok_or(Refusal::NoUpcast)?;
+        *accepted = with_column;
         Ok(code)
     }
 
     /// Where a channel, below 32, stands: code 0 with an empty page.
     pub fn code(&self, channel: usize) -> u8 {
         match self.accepted[channel] {
-            page if page.contains(&true) => innermost(page).expect("what was accepted is included in a listed type"),
+            types if types.contains(&true) => innermost(types).expect("what was accepted is included in a listed type"),
             _ => 0,
         }
     }
@@ -136,19 +136,19 @@ pub fn merged(held: u8, kind: u8) -> Result<u8, Refusal> {
     if held != 0 && before.is_none() {
         return Err(Refusal::ChannelCode);
     }
-    let offered = place(kind).ok_or(Refusal::NotInteger)?;
+    let column = place(kind).ok_or(Refusal::NotInteger)?;
     match before {
         None => Ok(kind),
-        Some(before) if before == offered => Ok(held),
-        Some(before) => upcast(before, offered).ok_or(Refusal::NoUpcast),
+        Some(before) if before == column => Ok(held),
+        Some(before) => upcast(before, column).ok_or(Refusal::NoUpcast),
     }
 }
 
 /// The code of the lossless upcast of the listed types at two places.
-fn upcast(held: usize, offered: usize) -> Option<u8> {
+fn upcast(left: usize, right: usize) -> Option<u8> {
     let mut both = Types::default();
-    both[held] = true;
-    both[offered] = true;
+    both[left] = true;
+    both[right] = true;
     innermost(both)
 }
 
@@ -187,8 +187,8 @@ mod tests {
     fn the_model_and_the_merge_agree() {
         for list in 0..LISTED.len().pow(4) {
             let (mut model, mut codes) = (Model::new(), [0; CHANNELS]);
-            for offer in 0..4 {
-                let kinds = [LISTED[list / LISTED.len().pow(offer) % LISTED.len()].code];
+            for at in 0..4 {
+                let kinds = [LISTED[list / LISTED.len().pow(at) % LISTED.len()].code];
                 let answer = model.merge(7, &kinds, &[0]);
                 assert_eq!((answer, model.code(7)), (merge(&mut codes, 7, &kinds, &[0]), codes[7]), "{list}");
             }
