@@ -6,9 +6,10 @@
  * same in bytes: the number of nodes n (2 bytes, low byte first), n kinds, then n
  * arguments of 8 bytes each, low byte first: 2 + 9 * n bytes.
  *
- * Every array passes as a pointer and its number of elements. An array of length 0
- * may have any pointer, null included. An output never overlaps an input or another
- * output. No function keeps a pointer, allocates or has state of its own.
+ * Every array passes as a pointer and its number of elements, but for the codes of the
+ * channels, which are always LZ_CHANNELS. An array of length 0 may have any pointer, null
+ * included. An output never overlaps an input or another output. No function keeps a
+ * pointer, allocates or has state of its own.
  */
 #ifndef LOMZEGASH_H
 #define LOMZEGASH_H
@@ -40,7 +41,8 @@ enum lz_error {
     LZ_DECIMAL_WITH_INTEGER = 13 /* a Decimal with an integer type in a supertype call */
 };
 
-/* The answer of every function here but lz_get_shape. A refused call has value 0. */
+/* The answer of every function here but lz_get_shape and lz_flat_channel_merged. A refused
+ * call has value 0. */
 typedef struct {
     uint64_t number; /* 0, or the number of the refusal */
     uint64_t value;  /* what the function says it is */
@@ -52,6 +54,20 @@ typedef struct {
     uint64_t count;      /* how many widths there are; 0 for none */
     uint64_t widths[32]; /* the widths, the outermost first, and zeros from the count on */
 } lz_shape_reply;
+
+/* How many channels there are. */
+enum { LZ_CHANNELS = 32 };
+
+/* For each channel the code of its integer type, 2 to 11, or 0 while it is empty. */
+typedef struct {
+    uint8_t codes[LZ_CHANNELS];
+} lz_channel_types;
+
+/* The answer of lz_flat_channel_merged. */
+typedef struct {
+    lz_reply reply;
+    lz_channel_types types; /* as the call leaves them */
+} lz_types_reply;
 
 /*
  * Checks an encoded type.
@@ -190,6 +206,17 @@ lz_reply lz_join_report(const uint8_t *left, size_t left_len,
 lz_reply lz_get_time_units(uint8_t left, uint8_t right);
 
 /*
+ * Merges the type of a column into a channel, so that no number of a column merged into it
+ * is ever lost: an empty channel gets the type's code, any other that of the smallest
+ * integer type that holds all numbers of its own type and of the column's. The codes may be
+ * any bytes before the call. Refused by 1 to 5, then by 9, 10, 11 and 12. The value is the
+ * code that the channel now holds. No byte but the channel's is written, and a refused call
+ * writes nothing.
+ */
+lz_reply lz_channel_merge(uint8_t codes[LZ_CHANNELS], size_t channel,
+                          const uint8_t *column, size_t column_len);
+
+/*
  * Some of these on flat types, kinds and args, for callers that keep types so. Two arrays of unequal
  * length are refused by 1. Those that make a type write it to the front of out_kinds and
  * out_args and are refused by 8 where either is too short; the value is the number of nodes,
@@ -228,6 +255,14 @@ lz_reply lz_flat_get_supertype_with_options(const uint8_t *left_kinds, size_t le
                                             uint8_t allow_primitive_to_string,
                                             uint8_t *out_kinds, size_t out_kinds_len,
                                             uint64_t *out_args, size_t out_args_len);
+
+/*
+ * The merge of a flat type: the channels' types come and go by value, and a refused call gives
+ * them back as they were.
+ */
+lz_types_reply lz_flat_channel_merged(lz_channel_types types, size_t channel,
+                                      const uint8_t *kinds, size_t kinds_len,
+                                      const uint64_t *args, size_t args_len);
 
 #ifdef __cplusplus
 }

@@ -1,5 +1,6 @@
 //! The archive's C interface, as include/lomzegash.h declares it, behind safe functions. All unsafe code is here.
 
+pub(crate) mod channels;
 pub(crate) mod dtype;
 pub(crate) mod flat;
 mod reply;

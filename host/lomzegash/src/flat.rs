@@ -1,11 +1,12 @@
 //! Rules of polars-core's dtype.rs and supertype.rs on flat types, for callers that keep types so. [`crate::dtype`] and
-//! [`crate::supertype`] have them all, on encoded types.
+//! [`crate::supertype`] have them all, on encoded types. And merges of flat types into channels, as those of
+//! [`ChannelTypes`].
 //!
 //! All are refused by [`Error::Length`] to [`Error::Depth`], numbers 1 to 5, where two slices aren't a type; of two types
 //! the left is looked at first.
 
 use crate::supertype::SuperTypeOptions;
-use crate::{ffi, Error};
+use crate::{ffi, ChannelTypes, Error};
 
 /// A type's kinds and arguments.
 pub type Nodes<'a> = (&'a [u8], &'a [u64]);
@@ -97,4 +98,26 @@ pub fn get_supertype_with_options(
     out: Output,
 ) -> Result<Option<usize>, Error> {
     ffi::flat::get_supertype_with_options(left, right, options.flags(), out)
+}
+
+/// Merges the type of a column into a channel: the code that the channel then holds, beside the types as the call leaves
+/// them, as [`ChannelTypes::merge`] does on encoded types.
+///
+/// Refused by numbers 1 to 5, by [`Error::Channel`], by [`Error::ChannelCode`], by [`Error::NotAnInteger`], then by
+/// [`Error::NoUpcast`]; a refused call gives the types back as they were.
+///
+/// ```
+/// use lomzegash::flat::merged;
+/// use lomzegash::kind::{INT16, INT8, UINT128, UINT8};
+/// use lomzegash::{ChannelTypes, Error};
+///
+/// let (answer, types) = merged(ChannelTypes::new(), 3, (&[INT8], &[0]));
+/// assert_eq!((answer, types.get(3)), (Ok(INT8), Some(INT8)));
+/// let (answer, types) = merged(types, 3, (&[UINT8], &[0]));
+/// assert_eq!((answer, types.get(3)), (Ok(INT16), Some(INT16)));
+/// assert_eq!(merged(types, 3, (&[UINT128], &[0])), (Err(Error::NoUpcast), types));
+/// ```
+#[inline]
+pub fn merged(types: ChannelTypes, channel: usize, column: Nodes) -> (Result<u8, Error>, ChannelTypes) {
+    ffi::channels::flat_merged(types, channel, column)
 }

@@ -1,5 +1,6 @@
 //! Flat types and encoded types, checked, decoded and encoded by proved code, and the type rules of polars-core 0.55.2
-//! on encoded types: [`dtype`], [`supertype`] and [`time_unit`]; some of them on flat types too: [`flat`].
+//! on encoded types: [`dtype`], [`supertype`] and [`time_unit`]; some of them on flat types too: [`flat`]. [`ChannelTypes`]
+//! keeps for each channel the type that holds every number of the columns merged into it.
 //!
 //! A *flat type* is a type as a tree in preorder: two slices of equal length, one kind ([`kind`]) and one argument for
 //! each node. An *encoded type* (a stored sheet, in the rules) is the same in bytes: the number of nodes n (2 bytes, low
@@ -23,6 +24,7 @@
 
 #![deny(missing_docs, unsafe_code)]
 
+mod channels;
 pub mod dtype;
 mod error;
 #[allow(unsafe_code)]
@@ -33,6 +35,7 @@ mod shape;
 pub mod supertype;
 pub mod time_unit;
 
+pub use channels::ChannelTypes;
 pub use error::Error;
 pub use shape::Shape;
 

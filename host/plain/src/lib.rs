@@ -1,10 +1,12 @@
-//! Document 01's rules for flat types and stored sheets, in plain Rust.
+//! Document 01's rules for flat types, stored sheets and the season record, in plain Rust.
 //!
 //! Written from the document alone, with limits, codes and refusals of its own: the tests compare the proved code with
 //! it, and the benchmark times the two side by side.
 
 #![forbid(unsafe_code)]
 #![deny(missing_docs)]
+
+pub mod channels;
 
 const MAX_NODES: usize = 512;
 const MAX_DEPTH: usize = 32;
@@ -34,6 +36,14 @@ pub enum Refusal {
     Depth = 5,
     /// An output array shorter than the result.
     Output = 8,
+    /// Channel 32 or more.
+    Channel = 9,
+    /// The addressed channel holds neither 0 nor 2 to 11.
+    ChannelCode = 10,
+    /// The offered type isn't an integer code 2 to 11.
+    NotInteger = 11,
+    /// Held and offered are unequal integers whose upcast is None.
+    NoUpcast = 12,
 }
 
 /// Checks a flat type.

@@ -5,6 +5,7 @@
 #![deny(missing_docs)]
 
 pub mod arguments;
+pub mod channels;
 pub mod compare;
 pub mod damage;
 pub mod differential;
@@ -17,6 +18,7 @@ pub mod input;
 pub mod join_calls;
 pub mod joins;
 pub mod leaves;
+pub mod merges;
 mod outputs;
 pub mod random;
 mod ranges;

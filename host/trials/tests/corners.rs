@@ -1,9 +1,10 @@
-//! Corners 1 to 17 of document 01, by its own words: of the port, and of the crate's text where there is one.
+//! Corners 1 to 18 of document 01, by its own words: of the port, and of the crate's text where there is one.
 
 use lomzegash::dtype;
 use lomzegash::kind::*;
-use lomzegash::Error;
+use lomzegash::{ChannelTypes, Error};
 use oracle::Type;
+use trials::channels::FORMS;
 use trials::entries::Outcome;
 use trials::flat::Flat;
 use trials::input::Input;
@@ -138,6 +139,28 @@ fn shape(of: &Flat, expected: Option<&[u64]>) {
     if oracle::AVAILABLE {
         assert_eq!(type_of(of).get_shape(), expected, "the crate: {of:?}");
     }
+}
+
+/// What the merge of a column into a channel answers, in each form of the call; gives the types as it leaves them.
+fn merges(types: ChannelTypes, channel: usize, column: &Flat, expected: Result<u8, Error>) -> ChannelTypes {
+    let mut codes = *types.codes();
+    if let Ok(code) = expected {
+        codes[channel] = code;
+    }
+    let after = ChannelTypes::from_codes(codes);
+    for form in FORMS {
+        let mut lent = types;
+        let answer = (form.merge)(&mut lent, channel, &column.clone().into());
+        assert_eq!((answer, lent), (expected, after), "{}: {column:?} into {channel} of {types:?}", form.name);
+    }
+    after
+}
+
+/// Types with this byte in one channel, and no other.
+fn holding(channel: usize, byte: u8) -> ChannelTypes {
+    let mut codes = [0; ChannelTypes::CHANNELS];
+    codes[channel] = byte;
+    ChannelTypes::from_codes(codes)
 }
 
 #[test]
@@ -399,4 +422,82 @@ fn corner_17_leaf_types_and_shapes() {
     shape(&leaf(INT8), None);
     let deepest: Vec<u64> = (1..=32).collect();
     shape(&deepest.iter().rev().fold(leaf(INT8), |inner, &width| array(width, &inner)), Some(&deepest));
+}
+
+#[test]
+fn corner_18_a_channel_widens_and_never_loses_a_number() {
+    for channel in [0, 31] {
+        let types = merges(ChannelTypes::new(), channel, &leaf(UINT64), Ok(UINT64));
+        let types = merges(types, channel, &leaf(INT8), Ok(INT128));
+        let types = merges(types, channel, &leaf(UINT128), Err(Error::NoUpcast));
+        assert_eq!(types, holding(channel, INT128));
+        let types = merges(ChannelTypes::new(), channel, &leaf(UINT128), Ok(UINT128));
+        let types = merges(types, channel, &leaf(UINT8), Ok(UINT128));
+        assert_eq!(types, holding(channel, UINT128));
+    }
+}
+
+/// The lossless upcast of two equal types is None, but a channel keeps what it holds.
+#[test]
+fn an_equal_type_keeps_the_held_one() {
+    for kind in UINT8..=INT128 {
+        merges(holding(5, kind), 5, &leaf(kind), Ok(kind));
+    }
+}
+
+#[test]
+fn there_are_32_channels() {
+    assert_eq!(ChannelTypes::CHANNELS, 32);
+    merges(ChannelTypes::new(), 31, &leaf(INT8), Ok(INT8));
+    for channel in [32, 33, 256, usize::MAX] {
+        merges(ChannelTypes::new(), channel, &leaf(INT8), Err(Error::Channel));
+    }
+}
+
+/// A byte that is no code matters where it is addressed, and nowhere else.
+#[test]
+fn a_channel_holds_0_or_2_to_11() {
+    for byte in [1, 12, 255] {
+        merges(holding(5, byte), 5, &leaf(INT8), Err(Error::ChannelCode));
+        for other in [4, 6] {
+            merges(holding(5, byte), other, &leaf(INT8), Ok(INT8));
+        }
+    }
+    merges(holding(5, 0), 5, &leaf(INT8), Ok(INT8));
+    merges(holding(5, 2), 5, &leaf(INT8), Ok(INT16));
+    merges(holding(5, 11), 5, &leaf(INT8), Ok(INT128));
+}
+
+#[test]
+fn a_channel_takes_integer_types_alone() {
+    for kind in [NULL, BOOLEAN, FLOAT16, FLOAT64, STRING, DATE, UNKNOWN_ANY] {
+        merges(ChannelTypes::new(), 5, &leaf(kind), Err(Error::NotAnInteger));
+    }
+    let nested = [list(&leaf(INT8)), array(1, &leaf(INT8)), fields(0, &[leaf(INT8)]), Flat::wide_struct(0)];
+    for column in nested.into_iter().chain([dyn_int(1), dyn_int(-1), Flat::new(&[(DECIMAL, 10)])]) {
+        merges(ChannelTypes::new(), 5, &column, Err(Error::NotAnInteger));
+        merges(holding(5, INT8), 5, &column, Err(Error::NotAnInteger));
+    }
+}
+
+/// Of several refusals that apply the lowest number is given: 1 to 5 of the type, then 9, 10 and 11.
+#[test]
+fn refusals_of_a_merge_in_their_order() {
+    let no_types = [
+        (Flat::default(), Error::Length),
+        (leaf(32), Error::Kind),
+        (Flat::new(&[(INT8, 1)]), Error::Argument),
+        (Flat::new(&[(INT8, 0), (INT8, 0)]), Error::Shape),
+        (Flat::lists(33), Error::Depth),
+    ];
+    let damaged = ChannelTypes::from_codes([1; ChannelTypes::CHANNELS]);
+    for (column, error) in no_types {
+        merges(damaged, 32, &column, Err(error));
+        merges(damaged, 5, &column, Err(error));
+    }
+    merges(damaged, 32, &leaf(STRING), Err(Error::Channel));
+    merges(damaged, 32, &leaf(INT8), Err(Error::Channel));
+    merges(damaged, 31, &leaf(STRING), Err(Error::ChannelCode));
+    merges(holding(5, UINT128), 5, &leaf(STRING), Err(Error::NotAnInteger));
+    merges(holding(5, UINT128), 5, &leaf(INT8), Err(Error::NoUpcast));
 }

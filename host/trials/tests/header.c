@@ -86,6 +86,53 @@ static int flat_joins(void) {
     return 0;
 }
 
+/* The merges of UInt64, Int8, UInt128 and List(Int16), with a byte before the codes and one behind them. */
+static int merges(void) {
+    const uint8_t uint64[11] = {0x01, 0x00, 0x05}, int8[11] = {0x01, 0x00, 0x07}, uint128[11] = {0x01, 0x00, 0x06};
+    const uint8_t list[20] = {0x02, 0x00, 0x1C, 0x08};
+    uint8_t lent[LZ_CHANNELS + 2] = {9}, expected[LZ_CHANNELS + 2] = {9};
+    uint8_t *codes = lent + 1;
+    lent[LZ_CHANNELS + 1] = expected[LZ_CHANNELS + 1] = 9;
+
+    if (!is(lz_channel_merge(codes, 31, uint64, 11), LZ_OK, 5)) return 45;
+    if (!is(lz_channel_merge(codes, 31, int8, 11), LZ_OK, 11)) return 46;
+    if (!is(lz_channel_merge(codes, 31, uint128, 11), LZ_NO_UPCAST, 0)) return 47;
+    if (!is(lz_channel_merge(codes, 31, list, 20), LZ_NOT_AN_INTEGER, 0)) return 48;
+    if (!is(lz_channel_merge(codes, LZ_CHANNELS, int8, 11), LZ_CHANNEL, 0)) return 49;
+    if (!is(lz_channel_merge(codes, LZ_CHANNELS, int8, 10), LZ_LENGTH, 0)) return 50;
+    expected[1 + 31] = 11;
+    if (memcmp(lent, expected, sizeof lent) != 0) return 51;
+    codes[0] = expected[1] = 1;
+    if (!is(lz_channel_merge(codes, 0, int8, 11), LZ_CHANNEL_CODE, 0)) return 52;
+    if (!is(lz_channel_merge(codes, 1, int8, 11), LZ_OK, 7)) return 53;
+    expected[1 + 1] = 7;
+    if (memcmp(lent, expected, sizeof lent) != 0) return 54;
+    return 0;
+}
+
+/* The merges of flat types: Int8, UInt8 and UInt128, and kinds without arguments. */
+static int flat_merges(void) {
+    const uint8_t int8 = 7, uint8 = 2, uint128 = 6;
+    const uint64_t zero = 0;
+    lz_channel_types expected = {{0}};
+    lz_types_reply next = {{0, 0}, {{0}}};
+
+    next = lz_flat_channel_merged(next.types, 30, &int8, 1, &zero, 1);
+    if (!is(next.reply, LZ_OK, 7)) return 55;
+    next = lz_flat_channel_merged(next.types, 30, &uint8, 1, &zero, 1);
+    if (!is(next.reply, LZ_OK, 8)) return 56;
+    expected.codes[30] = 8;
+    if (memcmp(&next.types, &expected, sizeof expected) != 0) return 57;
+    next = lz_flat_channel_merged(next.types, 30, &uint128, 1, &zero, 1);
+    if (!is(next.reply, LZ_NO_UPCAST, 0)) return 58;
+    next = lz_flat_channel_merged(next.types, SIZE_MAX, &int8, 1, &zero, 1);
+    if (!is(next.reply, LZ_CHANNEL, 0)) return 59;
+    next = lz_flat_channel_merged(next.types, SIZE_MAX, &int8, 1, &zero, 0);
+    if (!is(next.reply, LZ_LENGTH, 0)) return 60;
+    if (memcmp(&next.types, &expected, sizeof expected) != 0) return 61;
+    return 0;
+}
+
 int main(void) {
     const uint8_t list_of_int16[20] = {0x02, 0x00, 0x1C, 0x08};
     uint8_t kinds[3] = {9, 9, 9}, out[21];
@@ -106,5 +153,7 @@ int main(void) {
     wrong = rules();
     if (wrong == 0) wrong = joins();
     if (wrong == 0) wrong = flat_joins();
+    if (wrong == 0) wrong = merges();
+    if (wrong == 0) wrong = flat_merges();
     return wrong;
 }

@@ -1,7 +1,8 @@
 //! What the entry points answer, and what each answer may be.
 
+use crate::kind::{INT128, UINT8};
 use crate::supertype::JoinReport;
-use crate::{Error, Shape};
+use crate::{ChannelTypes, Error, Shape};
 use std::fmt::Debug;
 
 /// The answer of nearly every entry point: number 0 and a value, or a refusal's number and value 0.
@@ -20,6 +21,14 @@ pub(super) struct ShapeReply {
     pub(super) number: u64,
     pub(super) count: u64,
     pub(super) widths: [u64; Shape::MOST],
+}
+
+/// The answer to a merge, beside the types as the call leaves them.
+#[repr(C)]
+#[derive(Debug)]
+pub(super) struct TypesReply {
+    pub(super) reply: Reply,
+    pub(super) types: ChannelTypes,
 }
 
 /// Every result below panics where the reply is none that the interface allows: the archive is not the one that belongs
@@ -65,6 +74,15 @@ impl Reply {
         self.one_of(&JoinReport::ALL)
     }
 
+    /// The code of an integer type or the refusal.
+    #[inline]
+    pub(super) fn code(self) -> Result<u8, Error> {
+        match self {
+            Reply { number: 0, value } if !(UINT8.into()..=INT128.into()).contains(&value) => ruled_out(&self),
+            _ => self.result().map(|code| code as u8),
+        }
+    }
+
     /// The number of bytes or nodes of a result, or None, 0, or the refusal.
     #[inline]
     pub(super) fn written(self) -> Result<Option<usize>, Error> {
@@ -102,6 +120,14 @@ impl ShapeReply {
             (number, 0) => Err(refusal(number, &self)),
             _ => ruled_out(&self),
         }
+    }
+}
+
+impl TypesReply {
+    /// The code or the refusal, beside the types. Panics as those of [`Reply`].
+    #[inline]
+    pub(super) fn parts(self) -> (Result<u8, Error>, ChannelTypes) {
+        (self.reply.code(), self.types)
     }
 }
 
@@ -144,6 +170,8 @@ mod tests {
         assert_eq!([value(0).yes_or_no(), value(1).yes_or_no()], [Ok(false), Ok(true)]);
         assert_eq!([0, 1, 2].map(|v| value(v).verdict()), [Ok(Some(false)), Ok(Some(true)), Ok(None)]);
         assert_eq!([0, 1, 2, 3].map(|v| value(v).join_report()), JoinReport::ALL.map(Ok));
+        assert_eq!([2, 11].map(|v| value(v).code()), [Ok(2), Ok(11)]);
+        assert_eq!(refused(12).code(), Err(Error::NoUpcast));
         assert_eq!([0, 11].map(|v| value(v).written()), [Ok(None), Ok(Some(11))]);
         assert_eq!(value(11).always_written(), Ok(11));
         assert_eq!(refused(7).always_written(), Err(Error::Unknown));
@@ -167,6 +195,7 @@ mod tests {
         assert!(is_ruled_out(|| value(3).verdict()));
         assert!(is_ruled_out(|| value(3).unit()));
         assert!(is_ruled_out(|| value(4).join_report()));
+        assert!([0, 1, 12, 258].iter().all(|&v| is_ruled_out(move || value(v).code())));
         assert!(is_ruled_out(|| value(0).always_written()));
         assert!(is_ruled_out(|| shape(0, 1, &[3, 4]).result()));
         assert!(is_ruled_out(|| shape(0, 33, &[]).result()));
