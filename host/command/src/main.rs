@@ -1,11 +1,12 @@
 //! `lomzegash [HEX...]`: what each encoded type says, or why it is refused; without arguments, what becomes of probe
-//! numbers where Int32 and UInt64 are joined, and a few worked types.
+//! numbers where Int32 and UInt64 are joined, a season of columns merged into channels, and a few worked types.
 
 #![forbid(unsafe_code)]
 
 mod hex;
 mod join;
 mod render;
+mod season;
 mod worked;
 
 use std::env;
@@ -15,6 +16,7 @@ fn main() -> ExitCode {
     let texts: Vec<String> = env::args().skip(1).collect();
     if texts.is_empty() {
         join::show();
+        season::show();
         println!("Encoded types:");
         worked::show();
         return ExitCode::SUCCESS;
