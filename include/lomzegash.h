@@ -206,12 +206,12 @@ lz_reply lz_join_report(const uint8_t *left, size_t left_len,
 lz_reply lz_get_time_units(uint8_t left, uint8_t right);
 
 /*
- * Merges the type of a column into a channel, so that no number of a column merged into it
- * is ever lost: an empty channel gets the type's code, any other that of the smallest
- * integer type that holds all numbers of its own type and of the column's. The codes may be
- * any bytes before the call. Refused by 1 to 5, then by 9, 10, 11 and 12. The value is the
- * code that the channel now holds. No byte but the channel's is written, and a refused call
- * writes nothing.
+ * What polars-core doesn't have: the type of a column is merged into a channel, which then
+ * holds an integer type that has every number of the columns merged into it. An empty channel
+ * gets the column's own, any other the smallest that holds the numbers of the channel's type
+ * and of the column's. The codes may be any bytes before the call, and overlap nothing else.
+ * Refused by 1 to 5, then by 9, 10, 11 and 12. The value is the code that the channel now
+ * holds. No byte but the channel's is written, and a refused call writes nothing.
  */
 lz_reply lz_channel_merge(uint8_t codes[LZ_CHANNELS], size_t channel,
                           const uint8_t *column, size_t column_len);
