@@ -257,9 +257,13 @@ lz_reply lz_flat_get_supertype_with_options(const uint8_t *left_kinds, size_t le
                                             uint64_t *out_args, size_t out_args_len);
 
 /*
- * The merge of a flat type: the channels' types come and go by value, and a refused call gives
- * them back as they were.
+ * The merge of a flat type. In the first the channels' types are lent, and changed as
+ * lz_channel_merge changes its codes. In the second they come and go by value, and a refused call
+ * gives them back as they were.
  */
+lz_reply lz_flat_channel_merge(lz_channel_types *types, size_t channel,
+                               const uint8_t *kinds, size_t kinds_len,
+                               const uint64_t *args, size_t args_len);
 lz_types_reply lz_flat_channel_merged(lz_channel_types types, size_t channel,
                                       const uint8_t *kinds, size_t kinds_len,
                                       const uint64_t *args, size_t args_len);

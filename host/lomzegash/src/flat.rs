@@ -100,19 +100,38 @@ pub fn get_supertype_with_options(
     ffi::flat::get_supertype_with_options(left, right, options.flags(), out)
 }
 
-/// Merges the type of a column into a channel: the code that the channel then holds, beside the types as the call leaves
-/// them, as [`ChannelTypes::merge`] does on encoded types.
+/// Merges the type of a column into a channel, as [`ChannelTypes::merge`] does on encoded types, and gives the code that
+/// the channel then holds.
 ///
 /// Refused by numbers 1 to 5, by [`Error::Channel`], by [`Error::ChannelCode`], by [`Error::NotAnInteger`], then by
-/// [`Error::NoUpcast`]; a refused call gives the types back as they were.
+/// [`Error::NoUpcast`]; a refused call changes nothing.
+///
+/// ```
+/// use lomzegash::flat::merge;
+/// use lomzegash::kind::{INT16, INT8, UINT128, UINT8};
+/// use lomzegash::{ChannelTypes, Error};
+///
+/// let mut types = ChannelTypes::new();
+/// assert_eq!(merge(&mut types, 3, (&[INT8], &[0])), Ok(INT8));
+/// assert_eq!(merge(&mut types, 3, (&[UINT8], &[0])), Ok(INT16));
+/// assert_eq!(merge(&mut types, 3, (&[UINT128], &[0])), Err(Error::NoUpcast));
+/// assert_eq!(types.get(3), Some(INT16));
+/// ```
+#[inline]
+pub fn merge(types: &mut ChannelTypes, channel: usize, column: Nodes) -> Result<u8, Error> {
+    ffi::channels::flat_merge(types, channel, column)
+}
+
+/// The same with the types by value: the code that the channel then holds, beside the types as the call leaves them.
+///
+/// Refused as [`merge`] is; a refused call gives the types back as they were.
 ///
 /// ```
 /// use lomzegash::flat::merged;
 /// use lomzegash::kind::{INT16, INT8, UINT128, UINT8};
 /// use lomzegash::{ChannelTypes, Error};
 ///
-/// let (answer, types) = merged(ChannelTypes::new(), 3, (&[INT8], &[0]));
-/// assert_eq!((answer, types.get(3)), (Ok(INT8), Some(INT8)));
+/// let (_, types) = merged(ChannelTypes::new(), 3, (&[INT8], &[0]));
 /// let (answer, types) = merged(types, 3, (&[UINT8], &[0]));
 /// assert_eq!((answer, types.get(3)), (Ok(INT16), Some(INT16)));
 /// assert_eq!(merged(types, 3, (&[UINT128], &[0])), (Err(Error::NoUpcast), types));

@@ -29,6 +29,7 @@ pub struct Form {
 /// Every form of the call.
 pub const FORMS: &[Form] = &[
     Form { name: "encoded, lent", merge: |types, channel, column| types.merge(channel, &column.bytes) },
+    Form { name: "flat, lent", merge: |types, channel, column| flat::merge(types, channel, column.flat.parts()) },
     Form { name: "flat, by value", merge: by_value },
 ];
 

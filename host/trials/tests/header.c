@@ -114,7 +114,7 @@ static int merges(void) {
 static int flat_merges(void) {
     const uint8_t int8 = 7, uint8 = 2, uint128 = 6;
     const uint64_t zero = 0;
-    lz_channel_types expected = {{0}};
+    lz_channel_types expected = {{0}}, lent = {{0}};
     lz_types_reply next = {{0, 0}, {{0}}};
 
     next = lz_flat_channel_merged(next.types, 30, &int8, 1, &zero, 1);
@@ -130,6 +130,11 @@ static int flat_merges(void) {
     next = lz_flat_channel_merged(next.types, SIZE_MAX, &int8, 1, &zero, 0);
     if (!is(next.reply, LZ_LENGTH, 0)) return 60;
     if (memcmp(&next.types, &expected, sizeof expected) != 0) return 61;
+    if (!is(lz_flat_channel_merge(&lent, 30, &int8, 1, &zero, 1), LZ_OK, 7)) return 62;
+    if (!is(lz_flat_channel_merge(&lent, 30, &uint8, 1, &zero, 1), LZ_OK, 8)) return 63;
+    if (!is(lz_flat_channel_merge(&lent, 30, &uint128, 1, &zero, 1), LZ_NO_UPCAST, 0)) return 64;
+    if (!is(lz_flat_channel_merge(&lent, SIZE_MAX, &int8, 1, &zero, 1), LZ_CHANNEL, 0)) return 65;
+    if (memcmp(&lent, &expected, sizeof expected) != 0) return 66;
     return 0;
 }
 
