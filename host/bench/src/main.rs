@@ -7,6 +7,7 @@
 
 #![forbid(unsafe_code)]
 
+mod channels;
 mod inputs;
 mod joins;
 mod rules;
@@ -25,6 +26,7 @@ fn main() {
         inputs.extend(inputs::shapes());
     }
     beside_plain(&inputs);
+    merges();
     if has_oracle() {
         beside_the_crate(&inputs);
     }
@@ -36,6 +38,15 @@ fn beside_plain(inputs: &[(&str, Flat)]) {
         for (call, time) in [("check", check as fn(&Flat) -> (f64, f64)), ("decode", decode), ("encode", encode)] {
             let ((proved, plain), nodes) = (time(flat), flat.kinds.len());
             println!("{name:<28} {nodes:>5}  {call:<6} {proved:>9.1} {plain:>9.1} {:>6.2}", proved / plain);
+        }
+    }
+}
+
+fn merges() {
+    println!("{:<28} {:<14} {:>11} {:>11} {:>6}", "merges", "form", "proved M/s", "plain M/s", "ratio");
+    for (name, rows) in channels::sets() {
+        for (form, (proved, plain)) in rows {
+            println!("{name:<28} {form:<14} {:>11.1} {:>11.1} {:>6.2}", 1e3 / proved, 1e3 / plain, proved / plain);
         }
     }
 }
