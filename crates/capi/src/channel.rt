@@ -39,12 +39,7 @@ pub extern "C" fn lz_channel_merge(
       w ← ⟦Encoding::ARGUMENT_BYTES⟧ .entry
       ⌜ MergeReply channels (now (codes .entry)) channel (decoding w nodes deep (now (column .entry))) (now (codes .exit)) r ⌝ }
 {
-    let before = *codes;
-    let next = encoding_join::merge(ChannelTypes { codes: before }, channel, column);
-    let types = next.types;
-    let after = types.codes;
-    *codes = after;
-    let answer = next.answer;
+    let answer = encoding_join::merge(codes, channel, column);
     merged_reply(answer)
 }
 

@@ -84,6 +84,29 @@ fn merge_kind(held: u8, kind: u8) -> Merged
     }
 }
 
+// Merges a column, told by the root of its type, into a channel of the lent codes: its refusal, then 9 to 12.
+pub fn merge_codes(codes: &mut [u8; ChannelTypes::CHANNELS], channel: usize, column: Root) -> Merged
+    ensures { λ a. do
+      channels ← ⟦ChannelTypes::CHANNELS⟧ .entry
+      ⌜ Merges channels (record { codes = now (codes .entry) }) channel (rootColumn column) (record { types = record { codes = now (codes .exit) }; answer = a }) ⌝ }
+{
+    match column {
+        Root::Refused(e) => Merged::Refused(e),
+        Root::Node(kind, _) => {
+            if channel >= ChannelTypes::CHANNELS {
+                return Merged::Refused(Error::Channel);
+            }
+            match merge_kind(codes[channel], kind) {
+                Merged::Held(c) => {
+                    codes[channel] = c;
+                    Merged::Held(c)
+                }
+                Merged::Refused(e) => Merged::Refused(e),
+            }
+        }
+    }
+}
+
 impl ChannelTypes {
     // The number of channels.
     pub const CHANNELS: usize = 32;
@@ -99,40 +122,16 @@ impl ChannelTypes {
         }
     }
 
-    // Merges a column, told by the root of its type, into a channel: its refusal, then 9 to 12.
+    // The same by value.
     pub fn merge_root(self, channel: usize, column: Root) -> Outcome
         ensures { λ r. do
           channels ← ⟦ChannelTypes::CHANNELS⟧ .entry
           ⌜ Merges channels self channel (rootColumn column) r ⌝ }
     {
-        match column {
-            Root::Refused(e) => Outcome {
-                types: self,
-                answer: Merged::Refused(e),
-            },
-            Root::Node(kind, _) => {
-                if channel >= ChannelTypes::CHANNELS {
-                    return Outcome {
-                        types: self,
-                        answer: Merged::Refused(Error::Channel),
-                    };
-                }
-                match merge_kind(self.codes[channel], kind) {
-                    Merged::Held(c) => {
-                        let mut next = self;
-                        next.codes[channel] = c;
-                        Outcome {
-                            types: next,
-                            answer: Merged::Held(c),
-                        }
-                    }
-                    Merged::Refused(e) => Outcome {
-                        types: self,
-                        answer: Merged::Refused(e),
-                    },
-                }
-            }
-        }
+        let mut codes = self.codes;
+        let answer = merge_codes(&mut codes, channel, column);
+        let types = ChannelTypes { codes };
+        Outcome { types, answer }
     }
 
     // Merges a column's type into a channel: refusals 1 to 5, then 9 to 12.

@@ -8,7 +8,8 @@ ghost use Rattle.utils_report.specs.Report.{Reports};
 ghost use Rattle.channels.specs.Merge.{Merges};
 ghost use Rattle.encoding_join.specs.Join.{fittingFoundBytes, JoinsBytes};
 use channels::ChannelTypes;
-use channels::Outcome;
+use channels::Merged;
+use channels::merge_codes;
 use encoding::Encoded;
 use encoding::Encoding;
 use encoding::check_root;
@@ -85,14 +86,15 @@ pub fn join_report(left: &[u8], right: &[u8]) -> Report
     report_roots(l, r)
 }
 
-// Merges the type of a column into a channel: refusals 1 to 5, then 9 to 12.
-pub fn merge(types: ChannelTypes, channel: usize, column: &[u8]) -> Outcome
-    ensures { λ r. do
+// Merges the type of a column into a channel of the lent codes: refusals 1 to 5, then 9 to 12.
+pub fn merge(codes: &mut [u8; ChannelTypes::CHANNELS], channel: usize, column: &[u8]) -> Merged
+    ensures { λ a. do
       channels ← ⟦ChannelTypes::CHANNELS⟧ .entry
       nodes ← ⟦Flat::MAX_NODES⟧ .entry
       deep ← ⟦Flat::MAX_DEPTH⟧ .entry
       w ← ⟦Encoding::ARGUMENT_BYTES⟧ .entry
-      ⌜ Merges channels types channel (decoding w nodes deep (now (column .entry))) r ⌝ }
+      ⌜ Merges channels (record { codes = now (codes .entry) }) channel (decoding w nodes deep (now (column .entry))) (record { types = record { codes = now (codes .exit) }; answer = a }) ⌝ }
 {
-    types.merge_root(channel, check_root(column))
+    let root = check_root(column);
+    merge_codes(codes, channel, root)
 }

@@ -5,7 +5,7 @@ use Rattle.capi.proofs.channel.lz_channel_merge.Statement.{statement}
 use Rattle.capi.proofs.channel.lz_channel_merge.Tie as tie
 
 returns : tie.Need-returns
-returns c = merge-reply (c .before .before .before .merge .ensures) (c .merged-reply .ensures)
+returns c = merge-reply (c .before .merge .ensures) (c .merged-reply .ensures)
 
 pub lz-channel-merge-spec : {M : Type 1} → statement M
 lz-channel-merge-spec = tie.close (tie.spec (λ c κs. search needs) (λ c κs. search needs) returns)

@@ -1,34 +1,10 @@
 -- `channels::ChannelTypes::merge_root` meets its contract. Assumes nothing.
-use mathlib.Core.Path.{refl, sym, _∙_}
-use native.Mathlib.Omega.{arith}
 use borrow.Author.Needs.{needs}
-use Rattle.channels.proofs.Arms.{refused-column, no-channel, on-channel}
 use Rattle.channels.proofs.ChannelTypes.merge_root.Statement.{statement}
 use Rattle.channels.proofs.ChannelTypes.merge_root.Tie as tie
 
 returns : tie.Need-returns
-returns c = no-channel (c .before .before .column2 .given .1) (omega arith) refl refl
-
-returns-2 : tie.Need-returns-2
-returns-2 c = refused-column _ (c .before .column .given .1) refl refl
-
-returns-3 : tie.Need-returns-3
-returns-3 c =
-    let met = c .before .before .before in
-    on-channel (met .before .before .before .before .column2 .given .1) _ (omega arith) (sym (c .before .c .given .1) ∙ met .merge-kind .ensures) refl refl
-
-returns-4 : tie.Need-returns-4
-returns-4 c =
-    let met = c .before .before .before in
-    on-channel (met .before .before .before .before .column2 .given .1) _ (omega arith) (sym (c .before .e .given .1) ∙ met .merge-kind .ensures) refl refl
+returns c = c .merge-codes .ensures
 
 pub merge-root-spec : {M : Type 1} → statement M
-merge-root-spec =
-    tie.close
-    (tie.spec
-    (λ c. search needs) (λ c. search needs)
-    returns
-    (λ c. search needs) (λ c κs. search needs) (λ c. search needs) (λ c. search needs) (λ c. search needs)
-    returns-2
-    returns-3
-    returns-4)
+merge-root-spec = tie.close (tie.spec (λ c κs. search needs) returns)
