@@ -14,6 +14,8 @@ use crate::reader::Found;
 use crate::reader::NODES;
 use crate::reader::read_flag;
 use crate::reader::read_type;
+use crate::reader::to_bytes;
+use channels::ChannelTypes;
 use datatypes::answer::Answer;
 use datatypes::dtype;
 use datatypes::time_unit::TimeUnit;
@@ -125,6 +127,29 @@ fn is_shaped(kinds: &[u8], args: &[u64], recorded: &[u64]) -> bool {
     is_shape(shape.number, shape.count, &widths, recorded)
 }
 
+// The channel and the codes are recorded first, and as the result the codes that the merge leaves, beside a refusal too.
+fn is_merged(kinds: &[u8], args: &[u64], recorded: &[u64]) -> bool {
+    if recorded.len() == 0 {
+        return false;
+    }
+    let channel = recorded[0] as usize;
+    let end = 1 + ChannelTypes::CHANNELS;
+    let mut codes = [0u8; ChannelTypes::CHANNELS];
+    if !to_bytes(between(recorded, 1, end), &mut codes) {
+        return false;
+    }
+    let next = ChannelTypes { codes }.merge(channel, kinds, args);
+    let answer = next.answer;
+    let after = next.types.codes;
+    is_answer(
+        from(recorded, end),
+        answer.number(),
+        answer.value(),
+        &after,
+        &recorded[..0],
+    )
+}
+
 fn agrees_on(entry: u64, kinds: &[u8], args: &[u64], recorded: &[u64]) -> bool {
     match entry {
         1 => is_checked(kinds, args, recorded),
@@ -136,6 +161,7 @@ fn agrees_on(entry: u64, kinds: &[u8], args: &[u64], recorded: &[u64]) -> bool {
         22 => is_built(Form::Physical, kinds, args, recorded),
         23 => is_materialized(kinds, args, recorded),
         24 => is_shaped(kinds, args, recorded),
+        29 => is_merged(kinds, args, recorded),
         _ => false,
     }
 }

@@ -1,6 +1,7 @@
-// Replays recorded answers of the oracle, which is the crate's own text, so that the port is held to them where there is no Rust. A line of the input is
-// a call and what the oracle answered; the last line is 0. `cargo run --release -p differential -- --record 7500` in host/ wrote the input (crates/replay/stdin);
-// host/differential/src/answers.rs has the format. A call that is answered otherwise here, and a line that can't be read, is told by the number of its line.
+// Replays recorded answers of the oracle, which is the crate's own text, and of the plain Rust to merges, which the crate doesn't have, so that the port is
+// held to them where there is no Rust. A line of the input is a call and its recorded answer; the last line is 0.
+// `cargo run --release -p differential -- --record 7500` in host/ wrote the input (crates/replay/stdin); host/differential/src/answers.rs has the format.
+// A call that is answered otherwise here, and a line that can't be read, is told by the number of its line.
 mod answer;
 mod calls;
 mod output;

@@ -80,8 +80,8 @@ pub enum Found {
 }
 
 // Copies numbers to the front of `bytes`; false where there are too many or one is no byte.
-fn to_bytes(numbers: &[u64], bytes: &mut [u8; NODES]) -> bool {
-    if numbers.len() > NODES {
+pub fn to_bytes(numbers: &[u64], bytes: &mut [u8]) -> bool {
+    if numbers.len() > bytes.len() {
         return false;
     }
     let mut i = 0;

@@ -1,4 +1,4 @@
-//! Answers of the oracle as lines, to be replayed where there is no Rust.
+//! Answers of the oracle, and of the plain Rust to merges, as lines, to be replayed where there is no Rust.
 //!
 //! One answer a line. A line is unsigned numbers in decimal with one space between:
 //!
@@ -16,20 +16,25 @@
 //! | 26 | get_numeric_upcast_supertype_lossless | left type, right type, room | nodes of the result, 0 for None | its kinds, its arguments |
 //! | 27 | get_supertype_with_options | left type, right type, allow_implode_list, allow_primitive_to_string (0 or 1 each), room | the same | the same |
 //! | 28 | join_report | left type, right type | 0 keeps, 1 loses needlessly, 2 loses inevitably, 3 not integers | |
+//! | 29 | merge | type, channel, the codes before it | the code that the channel now holds | the codes after it |
 //!
 //! A type is the number of its kinds, the kinds, the number of its arguments, the arguments; the two numbers differ only
-//! where the call is refused for it. Room is how many nodes an output can hold. Number is 0 or the refusal's; beside a
-//! refusal the value is 0 and there is no result. A line of the single number 0 is the last.
+//! where the call is refused for it. Room is how many nodes an output can hold. The codes are the bytes of all 32 channels.
+//! Number is 0 or the refusal's; beside a refusal the value is 0 and there is no result, but for merges: a refused one
+//! leaves the codes as they were, and has them as its result. A line of the single number 0 is the last.
 //!
 //! The predicates: is_nested 2, is_known 3, is_logical 4, is_primitive 5, is_primitive_numeric 6, is_temporal 7, is_float
 //! 8, is_integer 9, is_signed_integer 10, is_unsigned_integer 11, is_string 12, is_unknown 13, contains_unknown 14,
 //! contains_list_recursive 15.
 //!
 //! Numbers 1 to 5 are document 01's by the plain Rust, 6 and 13 are its by the kinds, 8 follows from the room, and the
-//! reports follow from the ranges of integers and the oracle's supertype; all else is the oracle's.
+//! reports follow from the ranges of integers and the oracle's supertype. polars-core has no channels, so all of a merge is
+//! document 01's by the plain Rust (`plain::channels`): by its book, the `Model`, in a list of merges that started from
+//! empty channels, and by `merge`, its section for one offer, on channels of any bytes. All else is the oracle's.
 
 use lomzegash::Error;
 use oracle::Type;
+use trials::channels::Judge;
 use trials::entries::{Outcome, PREDICATES, RELATIONS, WRITERS};
 use trials::flat::Flat;
 use trials::input::Input;
@@ -44,7 +49,8 @@ const SHAPE: u64 = 24;
 const TIME_UNITS: u64 = 25;
 const LOSSLESS: u64 = 26;
 const SUPERTYPE: u64 = 27;
-pub const REPORT: u64 = 28;
+const REPORT: u64 = 28;
+pub const MERGE: u64 = 29;
 
 /// The place in `WRITERS` from which on the writer is `materialize_unknown`, first with its flag on.
 pub const MATERIALIZERS: usize = 4;
@@ -118,6 +124,14 @@ impl Answers {
         self.line(&[&[REPORT], &words(left), &words(right), &reply]);
     }
 
+    /// A merge into a channel of those that the judge has, who then has what the merge leaves.
+    pub fn merge(&mut self, judge: &mut impl Judge, channel: usize, column: &Flat) {
+        let before = judge.codes();
+        let code = judge.merge(channel, column).map_err(|refusal| refusal as u64);
+        let (reply, after) = (answer(code.map(u64::from)), judge.codes());
+        self.line(&[&[MERGE], &words(column), &[channel as u64], &numbers(&before), &reply, &numbers(&after)]);
+    }
+
     fn shape(&mut self, flat: &Flat) {
         let widths = read(flat).map(|(_, dtype)| dtype.get_shape().unwrap_or_default());
         let reply = match widths {
@@ -170,19 +184,20 @@ fn written(outcome: &Outcome, room: Room) -> (u64, Vec<u64>) {
     let reply = match outcome {
         Outcome::Written(_) if nodes > room => vec![Error::OutputTooShort.number(), 0],
         Outcome::Refused(number) => vec![*number, 0],
-        _ => [&[0, nodes as u64], &nodes_of(&kinds)[..], &args].concat(),
+        _ => [&[0, nodes as u64], &numbers(&kinds)[..], &args].concat(),
     };
     (room as u64, reply)
 }
 
 /// A type as a line has it.
 fn words(flat: &Flat) -> Vec<u64> {
-    let (kinds, args) = (nodes_of(&flat.kinds), &flat.args);
+    let (kinds, args) = (numbers(&flat.kinds), &flat.args);
     [&[kinds.len() as u64], &kinds[..], &[args.len() as u64], args].concat()
 }
 
-fn nodes_of(kinds: &[u8]) -> Vec<u64> {
-    kinds.iter().copied().map(u64::from).collect()
+/// Kinds or codes as a line has them.
+fn numbers(bytes: &[u8]) -> Vec<u64> {
+    bytes.iter().copied().map(u64::from).collect()
 }
 
 /// An answer without a result.

@@ -6,7 +6,7 @@
 //! `differential [--seed S] --joins N`: the same on N pairs of types, nearly all of one node, and with the entry points
 //! alone that join two types: both rules, encoded and flat, with some flags and lengths of output, and the report.
 //!
-//! `differential --record N`: prints N or somewhat more of the oracle's answers, see [`answers`].
+//! `differential --record N`: prints N or somewhat more of the oracle's answers, then those to some merges, see [`answers`].
 
 #![forbid(unsafe_code)]
 

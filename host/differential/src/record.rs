@@ -1,6 +1,7 @@
-//! Which answers of the oracle are recorded. [`crate::answers`] has the format.
+//! Which answers are recorded. [`crate::answers`] has the format.
 
 mod joins;
+mod merges;
 
 use crate::answers::{Answers, Room, MATERIALIZERS, ONE_TYPE_CALLS};
 use lomzegash::kind::*;
@@ -17,7 +18,7 @@ const ROOMS: [Room; 4] = [|_| 0, |nodes| nodes - 1, |nodes| nodes, |nodes| nodes
 const SIZES: [usize; 9] = [1, 1, 2, 3, 4, 5, 6, 8, 12];
 
 /// At least so many lines, the same ones every time: first each limit, refusal, kind of leaf and join of two kinds, then
-/// random calls of each entry point in turn, then the last line.
+/// random calls of each entry point in turn; and after them the merges and the last line.
 pub fn lines(count: usize) -> Vec<String> {
     let mut answers = Answers::default();
     limits(&mut answers);
@@ -29,6 +30,7 @@ pub fn lines(count: usize) -> Vec<String> {
     while answers.lines.len() < count {
         one_of_each(&mut answers, &mut random);
     }
+    merges::all(&mut answers);
     answers.end();
     answers.lines
 }
@@ -72,8 +74,7 @@ fn unknown(answers: &mut Answers) {
 
 /// Each kind that has no child: every call on a type of its own, and the cast of every two.
 fn leaves(answers: &mut Answers) {
-    let argument = |kind| if kind == DECIMAL { 256 * 2 + 10 } else { 0 };
-    let leaves: Vec<Flat> = (NULL..=UNKNOWN_INT_NEG).map(|kind| Flat::new(&[(kind, argument(kind))])).collect();
+    let leaves: Vec<Flat> = (NULL..=UNKNOWN_INT_NEG).map(leaf).collect();
     for leaf in &leaves {
         for call in 0..ONE_TYPE_CALLS {
             answers.of_one_type(call, leaf, |nodes| nodes);
@@ -98,6 +99,11 @@ fn one_of_each(answers: &mut Answers, random: &mut Random) {
     }
     answers.time_units(random.below(4) as u8, random.below(4) as u8);
     joins::drawn(answers, random);
+}
+
+/// One node of a kind, with an argument that the kind may have.
+fn leaf(kind: u8) -> Flat {
+    Flat::new(&[(kind, if kind == DECIMAL { 256 * 2 + 10 } else { 0 })])
 }
 
 /// Nodes that are no type, by each of the numbers from 1 to 5.
@@ -137,7 +143,8 @@ fn damaged_at_times(mut flat: Flat, random: &mut Random) -> Flat {
 #[cfg(test)]
 mod tests {
     use super::*;
-    use crate::answers::{CHECK, REPORT};
+    use crate::answers::{CHECK, MERGE};
+    use lomzegash::ChannelTypes;
     use trials::differential::has_oracle;
 
     /// How many lines crates/replay was asked for.
@@ -163,12 +170,20 @@ mod tests {
         assert_eq!(last, "0");
         let numbers = |line: &String| line.split(' ').map(|word| word.parse().unwrap()).collect::<Vec<u64>>();
         let rest: Vec<Vec<u64>> = rest.iter().map(numbers).collect();
-        for entry in CHECK..=REPORT {
+        for entry in CHECK..=MERGE {
             assert!(rest.iter().filter(|line| line[0] == entry).count() >= 50, "entry {entry}");
         }
-        let is_refused_by = |number| rest.iter().filter(|line| line[line.len() - 2..] == [number, 0]).count();
+        let (merges, others): (Vec<_>, Vec<_>) = rest.into_iter().partition(|line| line[0] == MERGE);
         for number in [1, 2, 3, 4, 5, 6, 7, 8, 13] {
-            assert!(is_refused_by(number) >= 10, "refusal {number}");
+            assert!(refused(&others, number, 0) >= 10, "refusal {number}");
         }
+        for number in [1, 2, 3, 4, 5, 9, 10, 11, 12] {
+            assert!(refused(&merges, number, ChannelTypes::CHANNELS) >= 3, "refusal {number} of a merge");
+        }
+    }
+
+    /// How many lines have this refusal, which so many numbers of a result follow.
+    fn refused(lines: &[Vec<u64>], number: u64, result: usize) -> usize {
+        lines.iter().filter(|line| line[..line.len() - result].ends_with(&[number, 0])).count()
     }
 }

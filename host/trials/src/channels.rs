@@ -46,6 +46,11 @@ pub trait Judge {
 
     /// The byte of a channel that there is.
     fn code(&self, channel: usize) -> u8;
+
+    /// The byte of each channel.
+    fn codes(&self) -> Codes {
+        array::from_fn(|channel| self.code(channel))
+    }
 }
 
 /// Of types that were empty at the start; it knows nothing of their codes.
@@ -109,7 +114,7 @@ impl Merging {
         merges: impl IntoIterator<Item = &'a Merge>,
     ) -> Vec<Answer> {
         let answers = merges.into_iter().map(|merge| self.merge(form, judged, merge)).collect();
-        let expected: Codes = array::from_fn(|channel| judged.judge.code(channel));
+        let expected = judged.judge.codes();
         assert_eq!(*judged.types.codes(), expected, "{}: the codes after a list and the expected ones", form.name);
         answers
     }

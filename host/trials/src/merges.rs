@@ -66,7 +66,7 @@ const INTEGERS: [&[u8]; 4] = [
 ];
 
 /// Channels that there are not, next to the last one and far off; some are one in their lowest bits.
-const NO_CHANNELS: [usize; 8] = [
+pub const NO_CHANNELS: [usize; 8] = [
     ChannelTypes::CHANNELS,
     ChannelTypes::CHANNELS + 1,
     2 * ChannelTypes::CHANNELS,
