@@ -43,7 +43,25 @@ pub extern "C" fn lz_channel_merge(
     merged_reply(answer)
 }
 
-// The same of a flat type, with the codes by value.
+// The same of a flat type, with the codes lent.
+#[no_mangle]
+pub extern "C" fn lz_flat_channel_merge(
+    types: &mut ChannelTypes,
+    channel: usize,
+    kinds: &[u8],
+    args: &[u64],
+) -> Reply
+    ensures { λ r. do
+      channels ← ⟦ChannelTypes::CHANNELS⟧ .entry
+      nodes ← ⟦Flat::MAX_NODES⟧ .entry
+      deep ← ⟦Flat::MAX_DEPTH⟧ .entry
+      ⌜ MergeReply channels (now (types .entry) .codes) channel (reading nodes deep (now (kinds .entry)) (now (args .entry))) (now (types .exit) .codes) r ⌝ }
+{
+    let answer = channels::merge_in_place(types, channel, kinds, args);
+    merged_reply(answer)
+}
+
+// And with the codes by value.
 #[no_mangle]
 pub extern "C" fn lz_flat_channel_merged(
     types: ChannelTypes,
@@ -65,22 +83,4 @@ pub extern "C" fn lz_flat_channel_merged(
         reply,
         types: after,
     }
-}
-
-// The same of a flat type, with the codes lent.
-#[no_mangle]
-pub extern "C" fn lz_flat_channel_merge(
-    types: &mut ChannelTypes,
-    channel: usize,
-    kinds: &[u8],
-    args: &[u64],
-) -> Reply
-    ensures { λ r. do
-      channels ← ⟦ChannelTypes::CHANNELS⟧ .entry
-      nodes ← ⟦Flat::MAX_NODES⟧ .entry
-      deep ← ⟦Flat::MAX_DEPTH⟧ .entry
-      ⌜ MergeReply channels (now (types .entry) .codes) channel (reading nodes deep (now (kinds .entry)) (now (args .entry))) (now (types .exit) .codes) r ⌝ }
-{
-    let answer = channels::merge_in_place(types, channel, kinds, args);
-    merged_reply(answer)
 }

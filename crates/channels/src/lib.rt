@@ -122,19 +122,7 @@ impl ChannelTypes {
         }
     }
 
-    // The same by value.
-    pub fn merge_root(self, channel: usize, column: Root) -> Outcome
-        ensures { λ r. do
-          channels ← ⟦ChannelTypes::CHANNELS⟧ .entry
-          ⌜ Merges channels self channel (rootColumn column) r ⌝ }
-    {
-        let mut codes = self.codes;
-        let answer = merge_codes(&mut codes, channel, column);
-        let types = ChannelTypes { codes };
-        Outcome { types, answer }
-    }
-
-    // Merges a column's type into a channel: refusals 1 to 5, then 9 to 12.
+    // Merges a column's type into a channel, by value: refusals 1 to 5, then 9 to 12.
     pub fn merge(self, channel: usize, kinds: &[u8], args: &[u64]) -> Outcome
         ensures { λ r. do
           channels ← ⟦ChannelTypes::CHANNELS⟧ .entry
@@ -142,11 +130,14 @@ impl ChannelTypes {
           deep ← ⟦Flat::MAX_DEPTH⟧ .entry
           ⌜ Merges channels self channel (reading nodes deep (now (kinds .entry)) (now (args .entry))) r ⌝ }
     {
-        self.merge_root(channel, flat::check_root(kinds, args))
+        let mut codes = self.codes;
+        let answer = merge_codes(&mut codes, channel, flat::check_root(kinds, args));
+        let types = ChannelTypes { codes };
+        Outcome { types, answer }
     }
 }
 
-// The lent form: the types are taken apart, the column is merged by value, and the types are put back.
+// The same with the types lent: they are taken apart, the column is merged by value, and they are put back.
 pub fn merge_in_place(
     types: &mut ChannelTypes,
     channel: usize,
