@@ -6,7 +6,7 @@ use mathlib.Core.List.{List, [], _∷_}
 use Prim.Native.Nat.{ℕ, _≤_, _<_}
 use lib.Dec.{eqb}
 use Rattle.flat.specs.Tree.{DataType, headKind}
-use Rattle.flat.specs.Reading.{Reading, refused, type}
+use Rattle.flat.specs.Reading.{Reading, refused, type, reading}
 use Rattle.flat.specs.declared.error.Error.{Error}
 use Rattle.flat.specs.declared.error.Error.the-variants.{Channel, NotInteger, NoUpcast}
 use Rattle.utils_numbers.specs.Range.{Listed, Least, Room}
@@ -18,6 +18,10 @@ use Rattle.channels.specs.declared.Merged.the-variants.{Held, Refused}
 pub record Merge : Type 0 where
   pub channel : ℕ
   pub column : Reading
+
+-- the merge of two arrays of any content, at the limits of a flat type
+abbrev pub flatMerge : (nodes deep channel : ℕ) → (kinds args : List ℕ) → Merge
+flatMerge nodes deep channel kinds args = record { channel = channel; column = reading nodes deep kinds args }
 
 -- "a page of types for each channel": an integer type is its kind
 abbrev pub Model : Type 0

@@ -12,7 +12,7 @@ use Rattle.flat.specs.Argument.{argumentFits, ruleOf}
 use Rattle.flat.specs.Tree.{DataType, leaf, headKind, size, depth}
 use Rattle.flat.specs.Reading.{Ruled}
 use Rattle.flat.specs.Walk.{orElse}
-use Rattle.flat.proofs.Rules.{run, in-run}
+use Rattle.flat.proofs.Rules.{run, passes}
 use Rattle.datatypes.specs.Match.{among}
 use Rattle.datatypes.specs.Predicate.{isUnknownInt}
 use Rattle.datatypes.specs.Integer.{holds}
@@ -22,14 +22,6 @@ use Rattle.datatypes.specs.Physical.{physicalLeaf, physicalKind}
 use Rattle.datatypes_build.specs.Leaf.{materializedLeaf, leafOf, keptArg}
 use Rattle.datatypes_build.specs.declared.leaf.Form.{Form}
 use Rattle.datatypes_build.specs.declared.leaf.Form.the-variants.{Physical, Materialized}
-
--- a test that antt computes over a run of kinds
-passes : (test : ℕ → Bool) (lo n : ℕ) → T (run test lo n) → (k : ℕ) → lo ≤ k → k < lo + n → test k ≡ true
-passes test lo n t k l h = go (test k) (in-run test lo n t k l h)
-  where
-    go : (b : Bool) → T b → b ≡ true
-    go true t = refl
-    go false t = absurd t
 
 -- ---- the physical form
 pub physical-kind : (k a : ℕ) → headKind (physicalLeaf k a) ≡ physicalKind k

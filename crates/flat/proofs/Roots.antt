@@ -5,7 +5,7 @@ use mathlib.Core.List.{List, [], _∷_}
 use Prim.Native.Nat.{ℕ, _≤_, _<_}
 use native.Mathlib.Omega.{arith}
 use borrow.Author.Tests.{leb-true}
-use lib.Dec.{leb}
+use lib.Dec.{T, leb}
 use lib.ListN.{length, getD}
 use Rattle.flat.specs.Kind
 use Rattle.flat.specs.Argument.{ruleOf, argumentFits, leafFits}
@@ -17,6 +17,7 @@ use Rattle.flat.specs.declared.Root.{Root}
 use Rattle.flat.proofs.Sizes.{size-pos}
 use Rattle.flat.proofs.Meaning.{Passed, check-passed, checked-refused, root-kind, root-arg}
 use Rattle.flat.proofs.Checks.{one-leaf}
+use Rattle.flat.proofs.Rules.{run, passes}
 
 root-ruled : (t : DataType) → Ruled t → (headKind t ≤ Kind.Struct) × (argumentFits (headKind t) (headArg t) ≡ true)
 unfolding Ruled headKind headArg argumentFits ruleOf
@@ -40,6 +41,14 @@ pub leaf-root : (nodes deep k a : ℕ) → 1 ≤ nodes → leafFits k a ≡ true
 leaf-root nodes deep k a h e =
     let both = and-eq-true-iff (leb k Kind.UnknownIntNeg) (argumentFits k a) .0 e in
     root-read (check-passed (one-leaf nodes deep k a h (both .1) (omega (arith, leb-true k Kind.UnknownIntNeg (both .0)))))
+
+-- one of a kind before Decimal
+fits-zero : T (run (λ k. leafFits k 0) 0 Kind.Decimal)
+unfolding argumentFits ruleOf
+fits-zero = tt
+
+pub plain-root : (nodes deep k a : ℕ) → 1 ≤ nodes → k < Kind.Decimal → a ≡ 0 → (Root.Node k a ≡ rootOf (reading nodes deep (k ∷ []) (a ∷ []))) × RootFits (Root.Node k a)
+plain-root nodes deep k a h l e = leaf-root nodes deep k a h (rw e (passes (λ k. leafFits k 0) 0 Kind.Decimal fits-zero k (omega arith) l))
 
 pub root-refused : (r : Reading) {e : Error} → Checked.Refused e ≡ checkedOf r → (Root.Refused e ≡ rootOf r) × RootFits (Root.Refused e)
 root-refused r {e} q = (ap rootOf (sym (checked-refused r e q)), tt)

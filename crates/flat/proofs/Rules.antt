@@ -42,6 +42,13 @@ in-run f lo (suc n) t k h l = go (eqb k lo) refl (λ m. in-run f (suc lo) n (and
     go true e rest = subst (λ (j : ℕ). T (f j)) (sym (eqb-true k lo e)) (and-left (f lo) (run f (suc lo) n) t)
     go false e rest = rest (omega (arith, eqb-false k lo e))
 
+pub passes : (f : ℕ → Bool) (lo n : ℕ) → T (run f lo n) → (k : ℕ) → lo ≤ k → k < lo + n → f k ≡ true
+passes f lo n t k h l = go (f k) (in-run f lo n t k h l)
+  where
+    go : (b : Bool) → T b → b ≡ true
+    go true t = refl
+    go false t = absurd t
+
 -- two kinds: a is in the first run and b in the second
 abbrev pub In : ℕ → ℕ → ℕ → ℕ → ℕ → ℕ → Type 0
 In i m j n a b = ((i ≤ a) × (a < i + m)) × ((j ≤ b) × (b < j + n))

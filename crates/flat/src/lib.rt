@@ -11,7 +11,6 @@ ghost use lib.ListN.{length};
 ghost use Rattle.flat.specs.Reader.{nodeAt};
 ghost use Rattle.flat.specs.Reading.{kindsFit, argumentsFit, shaped, reading, checkedOf, rootOf, RootFits};
 use argument::argument_fits;
-use argument::leaf_fits;
 use error::Error;
 use kind::Kind;
 use span::Span;
@@ -159,13 +158,15 @@ pub fn check_root(kinds: &[u8], args: &[u64]) -> Root
       deep ← ⟦Flat::MAX_DEPTH⟧ .entry
       ⌜ (r ≡ rootOf (reading nodes deep (now (kinds .entry)) (now (args .entry)))) × RootFits r ⌝ }
 {
-    // the common case: one node with no child needs no scan and no walk
+    // the common case needs no scan and no walk: one node of a kind before Decimal, whose argument is 0; so short a test is compiled into its callers
     if kinds.len() == 1 {
         if args.len() == 1 {
             let kind = kinds[0];
             let arg = args[0];
-            if leaf_fits(kind, arg) {
-                return Root::Node(kind, arg);
+            if kind < Kind::DECIMAL {
+                if arg == 0 {
+                    return Root::Node(kind, arg);
+                }
             }
         }
     }
