@@ -47,8 +47,8 @@ fits-zero : T (run (λ k. leafFits k 0) 0 Kind.Decimal)
 unfolding argumentFits ruleOf
 fits-zero = tt
 
-pub plain-root : (nodes deep k a : ℕ) → 1 ≤ nodes → k < Kind.Decimal → a ≡ 0 → (Root.Node k a ≡ rootOf (reading nodes deep (k ∷ []) (a ∷ []))) × RootFits (Root.Node k a)
-plain-root nodes deep k a h l e = leaf-root nodes deep k a h (rw e (passes (λ k. leafFits k 0) 0 Kind.Decimal fits-zero k (omega arith) l))
+pub plain-root : (nodes deep k a : ℕ) → 1 ≤ nodes → k < Kind.Decimal → a ≡ 0 → (Root.Node k 0 ≡ rootOf (reading nodes deep (k ∷ []) (a ∷ []))) × RootFits (Root.Node k 0)
+plain-root nodes deep k a h l e = rw e (leaf-root nodes deep k 0 h (passes (λ k. leafFits k 0) 0 Kind.Decimal fits-zero k (omega arith) l))
 
 pub root-refused : (r : Reading) {e : Error} → Checked.Refused e ≡ checkedOf r → (Root.Refused e ≡ rootOf r) × RootFits (Root.Refused e)
 root-refused r {e} q = (ap rootOf (sym (checked-refused r e q)), tt)

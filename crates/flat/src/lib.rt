@@ -162,10 +162,9 @@ pub fn check_root(kinds: &[u8], args: &[u64]) -> Root
     if kinds.len() == 1 {
         if args.len() == 1 {
             let kind = kinds[0];
-            let arg = args[0];
             if kind < Kind::DECIMAL {
-                if arg == 0 {
-                    return Root::Node(kind, arg);
+                if args[0] == 0 {
+                    return Root::Node(kind, 0);
                 }
             }
         }

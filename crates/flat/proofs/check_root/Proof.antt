@@ -10,13 +10,13 @@ use Rattle.flat.proofs.check_root.Statement.{statement}
 use Rattle.flat.proofs.check_root.Tie as tie
 
 returns : tie.Need-returns
-returns c = root-alone _ _ _ _ (omega arith) (omega arith) (plain-root _ _ _ _ (lit≤ tt) (c .before .if3 .taken) (c .if4 .taken))
+returns c = root-alone _ _ _ _ (omega arith) (omega arith) (plain-root _ _ _ _ (lit≤ tt) (c .before .before .if3 .taken) (c .if4 .taken))
 
-shared-slice-read-t19 : tie.Need-shared-slice-read-t19
-shared-slice-read-t19 c = search (needs, some-node (check-passed (sym (c .before .enum-told .given .1) ∙ c .before .before .before .check .ensures)) .0)
+shared-slice-read-t18 : tie.Need-shared-slice-read-t18
+shared-slice-read-t18 c = search (needs, some-node (check-passed (sym (c .before .enum-told .given .1) ∙ c .before .before .before .check .ensures)) .0)
 
-shared-slice-read-t21 : tie.Need-shared-slice-read-t21
-shared-slice-read-t21 c = search (needs, some-node (check-passed (sym (c .before .before .enum-told .given .1) ∙ c .before .before .before .before .check .ensures)) .1)
+shared-slice-read-t20 : tie.Need-shared-slice-read-t20
+shared-slice-read-t20 c = search (needs, some-node (check-passed (sym (c .before .before .enum-told .given .1) ∙ c .before .before .before .before .check .ensures)) .1)
 
 returns-2 : tie.Need-returns-2
 returns-2 c = root-read (check-passed (sym (c .before .before .enum-told .given .1) ∙ c .before .before .before .before .check .ensures))
@@ -31,8 +31,8 @@ check-root-spec =
     (λ c. search needs) (λ c. search needs)
     returns
     (λ c κs. search needs) (λ c. search needs)
-    shared-slice-read-t19
-    shared-slice-read-t21
+    shared-slice-read-t18
+    shared-slice-read-t20
     (λ c. search needs)
     returns-2
     returns-3)
