@@ -20,7 +20,7 @@ use Rattle.datatypes_cast.specs.declared.dtype.Cast.{Cast}
 use Rattle.utils.specs.TimeUnits.{getTimeUnits}
 use Rattle.utils.specs.Join.{joinedOf, joinedNumber, joinedValue, kindsFound, argsFound}
 use Rattle.utils.specs.declared.join.Joined.{Joined}
-use Rattle.utils_report.specs.Report.{Reports, reportNumber, reportValue}
+use Rattle.utils_report.specs.Report.{reportNumber, reportValue}
 use Rattle.utils_report.specs.declared.Report.{Report}
 use Rattle.channels.specs.Merge.{mergedNumber, mergedValue, mergedOf, codesAfter}
 use Rattle.channels.specs.declared.Merged.{Merged}
@@ -84,12 +84,6 @@ pub record JoinReply (w : ℕ) (found : Option Reading) (out out′ : List ℕ) 
 -- what a report says
 abbrev pub reportReply : Report → Reply
 reportReply a = record { number = reportNumber a; value = reportValue a }
-
--- The reply to a call for one: that of a report which says what is so, and there is exactly one.
-pub record ReportReply (left right : Reading) (reply : Reply) : Type 0 where
-  pub report : Report
-  pub reports : Reports left right report
-  pub replies : reply ≡ reportReply report
 
 -- the code now held
 abbrev pub mergedReply : Merged → Reply

@@ -8,8 +8,9 @@ ghost use Rattle.encoding.specs.Encoding.{decoding};
 ghost use Rattle.utils.specs.Join.{joining, fittingFound};
 ghost use Rattle.utils_lossless.specs.Lossless.{losslessOf};
 ghost use Rattle.utils_supertype.specs.Pair.{supertypeOf};
+ghost use Rattle.utils_report.specs.Report.{typesReport};
 ghost use Rattle.encoding_join.specs.Join.{fittingFoundBytes};
-ghost use Rattle.capi.specs.Reply.{joinedReply, JoinReply, FlatJoinReply, ReportReply};
+ghost use Rattle.capi.specs.Reply.{joinedReply, JoinReply, FlatJoinReply, reportReply};
 use crate::Reply;
 use encoding::Encoding;
 use flat::Flat;
@@ -72,7 +73,7 @@ pub extern "C" fn lz_join_report(left: &[u8], right: &[u8]) -> Reply
       nodes ← ⟦Flat::MAX_NODES⟧ .entry
       deep ← ⟦Flat::MAX_DEPTH⟧ .entry
       w ← ⟦Encoding::ARGUMENT_BYTES⟧ .entry
-      ⌜ ReportReply (decoding w nodes deep (now (left .entry))) (decoding w nodes deep (now (right .entry))) r ⌝ }
+      ⌜ r ≡ reportReply (typesReport (decoding w nodes deep (now (left .entry))) (decoding w nodes deep (now (right .entry)))) ⌝ }
 {
     let report = encoding_join::join_report(left, right);
     Reply {

@@ -13,17 +13,17 @@ use lib.Seq.{getD-set-same, getD-set-other}
 use borrow.Author.Tests.{ltb-true, ltb-false, eq-eqb, ne-eqb}
 use Rattle.flat.specs.Tree.{DataType, headKind}
 use Rattle.flat.specs.Reading.{Reading, refused, type}
-use Rattle.flat.specs.declared.error.Error.the-variants.{Channel}
+use Rattle.flat.specs.declared.error.Error.the-variants.{Channel, NoUpcast}
 use Rattle.utils_numbers.specs.Range.{Listed, Least, Room}
 use Rattle.utils_numbers.proofs.Ranges.{least-one}
 use Rattle.channels.specs.declared.ChannelTypes.{ChannelTypes}
 use Rattle.channels.specs.declared.Merged.{Merged}
 use Rattle.channels.specs.declared.Merged.the-variants.{Held, Refused}
 use Rattle.channels.specs.Merge.{unless, mergedWith, mergedOf, codesAfter, started}
-use Rattle.channels.specs.Model.{Merge, Model, blank, joining, Stands, Enters, not-a-type, no-channel, not-integer, accepted, no-room, Feeds}
+use Rattle.channels.specs.Model.{Merge, Model, blank, joining, numbered, StandsWhere, Stands, Enters, not-a-type, no-channel, not-integer, accepted, no-room, Feeds}
 use Rattle.channels.specs.Rule
-use Rattle.channels.specs.Rule.{Run, IsRefused, kindIn, AllListed}
-use Rattle.channels.proofs.Pages.{Answered, answered}
+use Rattle.channels.specs.Rule.{Run, kindIn, AllListed}
+use Rattle.channels.proofs.Pages.{Answered, answered, stands-joined}
 
 -- the codes follow the model: one for each channel, and each where its channel stands
 pub record Follow (channels : ℕ) (b : Model) (codes : List ℕ) : Type 0 where
@@ -38,17 +38,17 @@ Step channels b channel column a codes = (b′ : Model) × Enters channels b cha
 
 module _ {channels : ℕ} {b : Model} {codes : List ℕ} (g : Follow channels b codes) (channel : ℕ) where
   -- an accepted type joins its channel's page, and the other channels stand where they stood
-  joined : (k c : ℕ) → channel < channels → Least c (k ∷ b channel) → Follow channels (joining b channel k) (set codes channel c)
-  joined k c l m = record { size = length-set codes channel c ∙ g .size; stands = λ i h. go i h (ℕ-discrete channel i) }
+  joined : (k c : ℕ) → channel < channels → Listed k → Least c (k ∷ b channel) → Follow channels (joining b channel k) (set codes channel c)
+  joined k c l w m = record { size = length-set codes channel c ∙ g .size; stands = λ i h. go i h (ℕ-discrete channel i) }
     where
       go : (i : ℕ) → i < channels → Dec (channel ≡ i) → Stands (joining b channel k i) (getD (set codes channel c) i 0)
-      go i h (yes e) = rw (eq-eqb channel i e, ← e, getD-set-same codes channel c 0 (rw (g .size) l)) m
+      go i h (yes e) = rw (eq-eqb channel i e, ← e, getD-set-same codes channel c 0 (rw (g .size) l)) (stands-joined k c (b channel) w m)
       go i h (no n) = rw (ne-eqb channel i n, getD-set-other codes channel i c 0 (λ e. n (sym e))) (g .stands i h)
 
   -- what the page calls for is what the model does
   on-page : (t : DataType) {a : Merged} → channel < channels → Answered (b channel) (headKind t) a → Step channels b channel (type t) a (codesAfter codes channel a)
   on-page t l (Answered.not-integer n) = (b, not-integer l n, g)
-  on-page t l (Answered.accepted {c = c} i m) = (joining b channel (headKind t), accepted l i (c, m .is-listed, m .covers) m, joined (headKind t) c l m)
+  on-page t l (Answered.accepted {c = c} i m) = (joining b channel (headKind t), accepted l i (c, m .is-listed, m .covers) (stands-joined (headKind t) c (b channel) i m), joined (headKind t) c l i m)
   on-page t l (Answered.no-room i n) = (b, no-room l i n, g)
 
   step : (column : Reading) → Step channels b channel column (mergedOf channels codes channel column) (codesAfter codes channel (mergedOf channels codes channel column))
@@ -61,6 +61,14 @@ module _ {channels : ℕ} {b : Model} {codes : List ℕ} (g : Follow channels b 
       go true e = let l = ltb-true channel channels e in on-page t l (answered (b channel) (getD codes channel 0) (headKind t) (g .stands channel l))
 
 -- ---- the answer to a column, and what it does to the model
+
+-- a page stands at one code
+stands-one : (page : List ℕ) {c d : ℕ} → Stands page c → Stands page d → c ≡ d
+stands-one page {c} {d} = go (numbered page)
+  where
+    go : (a : Bool) → StandsWhere a page c → StandsWhere a page d → c ≡ d
+    go false p q = p ∙ sym q
+    go true p q = least-one p q
 
 -- there is one answer
 one-answer : {channels : ℕ} {b b₁ b₂ : Model} {channel : ℕ} {column : Reading} {a₁ a₂ : Merged} → Enters channels b channel column a₁ b₁ → Enters channels b channel column a₂ b₂ → a₁ ≡ a₂
@@ -75,7 +83,7 @@ one-answer (not-integer l n) (accepted l′ i r m) = absurd (n i)
 one-answer (not-integer l n) (no-room l′ i n′) = absurd (n i)
 one-answer (accepted l i r m) (no-channel h) = absurd (omega arith)
 one-answer (accepted l i r m) (not-integer l′ n) = absurd (n i)
-one-answer (accepted l i r m) (accepted l′ i′ r′ m′) = ap Held (least-one m m′)
+one-answer {b = b} {channel = channel} (accepted {t = t} l i r m) (accepted l′ i′ r′ m′) = ap Held (stands-one (headKind t ∷ b channel) m m′)
 one-answer (accepted l i r m) (no-room l′ i′ n) = absurd (n r)
 one-answer (no-room l i n) (no-channel h) = absurd (omega arith)
 one-answer (no-room l i n) (not-integer l′ n′) = absurd (n′ i)
@@ -106,13 +114,18 @@ enters-listed {b = b} {channel = channel} (accepted {t = t} l i r m) ch h = go (
     go false = h
 enters-listed (no-room l i n) ch h = h
 
+-- an answer told apart by a number
+abbrev heldOne : Merged → ℕ
+heldOne (Held c) = 0
+heldOne (Refused e) = 1
+
 -- a listed type for one of the channels is refused exactly where there is no room
 pub refused-where : {channels : ℕ} {b b′ : Model} {channel : ℕ} {t : DataType} {a : Merged} → Enters channels b channel (type t) a b′ → channel < channels → Listed (headKind t)
-    → IsRefused a ↔ (Room (headKind t ∷ b channel) → ⊥)
+    → (a ≡ Refused NoUpcast) ↔ (Room (headKind t ∷ b channel) → ⊥)
 refused-where (no-channel h) l i = absurd (omega arith)
 refused-where (not-integer l′ n) l i = absurd (n i)
-refused-where (accepted l′ i′ r m) l i = ((λ x. absurd x), (λ n. n r))
-refused-where (no-room l′ i′ n) l i = ((λ x. n), (λ n′. tt))
+refused-where (accepted l′ i′ r m) l i = ((λ x. absurd (let y : _≡_ {A = ℕ} 0 1 = ap heldOne x in omega arith)), (λ n. absurd (n r)))
+refused-where (no-room l′ i′ n) l i = ((λ x. n), (λ n′. refl))
 
 -- ---- a list of merges
 

@@ -1,6 +1,6 @@
 -- A merge into one channel: where the channel stands by its page, its answer is the one that the page calls for. Assumes nothing.
 use mathlib.Core.Path.{_≡_, refl, sym, subst}
-use mathlib.Core.Bool.{Bool, true, false}
+use mathlib.Core.Bool.{Bool, true, false, _||_}
 use mathlib.Core.List.{List, [], _∷_}
 use Prim.Native.Nat.{ℕ}
 use native.Mathlib.Omega.{arith}
@@ -17,7 +17,7 @@ use Rattle.utils_lossless.proofs.Laws.{lossless-laws}
 use Rattle.channels.specs.declared.Merged.{Merged}
 use Rattle.channels.specs.declared.Merged.the-variants.{Held, Refused}
 use Rattle.channels.specs.Merge.{choose, unless, upcastHeld, mergedWith}
-use Rattle.channels.specs.Model.{Stands}
+use Rattle.channels.specs.Model.{numbered, StandsWhere, Stands}
 
 -- the answer that a page calls for when a type of the kind k is offered
 pub data Answered (page : List ℕ) (k : ℕ) : Merged → Type 0 where
@@ -39,16 +39,25 @@ is-listed-true k l = rw (le-leb Kind.UInt8 k (l .0), le-leb k Kind.Int128 (l .1)
 
 -- ---- an empty channel
 
--- a listed type is the least over itself
-least-itself : {k : ℕ} → Listed k → Least k (k ∷ [])
-least-itself l = record { is-listed = l; covers = ((λ z h. h), tt); innermost = λ u i c. c .0 }
-
-on-empty : (k : ℕ) → Answered [] k (mergedWith 0 k)
-unfolding mergedWith
-on-empty k = go (isListed k) refl
+-- a page without a number is included in every type
+pub covers-none : (t : ℕ) (page : List ℕ) → numbered page ≡ false → Covers t page
+covers-none t [] e = tt
+covers-none t (k ∷ ks) e = go (isListed k) refl (λ h. covers-none t ks h) e
   where
-    go : (a : Bool) → isListed k ≡ a → Answered [] k (unless a NotInteger (Held k))
-    go true e = accepted (listed e) (least-itself (listed e))
+    go : (a : Bool) → isListed k ≡ a → (numbered ks ≡ false → Covers t ks) → (a || numbered ks) ≡ false → Covers t (k ∷ ks)
+    go true f rest h = absurd (subst T h tt)
+    go false f rest h = ((λ z i. absurd (not-listed f (i .0))), rest h)
+
+-- a listed type is the least over itself and such a page
+least-itself : {k : ℕ} (page : List ℕ) → numbered page ≡ false → Listed k → Least k (k ∷ page)
+least-itself {k} page e l = record { is-listed = l; covers = ((λ z h. h), covers-none k page e); innermost = λ u i c. c .0 }
+
+on-empty : (page : List ℕ) → numbered page ≡ false → (k : ℕ) → Answered page k (mergedWith 0 k)
+unfolding mergedWith
+on-empty page n k = go (isListed k) refl
+  where
+    go : (a : Bool) → isListed k ≡ a → Answered page k (unless a NotInteger (Held k))
+    go true e = accepted (listed e) (least-itself page n (listed e))
     go false e = not-integer (not-listed e)
 
 -- ---- a channel that holds the least type over its page
@@ -85,5 +94,12 @@ module _ {page : List ℕ} {held : ℕ} (m : Least held page) (k : ℕ) where
       go true false Nothing e f g = no-room (listed e) (λ r. lossless-laws .none held k (m .is-listed) (listed e) (eqb-false held k f) .0 g (r .0, r .1, with-held (r .1) (r .2)))
 
 pub answered : (page : List ℕ) (held k : ℕ) → Stands page held → Answered page k (mergedWith held k)
-answered [] held k e = rw e (on-empty k)
-answered (p ∷ ps) held k m = on-held m k
+answered page held k = go (numbered page) refl
+  where
+    go : (a : Bool) → numbered page ≡ a → StandsWhere a page held → Answered page k (mergedWith held k)
+    go false e s = rw s (on-empty page e k)
+    go true e s = on-held s k
+
+-- where it stands once a listed type has joined
+pub stands-joined : (k c : ℕ) (page : List ℕ) → Listed k → Least c (k ∷ page) → Stands (k ∷ page) c
+stands-joined k c page l m = rw (is-listed-true k l) m

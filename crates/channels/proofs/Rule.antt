@@ -3,14 +3,16 @@ use mathlib.Core.Path.{_≡_, refl, sym, ap, _∙_}
 use mathlib.Core.Bool.{Bool, true, false, cond}
 use mathlib.Core.Logic.{_↔_}
 use mathlib.Core.List.{List, [], _∷_, _++_}
-use Prim.Native.Nat.{ℕ, _<_}
+use Prim.Native.Nat.{ℕ, _≤_, _<_}
+use native.Mathlib.Omega.{arith}
+use native.Mathlib.Decide.{decLt}
 use lib.Dec.{ltb, eqb}
-use lib.ListN.{length, getD, length-set}
+use lib.ListN.{length, getD, set, length-set, List·getD-eq-default}
 use lib.Seq.{getD-set-same, getD-set-other}
 use borrow.Author.Tests.{ltb-true, eqb-true, eqb-false}
 use Rattle.flat.specs.Tree.{DataType, headKind}
 use Rattle.flat.specs.Reading.{Reading, refused, type}
-use Rattle.flat.specs.declared.error.Error.the-variants.{Channel}
+use Rattle.flat.specs.declared.error.Error.the-variants.{Channel, NoUpcast}
 use Rattle.utils_numbers.specs.Range.{Listed, Covers, Room}
 use Rattle.utils_numbers.proofs.Ranges.{least-one}
 use Rattle.channels.specs.declared.ChannelTypes.{ChannelTypes}
@@ -18,8 +20,9 @@ use Rattle.channels.specs.declared.Merged.{Merged}
 use Rattle.channels.specs.declared.Merged.the-variants.{Held, Refused}
 use Rattle.channels.specs.declared.Outcome.{Outcome}
 use Rattle.channels.specs.Merge.{unless, mergedWith, mergedOf, codesAfter, started, Merges}
-use Rattle.channels.specs.Model.{Merge, Model, Stands, Feeds}
-use Rattle.channels.specs.Rule.{Run, codeAt, IsRefused, Tells, accepted, AllListed, only, answersTo, ChannelRule}
+use Rattle.channels.specs.Model.{Merge, Model, numbered, StandsWhere, Stands, Feeds}
+use Rattle.channels.proofs.Pages.{covers-none}
+use Rattle.channels.specs.Rule.{Run, codeAt, Tells, accepted, AllListed, only, answersTo, ChannelRule}
 use Rattle.channels.proofs.Models.{by-model, one-model, pages, all-listed, refused-where}
 
 -- ---- what a merge leaves, whatever the codes are
@@ -67,12 +70,24 @@ module _ {channels : ℕ} {s : ChannelTypes} {channel : ℕ} {column : Reading} 
   own-code : length (s .codes) ≡ channels → codeAt (o .types) channel ≡ codeAfter (codeAt s channel) (o .answer)
   own-code n = rw (h .answers, h .leaves) (after-own channels (s .codes) channel column n)
 
+-- the channel's own code after one answer, of codes of one length that agree there
+after-same : (x y : List ℕ) (ch : ℕ) (a : Merged) → length x ≡ length y → getD x ch 0 ≡ getD y ch 0 → getD (codesAfter x ch a) ch 0 ≡ getD (codesAfter y ch a) ch 0
+after-same x y ch (Refused e) n h = h
+after-same x y ch (Held c) n h = go (decLt ch (length x))
+  where
+    past : (z : List ℕ) → length z ≤ ch → getD (set z ch c) ch 0 ≡ 0
+    past z l = List·getD-eq-default (set z ch c) 0 {n = ch} (rw (length-set z ch c) l)
+
+    go : Dec (ch < length x) → getD (set x ch c) ch 0 ≡ getD (set y ch c) ch 0
+    go (yes l) = getD-set-same x ch c 0 l ∙ sym (getD-set-same y ch c 0 (omega arith))
+    go (no l) = past x (omega arith) ∙ sym (past y (omega arith))
+
 -- one column merged into a channel of two types, which have the same code there
 same-merge : {channels : ℕ} {s t : ChannelTypes} {channel : ℕ} {column : Reading} {o p : Outcome} → Merges channels s channel column o → Merges channels t channel column p
-    → length (s .codes) ≡ channels → length (t .codes) ≡ channels → codeAt s channel ≡ codeAt t channel → (codeAt (o .types) channel ≡ codeAt (p .types) channel) × (o .answer ≡ p .answer)
-same-merge {channels} {s} {t} {channel} {column} {o} {p} h g m n e =
-    let a : o .answer ≡ p .answer = h .answers ∙ same-answer channels (s .codes) (t .codes) channel column e ∙ sym (g .answers) in
-    (cc (own-code h m, own-code g n), a)
+    → length (s .codes) ≡ length (t .codes) → codeAt s channel ≡ codeAt t channel → (codeAt (o .types) channel ≡ codeAt (p .types) channel) × (o .answer ≡ p .answer)
+same-merge {channels} {s} {t} {channel} {column} {o} {p} h g n e =
+    let m = same-answer channels (s .codes) (t .codes) channel column e in
+    (rw (h .leaves, g .leaves, m) (after-same (s .codes) (t .codes) channel (mergedOf channels (t .codes) channel column) n e), h .answers ∙ m ∙ sym (g .answers))
 
 -- an answer is the code after it
 tells : (held : ℕ) (a : Merged) {code : ℕ} → code ≡ codeAfter held a → Tells a code
@@ -104,9 +119,9 @@ module _ {channels : ℕ} where
   answers n (Run.next {s = s} {m = m} {o = o} r h) = tells (codeAt s (m .channel)) (o .answer) (own-code h (run-length r ∙ n))
 
   -- a merge into another channel leaves this one as it was; one into this channel is in both lists
-  alone : (ch : ℕ) {ms : List Merge} {xs ys : List Merged} {s₀ s t : ChannelTypes} → length (s₀ .codes) ≡ channels → Run channels s₀ ms xs s → Run channels s₀ (only ch ms) ys t → (codeAt s ch ≡ codeAt t ch) × (answersTo ch ms xs ≡ ys)
-  alone ch n Run.none Run.none = (refl, refl)
-  alone ch {s₀ = s₀} n (Run.next {ms = ms} {xs = xs} {s = s} {m = m} {o = o} r h) q = go (eqb (m .channel) ch) refl (λ zs u p. alone ch n r p) q
+  alone : (ch : ℕ) {ms : List Merge} {xs ys : List Merged} {s₀ s t : ChannelTypes} → Run channels s₀ ms xs s → Run channels s₀ (only ch ms) ys t → (codeAt s ch ≡ codeAt t ch) × (answersTo ch ms xs ≡ ys)
+  alone ch Run.none Run.none = (refl, refl)
+  alone ch {s₀ = s₀} (Run.next {ms = ms} {xs = xs} {s = s} {m = m} {o = o} r h) q = go (eqb (m .channel) ch) refl (λ zs u p. alone ch r p) q
     where
       go : {ys : List Merged} {t : ChannelTypes} (own : Bool) → eqb (m .channel) ch ≡ own
           → ((zs : List Merged) (u : ChannelTypes) → Run channels s₀ (only ch ms) zs u → (codeAt s ch ≡ codeAt u ch) × (answersTo ch ms xs ≡ zs))
@@ -115,7 +130,7 @@ module _ {channels : ℕ} where
       go true e rest (Run.next {xs = zs} {s = u} r′ h′) =
           let b = rest zs u r′ in
           let d : m .channel ≡ ch = eqb-true (m .channel) ch e in
-          let a = same-merge h h′ (run-length r ∙ n) (run-length r′ ∙ n) (rw d (b .0)) in
+          let a = same-merge h h′ (run-length r ∙ sym (run-length r′)) (rw d (b .0)) in
           (rw d at (a .0), cc)
       go {ys} {t} false e rest r′ = let b = rest ys t r′ in (keeps-other h ch (λ d. eqb-false (m .channel) ch e (sym d)) ∙ b .0, b .1)
 
@@ -123,8 +138,11 @@ module _ {channels : ℕ} where
 
 -- where a channel stands, it covers its page
 covers-where : (ks : List ℕ) (c : ℕ) → Stands ks c → Covers c ks
-covers-where [] c e = tt
-covers-where (k ∷ ks) c m = m .covers
+covers-where ks c = go (numbered ks) refl
+  where
+    go : (a : Bool) → numbered ks ≡ a → StandsWhere a ks c → Covers c ks
+    go false e s = covers-none c ks e
+    go true e s = s .covers
 
 module _ {channels : ℕ} where
   holds : {ms : List Merge} {xs : List Merged} {s : ChannelTypes} → Run channels (started channels) ms xs s → (ch : ℕ) → ch < channels → Stands (accepted ch ms xs) (codeAt s ch)
@@ -134,7 +152,7 @@ module _ {channels : ℕ} where
   keeps {ms} {xs} {s} r ch l = let f = by-model r .1 in (rw (pages f ch) at (all-listed f ch), covers-where (accepted ch ms xs) (codeAt s ch) (holds r ch l))
 
   refused-when : {ms : List Merge} {xs : List Merged} {m : Merge} {a : Merged} {t : DataType} {b : Model} → Feeds channels (m ∷ ms) (a ∷ xs) b
-      → m .column ≡ type t → Listed (headKind t) → m .channel < channels → IsRefused a ↔ ¬ Room (headKind t ∷ accepted (m .channel) ms xs)
+      → m .column ≡ type t → Listed (headKind t) → m .channel < channels → (a ≡ Refused NoUpcast) ↔ ¬ Room (headKind t ∷ accepted (m .channel) ms xs)
   refused-when {m = m} (Feeds.next f e) q i l = rw (← pages f (m .channel)) (refused-where (rw q at e) l i)
 
 pub channel-rule : (channels : ℕ) → ChannelRule channels

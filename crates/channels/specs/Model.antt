@@ -1,7 +1,7 @@
 -- The model that the types of the channels are held to, document 01's book: a page of types for each channel. It is fed each merge's channel and type, nothing
 -- of the codes or the answers. Assumes nothing: these are definitions.
 use mathlib.Core.Path.{_≡_}
-use mathlib.Core.Bool.{cond}
+use mathlib.Core.Bool.{Bool, true, false, cond, _||_}
 use mathlib.Core.List.{List, [], _∷_}
 use Prim.Native.Nat.{ℕ, _≤_, _<_}
 use lib.Dec.{eqb}
@@ -9,7 +9,7 @@ use Rattle.flat.specs.Tree.{DataType, headKind}
 use Rattle.flat.specs.Reading.{Reading, refused, type, reading}
 use Rattle.flat.specs.declared.error.Error.{Error}
 use Rattle.flat.specs.declared.error.Error.the-variants.{Channel, NotInteger, NoUpcast}
-use Rattle.utils_numbers.specs.Range.{Listed, Least, Room}
+use Rattle.utils_numbers.specs.Range.{Listed, isListed, Least, Room}
 use Rattle.channels.specs.declared.Merged.{Merged}
 use Rattle.channels.specs.declared.Merged.the-variants.{Held, Refused}
 
@@ -35,10 +35,18 @@ blank i = []
 abbrev pub joining : Model → ℕ → ℕ → Model
 joining b channel k i = cond (eqb channel i) (k ∷ b i) (b i)
 
+-- some type on the page has a number
+abbrev pub numbered : List ℕ → Bool
+numbered [] = false
+numbered (k ∷ ks) = isListed k || numbered ks
+
+abbrev pub StandsWhere : Bool → List ℕ → ℕ → Type 0
+StandsWhere false page c = c ≡ 0
+StandsWhere true page c = Least c page
+
 -- "A channel with an empty page stands at code 0, any other at the code of the type that demand 3 names, taken over the types on its page"
 abbrev pub Stands : List ℕ → ℕ → Type 0
-Stands [] c = c ≡ 0
-Stands (k ∷ ks) c = Least c (k ∷ ks)
+Stands page c = StandsWhere (numbered page) page c
 
 -- The model is fed a column for a channel: its answer, and the model afterwards.
 pub data Enters (channels : ℕ) (b : Model) (channel : ℕ) : Reading → Merged → Model → Type 0 where

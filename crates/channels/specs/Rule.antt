@@ -13,6 +13,7 @@ use Rattle.channels.specs.declared.ChannelTypes.{ChannelTypes}
 use Rattle.channels.specs.declared.Merged.{Merged}
 use Rattle.channels.specs.declared.Merged.the-variants.{Held, Refused}
 use Rattle.channels.specs.declared.Outcome.{Outcome}
+use Rattle.flat.specs.declared.error.Error.the-variants.{NoUpcast}
 use Rattle.channels.specs.Merge.{started, Merges}
 use Rattle.channels.specs.Model.{Merge, Model, Stands, Feeds}
 
@@ -28,10 +29,6 @@ pub data Run (channels : ℕ) (s₀ : ChannelTypes) : List Merge → List Merged
 -- the code of a channel
 abbrev pub codeAt : ChannelTypes → ℕ → ℕ
 codeAt s ch = getD (s .codes) ch 0
-
-abbrev pub IsRefused : Merged → Type 0
-IsRefused (Held c) = ⊥
-IsRefused (Refused e) = Unit {0}
 
 -- an answer is the code that its channel then holds, or a refusal
 abbrev pub Tells : Merged → ℕ → Type 0
@@ -86,10 +83,10 @@ pub record ChannelRule (channels : ℕ) : Type 0 where
   pub the-one : {ks : List ℕ} {t u : ℕ} → Least t ks → Least u ks → t ≡ u
   -- "In it a valid column of a listed integer type, on a valid channel, is refused exactly when no listed type includes its range and those accepted there before."
   pub refused-when : {ms : List Merge} {xs : List Merged} {s : ChannelTypes} {m : Merge} {a : Merged} {t : DataType} → Run channels (started channels) (m ∷ ms) (a ∷ xs) s
-      → m .column ≡ type t → Listed (headKind t) → m .channel < channels → IsRefused a ↔ ¬ Room (headKind t ∷ accepted (m .channel) ms xs)
+      → m .column ≡ type t → Listed (headKind t) → m .channel < channels → (a ≡ Refused NoUpcast) ↔ ¬ Room (headKind t ∷ accepted (m .channel) ms xs)
   -- "Every answer is the code then held or the refusal's number."
   pub answers : {ms : List Merge} {xs : List Merged} {s₀ s : ChannelTypes} {m : Merge} {a : Merged} → length (s₀ .codes) ≡ channels → Run channels s₀ (m ∷ ms) (a ∷ xs) s
       → Tells a (codeAt s (m .channel))
   -- "A channel's code and its offers' answers are the same in such a list and in the one that keeps only its own offers, even from a record not started empty."
-  pub alone : (ch : ℕ) {ms : List Merge} {xs ys : List Merged} {s₀ s t : ChannelTypes} → length (s₀ .codes) ≡ channels → Run channels s₀ ms xs s → Run channels s₀ (only ch ms) ys t
+  pub alone : (ch : ℕ) {ms : List Merge} {xs ys : List Merged} {s₀ s t : ChannelTypes} → Run channels s₀ ms xs s → Run channels s₀ (only ch ms) ys t
       → (codeAt s ch ≡ codeAt t ch) × (answersTo ch ms xs ≡ ys)

@@ -1,10 +1,11 @@
 // The calls that join two encoded types, and that merge one into a channel, by their roots.
+ghost use mathlib.Core.Path.{_≡_};
 ghost use lib.ListN.{length};
 ghost use Rattle.encoding.specs.Encoding.{decoding};
 ghost use Rattle.utils.specs.Join.{resultOf, joining};
 ghost use Rattle.utils_lossless.specs.Lossless.{losslessOf};
 ghost use Rattle.utils_supertype.specs.Pair.{supertypeOf};
-ghost use Rattle.utils_report.specs.Report.{Reports};
+ghost use Rattle.utils_report.specs.Report.{typesReport};
 ghost use Rattle.channels.specs.Merge.{Merges};
 ghost use Rattle.encoding_join.specs.Join.{fittingFoundBytes, JoinsBytes};
 use channels::ChannelTypes;
@@ -79,7 +80,7 @@ pub fn join_report(left: &[u8], right: &[u8]) -> Report
       nodes ← ⟦Flat::MAX_NODES⟧ .entry
       deep ← ⟦Flat::MAX_DEPTH⟧ .entry
       w ← ⟦Encoding::ARGUMENT_BYTES⟧ .entry
-      ⌜ Reports (decoding w nodes deep (now (left .entry))) (decoding w nodes deep (now (right .entry))) r ⌝ }
+      ⌜ r ≡ typesReport (decoding w nodes deep (now (left .entry))) (decoding w nodes deep (now (right .entry))) ⌝ }
 {
     let l = check_root(left);
     let r = check_root(right);

@@ -5,6 +5,7 @@ use mathlib.Core.List.{List, _++_}
 use Prim.Native.Nat.{ℕ}
 use lib.Dec.{leb}
 use lib.ListN.{length, drop}
+use Rattle.flat.specs.Refusal.{numberOf}
 use Rattle.flat.specs.Tree.{size, kindsOf, argsOf}
 use Rattle.flat.specs.Reading.{Reading, refused, type, unless}
 use Rattle.flat.specs.declared.error.Error.the-variants.{OutputTooShort}
@@ -33,6 +34,15 @@ argsOver (type t) out = over (argsOf t) out
 abbrev pub writtenOf : Reading → Written
 writtenOf (refused e) = Written.Refused e
 writtenOf (type t) = Written.Nodes (size t)
+
+-- its number, and the value beside it
+abbrev pub writtenNumber : Written → ℕ
+writtenNumber (Written.Nodes n) = 0
+writtenNumber (Written.Refused e) = numberOf e
+
+abbrev pub writtenValue : Written → ℕ
+writtenValue (Written.Nodes n) = n
+writtenValue (Written.Refused e) = 0
 
 -- What such a call comes to: its answer, and the two lent arrays, ks and xs before the call and ks′ and xs′ after it.
 pub record Writes (r : Reading) (ks xs ks′ xs′ : List ℕ) (answer : Written) : Type 0 where

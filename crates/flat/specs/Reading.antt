@@ -7,6 +7,7 @@ use Prim.Native.Nat.{ℕ, _≤_}
 use lib.Dec.{leb, ltb, eqb}
 use lib.ListN.{length}
 use Rattle.flat.specs.Kind
+use Rattle.flat.specs.Refusal.{numberOf}
 use Rattle.flat.specs.Argument.{argumentFits}
 use Rattle.flat.specs.Tree.{DataType, leaf, list, array, struct, Fields, empty, field, count, size, depth, headKind, headArg}
 use Rattle.flat.specs.Reader.{nodeAt}
@@ -59,10 +60,32 @@ abbrev pub checkedOf : Reading → Checked
 checkedOf (refused e) = Refused e
 checkedOf (type t) = Valid
 
+-- document 01's number of an answer, and the value beside it: a check says no more than that there is a type
+abbrev pub checkedNumber : Checked → ℕ
+checkedNumber Valid = 0
+checkedNumber (Refused e) = numberOf e
+
+abbrev pub checkedValue : Checked → ℕ
+checkedValue Valid = 0
+checkedValue (Refused e) = 0
+
 -- the node at the root of a type
 abbrev pub rootOf : Reading → Root
 rootOf (refused e) = Root.Refused e
 rootOf (type t) = Root.Node (headKind t) (headArg t)
+
+-- its number, and the two values beside it: the kind and the argument
+abbrev pub rootNumber : Root → ℕ
+rootNumber (Root.Node k a) = 0
+rootNumber (Root.Refused e) = numberOf e
+
+abbrev pub rootKind : Root → ℕ
+rootKind (Root.Node k a) = k
+rootKind (Root.Refused e) = 0
+
+abbrev pub rootArg : Root → ℕ
+rootArg (Root.Node k a) = a
+rootArg (Root.Refused e) = 0
 
 -- a root of a valid type: no field, and its argument follows its kind's rule
 abbrev pub RootFits : Root → Type 0

@@ -13,6 +13,7 @@ use Rattle.flat.specs.Kind.{Null, UInt8, UInt16, UInt32, UInt64, Int8, Int16, I
 use Rattle.flat.proofs.Rules.{area, in-area, and-left, and-right, or-right}
 use Rattle.datatypes.specs.Predicate.{isUnknownInt, isUnsignedInteger}
 use Rattle.datatypes.specs.Integer.{holds, firstThatHolds}
+use Rattle.datatypes.specs.Equality.{equalNode}
 use Rattle.datatypes.specs.DynInt.{materializeDynInt, materializeDynIntPos, materializeSmallestDynInt}
 use Rattle.utils.specs.Join.{Node, Some, Nothing, node}
 use Rattle.utils_arms.specs.declared.plan.Plan.{Plan}
@@ -153,5 +154,9 @@ recursive : (i s : Bool) (l r : Node) → fits l ≡ true → fits r ≡ true �
 unfolding supertype supertypeWith
 recursive i s l r p q = λ j. orElse (inner-alike s l r (in-range l p) (in-range r q) j) (inner-alike s r l (in-range r q) (in-range l p) j)
 
+dyn-ints : (i s : Bool) (l r : Node) → isUnknownInt (l .kind) ≡ true → isUnknownInt (r .kind) ≡ true → supertype i s l r ≡ Some l
+unfolding supertype supertypeWith inner equalNode
+dyn-ints i s l r p q = rw (p, q)
+
 pub supertype-laws : SupertypeLaws
-supertype-laws = record { implode = implode; recursive = recursive }
+supertype-laws = record { implode = implode; recursive = recursive; dyn-ints = dyn-ints }

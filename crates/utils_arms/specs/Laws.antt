@@ -1,7 +1,8 @@
 -- What holds of the supertype of any two types that are not nested. Assumes nothing: these are statements, proved in proofs/Recursive.antt.
 use mathlib.Core.Path.{_≡_}
 use mathlib.Core.Bool.{Bool, true, false}
-use Rattle.utils.specs.Join.{Node}
+use Rattle.datatypes.specs.Predicate.{isUnknownInt}
+use Rattle.utils.specs.Join.{Node, Some}
 use Rattle.utils_arms.specs.Node.{fits}
 use Rattle.utils_arms.specs.Supertype.{supertypeWith, supertype}
 
@@ -10,3 +11,5 @@ pub record SupertypeLaws : Type 0 where
   pub implode : (i j s : Bool) (l r : Node) → supertype i s l r ≡ supertype j s l r
   -- the source's own recursion: the calls that its arms make are calls of the function itself, with its default flags
   pub recursive : (i s : Bool) (l r : Node) → fits l ≡ true → fits r ≡ true → supertype i s l r ≡ supertypeWith (supertype false true) s l r
+  -- corner 1: two dyn ints are equal whatever they hold, so the left one returns and the maximum is never taken
+  pub dyn-ints : (i s : Bool) (l r : Node) → isUnknownInt (l .kind) ≡ true → isUnknownInt (r .kind) ≡ true → supertype i s l r ≡ Some l

@@ -1,22 +1,19 @@
--- The report's contract leaves nothing open: of any two readings it says exactly one thing. Assumes nothing.
+-- The report says what is so, and nothing else is: of any two kinds exactly one report is true. Assumes nothing.
 use mathlib.Core.Path.{_≡_, refl, sym, subst, _∙_}
-use mathlib.Core.Bool.{Bool, true, false}
-use Prim.Native.Nat.{ℕ, _≤_}
+use mathlib.Core.Bool.{Bool, true, false, _&&_, _||_}
+use Prim.Native.Nat.{ℕ}
 use native.Mathlib.Omega.{arith}
-use native.Mathlib.Decide.{decLe}
 use lib.Dec.{T}
-use Rattle.flat.specs.Kind.{UInt8, Int128}
-use Rattle.flat.specs.Tree.{headKind, headArg}
-use Rattle.flat.specs.Reading.{Reading, refused, type}
 use Rattle.utils.specs.Join.{Some, node}
-use Rattle.utils_numbers.specs.Range.{Listed}
+use Rattle.utils_numbers.specs.Range.{Listed, isListed}
+use Rattle.utils_numbers.proofs.Tests.{to-listed, of-listed}
 use Rattle.utils_lossless.specs.Lossless.{upcastOf}
 use Rattle.utils_lossless.specs.declared.upcast.Upcast.{Upcast}
 use Rattle.utils_lossless.specs.declared.upcast.Upcast.the-variants.{To, Nothing}
 use Rattle.utils_arms.specs.Supertype.{supertype}
 use Rattle.utils_report.specs.Kept.{Kept}
-use Rattle.utils_report.specs.Laws.{uint128WithSigned}
-use Rattle.utils_report.specs.Report.{Says, RootsReport, Reports}
+use Rattle.utils_report.specs.Laws.{uint128WithSigned, uint64WithSigned}
+use Rattle.utils_report.specs.Report.{Says, pickReport, byUpcast, reportOf}
 use Rattle.utils_report.specs.declared.Report.{Report}
 use Rattle.utils_report.proofs.Pairs.{joined, is-joined, Answered, float64, integral, answered}
 use Rattle.utils_report.proofs.Keeping.{keeps, misses, rounds, avoidable, unavoidable}
@@ -47,57 +44,40 @@ module _ (x y : ℕ) where
   one Report.NotIntegers (Report.Refused e) h k = absurd k
   one (Report.Refused e) b h k = absurd h
 
--- two reports that the contract allows are one
-pub one-report : (l r : Reading) (a b : Report) → Reports l r a → Reports l r b → a ≡ b
-unfolding Reports RootsReport headKind headArg
-one-report (refused e) r a b h k = h ∙ sym k
-one-report (type t) (refused e) a b h k = h ∙ sym k
-one-report (type t) (type u) a b h k = one (headKind t) (headKind u) a b h k
+-- ---- the definition's is so
 
--- ---- at least one
-
-decListed : (k : ℕ) → Dec (Listed k)
-decListed k = go (decLe UInt8 k) (decLe k Int128)
-  where
-    go : Dec (UInt8 ≤ k) → Dec (k ≤ Int128) → Dec (Listed k)
-    go (yes l) (yes h) = yes (l, h)
-    go (yes l) (no h) = no (λ m. h (m .1))
-    go (no l) h = no (λ m. l (m .0))
-
-module _ (a b : ℕ) where
-  abbrev Some-report : Type 0
-  Some-report = (r : Report) × Says a b r
-
-  module _ (p : Listed a) (q : Listed b) where
-    lossy : (Kept a b → ⊥) → Some-report
-    lossy lost = go (upcastOf a b) refl
-      where
-        go : (u : Upcast) → upcastOf a b ≡ u → Some-report
-        go (To k) e = (Report.Avoidable, avoidable p q lost e)
-        go Nothing e = (Report.Unavoidable, unavoidable p q lost e)
-
-    integers : Some-report
-    integers = go (answered a b p q) (uint128WithSigned a b) refl
-      where
-        is : supertype false false (node a 0) (node b 0) ≡ Some (node (joined a b) 0)
-        is = is-joined a b p q false false
-
-        go : Answered a b (joined a b) → (x : Bool) → uint128WithSigned a b ≡ x → Some-report
-        go (float64 e f u v w) x g = lossy (rounds a b p q (joined a b) is (omega arith))
-        go (integral e l k) true g = lossy (misses a b p q (joined a b) is (l .1) (λ v w. subst T (sym g ∙ k .0 (v, w)) tt))
-        go (integral e l k) false g = (Report.Kept, ((p, q), keeps a b p q (joined a b) is (k .1 g .0) (k .1 g .1)))
-
-  some : Some-report
-  some = go (decListed a) (decListed b)
+module _ (a b : ℕ) (p : Listed a) (q : Listed b) where
+  lossy : (Kept a b → ⊥) → Says a b (byUpcast (upcastOf a b))
+  lossy lost = go (upcastOf a b) refl
     where
-      go : Dec (Listed a) → Dec (Listed b) → Some-report
-      go (yes p) (yes q) = integers p q
-      go (yes p) (no n) = (Report.NotIntegers, λ h. n (h .1))
-      go (no n) d = (Report.NotIntegers, λ h. n (h .0))
+      go : (u : Upcast) → upcastOf a b ≡ u → Says a b (byUpcast u)
+      go (To k) e = avoidable p q lost e
+      go Nothing e = unavoidable p q lost e
 
--- and it always allows one
-pub some-report : (l r : Reading) → (a : Report) × Reports l r a
-unfolding Reports RootsReport headKind headArg
-some-report (refused e) r = (Report.Refused e, refl)
-some-report (type t) (refused e) = (Report.Refused e, refl)
-some-report (type t) (type u) = some (headKind t) (headKind u)
+  of-integers : Says a b (pickReport (uint64WithSigned a b || uint128WithSigned a b) (byUpcast (upcastOf a b)) Report.Kept)
+  of-integers = go (answered a b p q) (uint64WithSigned a b) (uint128WithSigned a b) refl refl
+    where
+      is : supertype false false (node a 0) (node b 0) ≡ Some (node (joined a b) 0)
+      is = is-joined a b p q false false
+
+      go : Answered a b (joined a b) → (x y : Bool) → uint64WithSigned a b ≡ x → uint128WithSigned a b ≡ y
+          → Says a b (pickReport (x || y) (byUpcast (upcastOf a b)) Report.Kept)
+      go (float64 e f u v w) true y h g = lossy (rounds a b p q (joined a b) is (omega arith))
+      go (float64 e f u v w) false y h g = absurd (subst T (sym e ∙ h) tt)
+      go (integral e l k) true y h g = absurd (subst T (sym h ∙ e) tt)
+      go (integral e l k) false true h g = lossy (misses a b p q (joined a b) is (l .1) (λ v w. subst T (sym g ∙ k .0 (v, w)) tt))
+      go (integral e l k) false false h g = ((p, q), keeps a b p q (joined a b) is (k .1 g .0) (k .1 g .1))
+
+pub means : (a b : ℕ) → Says a b (reportOf a b)
+unfolding reportOf
+means a b = go (isListed a) (isListed b) refl refl
+  where
+    go : (x y : Bool) → isListed a ≡ x → isListed b ≡ y
+        → Says a b (pickReport (x && y) (pickReport (uint64WithSigned a b || uint128WithSigned a b) (byUpcast (upcastOf a b)) Report.Kept) Report.NotIntegers)
+    go true true e f = of-integers a b (to-listed a (subst T (sym e) tt)) (to-listed b (subst T (sym f) tt))
+    go true false e f = λ h. subst T f (of-listed b (h .1))
+    go false y e f = λ h. subst T e (of-listed a (h .0))
+
+-- so that a report which is so is the definition's
+pub settles : (a b : ℕ) (r : Report) → Says a b r → r ≡ reportOf a b
+settles a b r h = one a b r (reportOf a b) h (means a b)

@@ -1,12 +1,16 @@
 -- What a report says of two columns that are to be joined. Assumes nothing: these are definitions.
-use mathlib.Core.Path.{_≡_}
+use mathlib.Core.Bool.{Bool, true, false, _&&_, _||_}
 use mathlib.Core.List.{[], _∷_}
 use Prim.Native.Nat.{ℕ}
 use Rattle.flat.specs.Refusal.{numberOf}
 use Rattle.flat.specs.Reading.{Reading, rootOf}
 use Rattle.flat.specs.declared.Root.{Root}
-use Rattle.utils_numbers.specs.Range.{Listed, Room}
+use Rattle.utils_numbers.specs.Range.{Listed, isListed, Room}
+use Rattle.utils_lossless.specs.Lossless.{upcastOf}
+use Rattle.utils_lossless.specs.declared.upcast.Upcast.{Upcast}
+use Rattle.utils_lossless.specs.declared.upcast.Upcast.the-variants.{To, Nothing}
 use Rattle.utils_report.specs.Kept.{Kept}
+use Rattle.utils_report.specs.Laws.{uint128WithSigned, uint64WithSigned}
 use Rattle.utils_report.specs.declared.Report.{Report}
 
 -- two listed integer types
@@ -25,15 +29,30 @@ Says a b Report.Unavoidable = Integers a b × (Kept a b → ⊥) × (Room (a ∷
 Says a b Report.NotIntegers = Integers a b → ⊥
 Says a b (Report.Refused e) = ⊥
 
--- of two roots: the left one's refusal, then the right one's, then what is so of their kinds
-unfoldable pub RootsReport : Root → Root → Report → Type 0
-RootsReport (Root.Refused e) right answer = answer ≡ Report.Refused e
-RootsReport (Root.Node k a) (Root.Refused e) answer = answer ≡ Report.Refused e
-RootsReport (Root.Node k a) (Root.Node l b) answer = Says k l answer
+abbrev pub pickReport : Bool → Report → Report → Report
+pickReport true a b = a
+pickReport false a b = b
+
+abbrev pub byUpcast : Upcast → Report
+byUpcast (To k) = Report.Avoidable
+byUpcast Nothing = Report.Unavoidable
+
+-- The report on two kinds: where UInt64 or UInt128 meets a signed type that is no wider the supertype loses numbers, and the lossless upcast tells whether an
+-- integer type keeps them. That it says what is so is `means` in proofs/Settled.antt.
+unfoldable pub reportOf : ℕ → ℕ → Report
+reportOf a b =
+    pickReport (isListed a && isListed b) (pickReport (uint64WithSigned a b || uint128WithSigned a b) (byUpcast (upcastOf a b)) Report.Kept)
+    Report.NotIntegers
+
+-- of two roots: the left one's refusal, then the right one's, then the report on their kinds
+unfoldable pub rootsReport : Root → Root → Report
+rootsReport (Root.Refused e) right = Report.Refused e
+rootsReport (Root.Node k a) (Root.Refused e) = Report.Refused e
+rootsReport (Root.Node k a) (Root.Node l b) = reportOf k l
 
 -- of two types: the left through 1 to 5, then the right
-unfoldable pub Reports : Reading → Reading → Report → Type 0
-Reports left right = RootsReport (rootOf left) (rootOf right)
+unfoldable pub typesReport : Reading → Reading → Report
+typesReport left right = rootsReport (rootOf left) (rootOf right)
 
 -- document 01's number of a report, and the value beside it
 abbrev pub reportNumber : Report → ℕ

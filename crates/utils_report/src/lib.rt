@@ -5,7 +5,7 @@ ghost use Rattle.flat.specs.Reading.{reading};
 ghost use Rattle.utils.specs.Join.{Some, node};
 ghost use Rattle.utils_numbers.specs.Range.{Listed};
 ghost use Rattle.utils_arms.specs.Supertype.{supertype};
-ghost use Rattle.utils_report.specs.Report.{Says, RootsReport, Reports, reportNumber, reportValue};
+ghost use Rattle.utils_report.specs.Report.{Says, rootsReport, typesReport, reportNumber, reportValue};
 use flat::Flat;
 use flat::Root;
 use flat::error::Error;
@@ -100,7 +100,7 @@ fn report_kinds(a: u8, b: u8) -> Report
 
 // Of the roots of two types: the refusal of the left, of the right, or the report on their kinds.
 pub fn report_roots(left: Root, right: Root) -> Report
-    ensures { λ r. ⌜ RootsReport left right r ⌝ }
+    ensures { λ r. ⌜ r ≡ rootsReport left right ⌝ }
 {
     match left {
         Root::Refused(e) => Report::Refused(e),
@@ -121,7 +121,7 @@ pub fn join_report(
     ensures { λ r. do
       nodes ← ⟦Flat::MAX_NODES⟧ .entry
       deep ← ⟦Flat::MAX_DEPTH⟧ .entry
-      ⌜ Reports (reading nodes deep (now («left_kinds» .entry)) (now («left_args» .entry))) (reading nodes deep (now («right_kinds» .entry)) (now («right_args» .entry))) r ⌝ }
+      ⌜ r ≡ typesReport (reading nodes deep (now («left_kinds» .entry)) (now («left_args» .entry))) (reading nodes deep (now («right_kinds» .entry)) (now («right_args» .entry))) ⌝ }
 {
     let left = flat::check_root(left_kinds, left_args);
     let right = flat::check_root(right_kinds, right_args);

@@ -1,11 +1,11 @@
 -- `encoding_join::join_report` meets its contract. Assumes nothing.
 use borrow.Author.Needs.{needs}
-use Rattle.utils_report.specs.Report.{Reports}
+use Rattle.utils_report.specs.Report.{typesReport}
 use Rattle.encoding_join.proofs.join_report.Statement.{statement}
 use Rattle.encoding_join.proofs.join_report.Tie as tie
 
 returns : tie.Need-returns
-unfolding Reports
+unfolding typesReport
 returns c = rw (← c .before .before .check-root .ensures .0, ← c .before .check-root2 .ensures .0) (c .report-roots .ensures)
 
 pub join-report-spec : {M : Type 1} → statement M

@@ -1,21 +1,22 @@
 -- `utils_report::report_roots` meets its contract. Assumes nothing.
 use mathlib.Core.Path.{refl}
 use borrow.Author.Needs.{needs}
-use Rattle.utils_report.specs.Report.{RootsReport}
+use Rattle.utils_report.specs.Report.{rootsReport}
+use Rattle.utils_report.proofs.Settled.{settles}
 use Rattle.utils_report.proofs.report_roots.Statement.{statement}
 use Rattle.utils_report.proofs.report_roots.Tie as tie
 
 returns : tie.Need-returns
-unfolding RootsReport
+unfolding rootsReport
 returns c = rw (c .before .left .given .1) refl
 
 returns-2 : tie.Need-returns-2
-unfolding RootsReport
+unfolding rootsReport
 returns-2 c = rw (c .before .before .before .before .left2 .given .1, c .before .right .given .1) refl
 
 returns-3 : tie.Need-returns-3
-unfolding RootsReport
-returns-3 c = rw (c .before .before .before .before .before .left2 .given .1, c .before .before .right2 .given .1) (c .report-kinds .ensures)
+unfolding rootsReport
+returns-3 c = rw (c .before .before .before .before .before .left2 .given .1, c .before .before .right2 .given .1) (settles _ _ _ (c .report-kinds .ensures))
 
 pub report-roots-spec : {M : Type 1} → statement M
 report-roots-spec =
