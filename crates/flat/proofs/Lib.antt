@@ -4,6 +4,7 @@ pub mod ReadBack
 pub mod Positions
 pub mod Walks
 pub mod Meaning
+pub mod Refusals
 pub mod Roots
 pub mod Onward
 pub mod Outputs
@@ -11,3 +12,4 @@ pub mod Rules
 mod Scans
 mod Spans
 mod Checks
+mod LimitCases

@@ -13,6 +13,7 @@ use Rattle.flat.specs.Argument.{argumentFits, ruleOf}
 use Rattle.flat.specs.Tree.{DataType, leaf, list, array, struct, Fields, empty, field, size, depth, kindsOf, kindsOfs, argsOf, argsOfs, count, headKind, headArg}
 use Rattle.flat.specs.Reader.{nodeAt}
 use Rattle.flat.specs.Reading.{Reading, refused, type, unless, lengthFits, kindsFit, argumentsFit, shaped, reading, checkedOf, Ruled, RuledFields, IsType}
+use Rattle.flat.specs.Refusals.{FlatForm, NodesFit}
 use Rattle.flat.specs.declared.error.Error.{Error}
 use Rattle.flat.specs.declared.error.Error.the-variants.{Length, Kind, Argument, Shape, Depth}
 use Rattle.flat.specs.declared.Checked.the-variants as answer
@@ -64,23 +65,48 @@ mutual
       (ap₂ argumentsFit (append-assoc (kindsOf t) (kindsOfs fs) ks) (append-assoc (argsOf t) (argsOfs fs) xs)
       ∙ arguments-fit t (r .1) (kindsOfs fs ++ ks) (argsOfs fs ++ xs) ∙ arguments-fits fs (r .2) ks xs)
 
+-- The flat form of a tree is read back, and none of 1 to 3 is given where it has not too many nodes.
+module _ {ks xs : List ℕ} {t : DataType} (f : FlatForm ks xs t) where
+  pub form-length : length ks ≡ size t
+  form-length = ap length (f .kinds) ∙ length-kinds t
+
+  pub form-even : length ks ≡ length xs
+  form-even = form-length ∙ sym (ap length (f .args) ∙ length-args t)
+
+  -- with nothing after it
+  at-kinds : ks ≡ kindsOf t ++ []
+  at-kinds = f .kinds ∙ sym (append-nil (kindsOf t))
+
+  at-args : xs ≡ argsOf t ++ []
+  at-args = f .args ∙ sym (append-nil (argsOf t))
+
+  pub form-read : nodeAt ks xs ≡ some t
+  form-read = ap₂ nodeAt at-kinds at-args ∙ read-back t (good t (f .ruled)) [] []
+
+  pub form-fits : {nodes : ℕ} → size t ≤ nodes → NodesFit nodes ks xs
+  unfolding lengthFits kindsFit argumentsFit
+  form-fits {nodes} h =
+      let l = form-length in
+      let p = size-pos t in
+      record {
+        lengths = rw (eq-eqb (length ks) (length xs) form-even, lt-ltb 0 (length ks) (omega arith), le-leb (length ks) nodes (omega arith));
+        kinds = ap kindsFit at-kinds ∙ kinds-fit t (f .ruled) [];
+        args = ap₂ argumentsFit at-kinds at-args ∙ arguments-fit t (f .ruled) [] [];
+      }
+
+pub own-form : (t : DataType) → Ruled t → FlatForm (kindsOf t) (argsOf t) t
+own-form t r = record { kinds = refl; args = refl; ruled = r }
+
+-- where none of 1 to 3 is given, 4 and 5 are left
+pub fit-reading : (nodes deep : ℕ) {ks xs : List ℕ} → NodesFit nodes ks xs → reading nodes deep ks xs ≡ shaped deep (length ks) (nodeAt ks xs)
+unfolding reading
+fit-reading nodes deep f = rw (f .lengths, f .kinds, f .args)
+
 -- Everything that document 01 calls valid passes.
 pub passes : (nodes deep : ℕ) (t : DataType) → IsType nodes deep t → reading nodes deep (kindsOf t) (argsOf t) ≡ type t
-unfolding reading lengthFits kindsFit argumentsFit
 passes nodes deep t v =
-    let k = length-kinds t in
-    let a = length-args t in
-    let p = size-pos t in
-    rw (
-      eq-eqb (length (kindsOf t)) (length (argsOf t)) (omega arith),
-      lt-ltb 0 (length (kindsOf t)) (omega arith),
-      le-leb (length (kindsOf t)) nodes (omega (arith, v .within)),
-      ap kindsFit (sym (append-nil (kindsOf t))) ∙ kinds-fit t (v .ruled) [],
-      ap₂ argumentsFit (sym (append-nil (kindsOf t))) (sym (append-nil (argsOf t))) ∙ arguments-fit t (v .ruled) [] [],
-      ap₂ nodeAt (sym (append-nil (kindsOf t))) (sym (append-nil (argsOf t))) ∙ read-back t (good t (v .ruled)) [] [],
-      eq-eqb (size t) (length (kindsOf t)) (sym k),
-      le-leb (depth t) deep (v .shallow),
-    )
+    let f = own-form t (v .ruled) in
+    rw (fit-reading nodes deep (form-fits f (v .within)), form-read f, eq-eqb (size t) (length (kindsOf t)) (sym (form-length f)), le-leb (depth t) deep (v .shallow))
 
 -- ---- whatever passes is a valid type
 both : (a b : Bool) → (a && b) ≡ true → (a ≡ true) × (b ≡ true)
@@ -112,45 +138,59 @@ passed : (b : Bool) (e : Error) (r : Reading) (t : DataType) → unless b e r �
 passed true e r t q = (refl, q)
 passed false e r t q = absurd (let z : _≡_ {A = ℕ} 0 1 = cc in omega arith)
 
+-- A tree that was read from all the nodes, whose arguments fit: the arrays are its flat form.
+pub read-form : {ks xs : List ℕ} (t : DataType) → nodeAt ks xs ≡ some t → size t ≡ length ks → length ks ≡ length xs → argumentsFit ks xs ≡ true → FlatForm ks xs t
+read-form {ks} {xs} t q n e f =
+    let o : Sound ks xs (some t) = subst (λ (v : Option DataType). Sound ks xs v) q (sound ks xs) in
+    let k : ks ≡ kindsOf t ++ [] = o .0 ∙ ap (λ (l : List ℕ). kindsOf t ++ l) (drop-of-length-le ks {i = size t} (omega arith)) in
+    let a : xs ≡ argsOf t ++ [] = o .1 ∙ ap (λ (l : List ℕ). argsOf t ++ l) (drop-of-length-le xs {i = size t} (omega arith)) in
+    record { kinds = k ∙ append-nil (kindsOf t); args = a ∙ append-nil (argsOf t); ruled = ruled t (o .2) [] [] (sym (ap₂ argumentsFit k a) ∙ f) .0 }
+
 -- What two arrays hold that pass: the flat form of the type, and nothing more.
 pub record Holds (nodes deep : ℕ) (ks xs : List ℕ) (t : DataType) : Type 0 where
   pub kinds : ks ≡ kindsOf t
   pub args : xs ≡ argsOf t
   pub is-type : IsType nodes deep t
 
+pub holds-form : {nodes deep : ℕ} {ks xs : List ℕ} {t : DataType} → Holds nodes deep ks xs t → FlatForm ks xs t
+holds-form h = record { kinds = h .kinds; args = h .args; ruled = h .is-type .ruled }
+
+-- what the test of 1 says where it is passed
+pub lengths-fit : (nodes : ℕ) (ks xs : List ℕ) → lengthFits nodes ks xs ≡ true → (length ks ≡ length xs) × (length ks ≤ nodes)
+unfolding lengthFits
+lengths-fit nodes ks xs e =
+    let l = both (eqb (length ks) (length xs) && ltb 0 (length ks)) (leb (length ks) nodes) e in
+    let m = both (eqb (length ks) (length xs)) (ltb 0 (length ks)) (l .0) in
+    (eqb-true (length ks) (length xs) (m .0), leb-true (length ks) nodes (l .1))
+
 module _ (nodes deep : ℕ) (ks xs : List ℕ) (t : DataType) where
-  one-type : length ks ≤ nodes → length ks ≡ length xs → argumentsFit ks xs ≡ true → (p : Option DataType) → nodeAt ks xs ≡ p → shaped deep (length ks) p ≡ type t → Holds nodes deep ks xs t
-  one-type h e f none q r = absurd (let z : _≡_ {A = ℕ} 0 1 = cc in omega arith)
-  one-type h e f (some u) q r =
+  one-type : NodesFit nodes ks xs → (p : Option DataType) → nodeAt ks xs ≡ p → shaped deep (length ks) p ≡ type t → Holds nodes deep ks xs t
+  one-type f none q r = absurd (let z : _≡_ {A = ℕ} 0 1 = cc in omega arith)
+  one-type f (some u) q r =
+      let l = lengths-fit nodes ks xs (f .lengths) in
       let s = passed (eqb (size u) (length ks)) Shape (unless (leb (depth u) deep) Depth (type u)) t r in
       let w = passed (leb (depth u) deep) Depth (type u) t (s .1) in
       let n : size u ≡ length ks = eqb-true (size u) (length ks) (s .0) in
       let same : u ≡ t = let y = w .1 in cc in
-      let o : Sound ks xs (some u) = subst (λ (v : Option DataType). Sound ks xs v) q (sound ks xs) in
-      let k : ks ≡ kindsOf u = o .0 ∙ ap (λ (l : List ℕ). kindsOf u ++ l) (drop-of-length-le ks {i = size u} (omega arith)) ∙ append-nil (kindsOf u) in
-      let a : xs ≡ argsOf u = o .1 ∙ ap (λ (l : List ℕ). argsOf u ++ l) (drop-of-length-le xs {i = size u} (omega arith)) ∙ append-nil (argsOf u) in
-      let v = ruled u (o .2) [] [] (sym (ap₂ argumentsFit (k ∙ sym (append-nil (kindsOf u))) (a ∙ sym (append-nil (argsOf u)))) ∙ f) in
+      let o = read-form u q n (l .0) (f .args) in
       subst (Holds nodes deep ks xs) same
-      (record { kinds = k; args = a; is-type = record { ruled = v .0; within = omega arith; shallow = leb-true (depth u) deep (w .0) } })
+      (record { kinds = o .kinds; args = o .args; is-type = record { ruled = o .ruled; within = omega arith; shallow = leb-true (depth u) deep (w .0) } })
 
   -- Everything that passes is valid, and stands there whole; so the tree is unique.
   pub holds : reading nodes deep ks xs ≡ type t → Holds nodes deep ks xs t
-  unfolding reading lengthFits
+  unfolding reading
   holds q =
       let one = passed (lengthFits nodes ks xs) Length (unless (kindsFit ks) Kind (unless (argumentsFit ks xs) Argument (shaped deep (length ks) (nodeAt ks xs)))) t q in
       let two = passed (kindsFit ks) Kind (unless (argumentsFit ks xs) Argument (shaped deep (length ks) (nodeAt ks xs))) t (one .1) in
       let three = passed (argumentsFit ks xs) Argument (shaped deep (length ks) (nodeAt ks xs)) t (two .1) in
-      let l = both (eqb (length ks) (length xs) && ltb 0 (length ks)) (leb (length ks) nodes) (one .0) in
-      let m = both (eqb (length ks) (length xs)) (ltb 0 (length ks)) (l .0) in
-      one-type (leb-true (length ks) nodes (l .1)) (eqb-true (length ks) (length xs) (m .0)) (three .0) (nodeAt ks xs) refl (three .1)
+      one-type (record { lengths = one .0; kinds = two .0; args = three .0 }) (nodeAt ks xs) refl (three .1)
 
   -- So a walk may start: the type stands at the front.
   pub stands : reading nodes deep ks xs ≡ type t → Valid ks xs × (typeAt ks xs ≡ t)
   stands q =
-      let h = holds q in
-      let r : nodeAt ks xs ≡ some t = ap₂ nodeAt (h .kinds ∙ sym (append-nil (kindsOf t))) (h .args ∙ sym (append-nil (argsOf t))) ∙ read-back t (good t (h .is-type .ruled)) [] [] in
-      let l : length ks ≡ length xs = ap length (h .kinds) ∙ length-kinds t ∙ sym (ap length (h .args) ∙ length-args t) in
-      (valid-of (node-of ks xs t l r), type-is ks xs t r)
+      let f = holds-form (holds q) in
+      let r = form-read f in
+      (valid-of (node-of ks xs t (form-even f) r), type-is ks xs t r)
 
 -- What the check's answer tells of the reading.
 pub checked-type : (r : Reading) → answer.Valid ≡ checkedOf r → (t : DataType) × (r ≡ type t)
@@ -175,9 +215,9 @@ pub check-passed : {nodes deep : ℕ} {ks xs : List ℕ} → answer.Valid ≡ ch
 check-passed {nodes} {deep} {ks} {xs} e =
     let r = checked-type (reading nodes deep ks xs) e in
     let h = holds nodes deep ks xs (r .0) (r .1) in
-    let k = ap length (h .kinds) ∙ length-kinds (r .0) in
+    let f = holds-form h in
     let s = stands nodes deep ks xs (r .0) (r .1) in
-    record { tree = r .0; reads = r .1; form = h; even = k ∙ sym (ap length (h .args) ∙ length-args (r .0)); whole = sym k; valid = s .0; front = s .1 }
+    record { tree = r .0; reads = r .1; form = h; even = form-even f; whole = sym (form-length f); valid = s .0; front = s .1 }
 
 -- and their first node is the type's root
 module _ {nodes deep : ℕ} {ks xs : List ℕ} (v : Passed nodes deep ks xs) where

@@ -5,6 +5,8 @@ pub mod Argument
 pub mod Tree
 pub mod Reader
 pub mod Reading
+pub mod Refusals
+pub mod Limits
 pub mod Output
 pub mod Span
 pub mod Walk

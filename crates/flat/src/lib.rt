@@ -2,6 +2,7 @@
 pub mod argument;
 pub mod error;
 pub mod kind;
+mod limits;
 pub mod span;
 
 ghost use mathlib.Core.Path.{_≡_};
