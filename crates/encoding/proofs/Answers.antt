@@ -20,7 +20,7 @@ use Rattle.flat.specs.Output.{over, Writes}
 use Rattle.flat.specs.declared.error.Error.{Error}
 use Rattle.flat.specs.declared.error.Error.the-variants.{Length, OutputTooShort}
 use Rattle.flat.proofs.Sizes.{length-kinds}
-use Rattle.flat.proofs.Meaning.{holds, checked-type, check-passed}
+use Rattle.flat.proofs.Meaning.{Holds, holds, checked-type, check-passed}
 use Rattle.flat.proofs.Roots.{root-read}
 use Rattle.flat.proofs.Outputs.{writes-type}
 use Rattle.encoding.specs.Encoding.{number, argsFrom, encoding, encodedSize, countIn, kindsIn, argsIn, sizeFits, decoding}
@@ -132,10 +132,14 @@ decoded-fits w nodes deep s t e = go (sizeFits w nodes s) e
     go true e = refl
     go false e = absurd (let z : _≡_ {A = ℕ} 0 1 = cc in omega arith)
 
+-- and hold its flat form
+pub decoded-holds : (w nodes deep : ℕ) (s : List ℕ) (t : DataType) → decoding w nodes deep s ≡ type t → Holds nodes deep (kindsIn s) (argsIn w s) t
+decoded-holds w nodes deep s t e = holds nodes deep (kindsIn s) (argsIn w s) t (sym (decoding-sized (sized w nodes s (decoded-fits w nodes deep s t e)) deep) ∙ e)
+
 pub type-form : {w nodes deep : ℕ} {s : List ℕ} (t : DataType) → decoding w nodes deep s ≡ type t → EncodedForm w nodes deep (size t) s
 type-form {w} {nodes} {deep} {s} t e =
     let z = sized w nodes s (decoded-fits w nodes deep s t e) in
-    let h = holds nodes deep (kindsIn s) (argsIn w s) t (sym (decoding-sized z deep) ∙ e) in
+    let h = decoded-holds w nodes deep s t e in
     let n : countIn s ≡ size t = sym (kinds-length z) ∙ ap length (h .kinds) ∙ length-kinds t in
     record { sized = rw n at z; tree = t; reads = e; kinds = h .kinds; args = h .args; tree-size = refl }
 

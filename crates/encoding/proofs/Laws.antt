@@ -11,6 +11,7 @@ use lib.ListN.{length, getD, take, drop, set, length-append, length-take, length
 use lib.Seq.{drop-cons, drop-drop, drop-length, length-take-le, take-at, drop-at, paste-suc, ext-getD, getD-take, getD-drop}
 use borrow.Rule.Slice.PartAt.{part-to-end}
 use Rattle.encoding.specs.Encoding.{littleEndian, number, argBytes, argsFrom, encoding, encodedSize}
+use Rattle.encoding.specs.RoundTrip.{Below}
 
 -- ---- a list that is written from the front
 
@@ -28,10 +29,6 @@ pub write-next : (d p q b y : List ℕ) (at k : ℕ) → d ≡ p ++ drop at q �
 write-next d p q b y at k e n f = rw (rest-none, f, part-to-end, append-nil, e, take-at, drop-at, drop-drop, append-assoc)
 
 -- ---- numbers as bytes
-
--- every element of a list is below m
-abbrev pub Below : ℕ → List ℕ → Type 0
-Below m l = (i : ℕ) → i < length l → getD l i 0 < m
 
 pub below-drop : (m k : ℕ) (l : List ℕ) → Below m l → Below m (drop k l)
 below-drop m k l f i h = rw getD-drop (f (k + i) (omega (arith, length-drop k l)))

@@ -1,3 +1,4 @@
 -- What an encoded type is, and what the contracts of `encoding` cite.
 pub mod Encoding
 pub mod Answer
+pub mod RoundTrip

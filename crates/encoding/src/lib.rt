@@ -1,5 +1,6 @@
 // Encoded types (document 01's stored sheets): checked, decoded to the two arrays of a flat type, and encoded from them.
 mod bytes;
+mod round_trip;
 
 ghost use mathlib.Core.Path.{_≡_};
 ghost use Prim.Native.Nat.{_≤_};
@@ -121,6 +122,8 @@ pub fn decode(encoded: &[u8], kinds: &mut [u8], args: &mut [u64]) -> Written
 }
 
 // Checks an encoded type and reads its arguments to the front of args: refusals 1 to 5. Its kinds stay where they are, `&encoded[2..2 + n]`.
+// Not an entry point, but a helper for the crates here, which lend it arrays of their own: it asks for room, and it reads the arguments before it
+// checks them, so a refusal can leave args changed.
 pub fn open(encoded: &[u8], args: &mut [u64]) -> Written
     requires { do
       nodes ← ⟦Flat::MAX_NODES⟧

@@ -1,9 +1,9 @@
 -- Document 01's worked cases of the limits hold wherever the limits lie between the sizes and the depths of its trees. Assumes nothing.
-use mathlib.Core.Path.{_≡_, refl, sym, ap}
+use mathlib.Core.Path.{refl, sym, ap}
 use Prim.Native.Nat.{ℕ, zero, suc, _≤_, _<_}
 use native.Mathlib.Omega.{arith}
 use Rattle.flat.specs.Argument.{argumentFits, ruleOf}
-use Rattle.flat.specs.Tree.{DataType, leaf, list, struct, Fields, empty, field, size, depth, count, kindsOf, argsOf}
+use Rattle.flat.specs.Tree.{DataType, size, depth, count, kindsOf, argsOf}
 use Rattle.flat.specs.Reading.{Ruled, RuledFields, checkedNumber}
 use Rattle.flat.specs.Limits.{int8, lists, fieldsOf, wide, Passes, Gets, DepthLimit, NodeLimit}
 use Rattle.flat.proofs.Sizes.{size-pos}

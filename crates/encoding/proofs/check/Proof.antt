@@ -1,20 +1,14 @@
 -- `encoding::check` meets its contract: no node, one, few, many. Assumes nothing.
 use borrow.Author.Needs.{needs}
 use native.Mathlib.Omega.{arith}
-use mathlib.Core.Path.{_≡_, sym, ap}
-use lib.ListN.{length}
+use mathlib.Core.Path.{sym, ap}
 use Rattle.flat.specs.Reading.{checkedOf}
-use Rattle.encoding.specs.Encoding.{encodedSize}
 use Rattle.encoding.proofs.Answers.{nodes-some, decoding-one, decoding-none}
 use Rattle.encoding.proofs.check.Statement.{statement}
 use Rattle.encoding.proofs.check.Tie as tie
 
 returns : tie.Need-returns
 returns c = ap checkedOf (sym (decoding-none _ _ _ _ (c .before .node-count .ensures) (c .if1 .taken)))
-
--- past that test
-right-size : (c : tie.Else1) → length (c .before .before .before .args .encoded .now) ≡ encodedSize 8 (c .before .node-count .result)
-right-size c = nodes-some (c .before .node-count .ensures) (c .if1 .left) .size
 
 -- one node
 returns-2 : tie.Need-returns-2
@@ -35,7 +29,7 @@ check-spec =
     (tie.spec
     (λ c κs. search needs)
     returns
-    (λ c. omega (arith, right-size (c .before .before))) (λ c κs. omega (arith, right-size (c .before .before))) (λ c κs. search needs)
+    (λ c. omega (arith, nodes-some (c .before .before .before .node-count .ensures) (c .before .before .if1 .left) .size)) (λ c κs. omega (arith, nodes-some (c .before .before .before .node-count .ensures) (c .before .before .if1 .left) .size)) (λ c κs. search needs)
     returns-2
     (λ c. search needs)
     check-with-requires

@@ -2,13 +2,13 @@
 use borrow.Author.Needs.{needs}
 use borrow.Author.Tests.{le-leb, lt-leb}
 use native.Mathlib.Omega.{arith}
-use mathlib.Core.Path.{_≡_, refl, sym, _∙_}
-use lib.ListN.{length, length-drop}
+use mathlib.Core.Path.{refl, sym, _∙_}
+use lib.ListN.{length-drop}
 use borrow.Rule.Slice.PartAt.{part-to-end}
 use Rattle.flat.specs.Output.{fitting}
 use Rattle.flat.proofs.Meaning.{checked-refused}
 use Rattle.flat.proofs.Outputs.{writes-refused}
-use Rattle.encoding.specs.Encoding.{encodedSize, decoding}
+use Rattle.encoding.specs.Encoding.{decoding}
 use Rattle.encoding.proofs.Answers.{encoded-form, decodes-type}
 use Rattle.encoding.proofs.decode.Statement.{statement}
 use Rattle.encoding.proofs.decode.Tie as tie
@@ -17,11 +17,8 @@ use Rattle.encoding.proofs.decode.Tie as tie
 count-requires : tie.Need-count-requires
 count-requires c κs = let form = encoded-form (c .enum-told .given .1) (c .before .before .check .ensures) refl in omega (arith, form .sized .size)
 
-right-size : (c : tie.After-count) → length (c .before .before .before .before .before .before .before .args .encoded .now) ≡ encodedSize 8 (c .count .result)
-right-size c = encoded-form (c .before .enum-told .given .1) (c .before .before .before .check .ensures) (c .count .ensures .0) .sized .size
-
 read-args-requires : tie.Need-read-args-requires
-read-args-requires c κs = rw (part-to-end, length-drop) (omega (arith, right-size (c .before .before .before .before .before .before .before .before .before)))
+read-args-requires c κs = rw (part-to-end, length-drop) (omega (arith, encoded-form (c .before .before .before .before .before .before .before .before .before .before .enum-told .given .1) (c .before .before .before .before .before .before .before .before .before .before .before .before .check .ensures) (c .before .before .before .before .before .before .before .before .before .count .ensures .0) .sized .size))
 
 returns : tie.Need-returns
 unfolding fitting
@@ -57,8 +54,8 @@ decode-spec =
     count-requires
     returns
     returns-2
-    (λ c. search needs) (λ c. search needs) (λ c. search needs) (λ c. omega (arith, right-size (c .before .before))) (λ c κs. search needs)
-    (λ c. omega (arith, right-size (c .before .before .before .before .before .before .before))) (λ c. omega (arith, right-size (c .before .before .before .before .before .before .before))) (λ c. search needs)
+    (λ c. search needs) (λ c. search needs) (λ c. search needs) (λ c. omega (arith, encoded-form (c .before .before .before .enum-told .given .1) (c .before .before .before .before .before .check .ensures) (c .before .before .count .ensures .0) .sized .size)) (λ c κs. search needs)
+    (λ c. omega (arith, encoded-form (c .before .before .before .before .before .before .before .before .enum-told .given .1) (c .before .before .before .before .before .before .before .before .before .before .check .ensures) (c .before .before .before .before .before .before .before .count .ensures .0) .sized .size)) (λ c. omega (arith, encoded-form (c .before .before .before .before .before .before .before .before .enum-told .given .1) (c .before .before .before .before .before .before .before .before .before .before .check .ensures) (c .before .before .before .before .before .before .before .count .ensures .0) .sized .size)) (λ c. search needs)
     read-args-requires
     returns-3
     (λ c. search needs) (λ c. search needs)

@@ -2,12 +2,12 @@
 use borrow.Author.Needs.{needs}
 use borrow.Author.Tests.{le-leb, lt-leb}
 use native.Mathlib.Omega.{arith}
-use Prim.Native.Nat.{_+_, _*_}
+use Prim.Native.Nat.{_+_}
 use mathlib.Core.Path.{sym, _∙_}
 use mathlib.Core.List.{_++_}
 use lib.ListN.{length, length-append, length-drop}
 use borrow.Rule.Slice.PartAt.{part-to-end}
-use Rattle.encoding.specs.Encoding.{littleEndian, argBytes}
+use Rattle.encoding.specs.Encoding.{littleEndian}
 use Rattle.encoding.proofs.Laws.{write-next, littleEndian-length, encoding-over}
 use Rattle.encoding.proofs.put.Statement.{statement}
 use Rattle.encoding.proofs.put.Tie as tie
@@ -29,9 +29,9 @@ returns-2 c =
     let n = length kinds in
     let head = littleEndian 2 n in
     let two = write-next _ head out kinds _ 2 n (c .before .before .before .before .before .before .before .before .before .before .put-count .ensures) (littleEndian-length 2 n) (c .before .before .before .before .before .before .copy .ensures) in
-    let three = write-next _ (head ++ kinds) out (argBytes 8 args) _ (2 + n) (length args * 8) two (rw (length-append, littleEndian-length)) (c .before .before .write-args .ensures) in
+    let three = write-next _ (head ++ kinds) out _ _ (2 + n) _ two (rw (length-append, littleEndian-length)) (c .before .before .write-args .ensures) in
     let fits = le-leb _ _ (at .if1 .left) in
-    record { answers = rw fits; bytes = rw fits (three ∙ encoding-over 8 kinds args out (sym (start .pre .0))) }
+    record { answers = rw fits; bytes = rw fits (three ∙ encoding-over _ kinds args out (sym (start .pre .0))) }
 
 pub put-spec : {M : Type 1} → statement M
 put-spec =
