@@ -6,8 +6,8 @@ use Prim.Native.Nat.{ℕ}
 use lib.Dec.{leb}
 use lib.ListN.{length}
 use Rattle.flat.specs.Tree.{size, kindsOf, argsOf}
-use Rattle.flat.specs.Reading.{Reading, refused, type, unless}
-use Rattle.flat.specs.Output.{over, writtenOf}
+use Rattle.flat.specs.Reading.{Reading, refused, type, unless, reading}
+use Rattle.flat.specs.Output.{over, fitting, writtenOf, Writes}
 use Rattle.flat.specs.declared.error.Error.the-variants.{OutputTooShort}
 use Rattle.encoding.specs.Encoding.{encoding, encodedSize, countIn, argsIn, sizeFits, decoding}
 use Rattle.flat.specs.declared.Written.{Written}
@@ -45,6 +45,14 @@ bytesOver w (type t) out = over (encoding w (kindsOf t) (argsOf t)) out
 pub record Encodes (w : ℕ) (r : Reading) (out out′ : List ℕ) (answer : Encoded) : Type 0 where
   pub answers : answer ≡ encodedOf w r
   pub bytes : out′ ≡ bytesOver w r out
+
+-- What `encode` ensures of the two arrays ks and xs, and of the lent bytes.
+abbrev pub EncodeEnsures : (w nodes deep : ℕ) (ks xs out out′ : List ℕ) → Encoded → Type 0
+EncodeEnsures w nodes deep ks xs out out′ answer = Encodes w (fittingBytes w (length out) (reading nodes deep ks xs)) out out′ answer
+
+-- What `decode` ensures of the bytes s, and of the two lent arrays, ks and xs before the call and ks′ and xs′ after it.
+abbrev pub DecodeEnsures : (w nodes deep : ℕ) (s ks xs ks′ xs′ : List ℕ) → Written → Type 0
+DecodeEnsures w nodes deep s ks xs ks′ xs′ answer = Writes (fitting (length ks) (length xs) (decoding w nodes deep s)) ks xs ks′ xs′ answer
 
 -- What `put` comes to, of two arrays that need not be a type: their bytes, or 8 where these don't fit.
 pub record Puts (w : ℕ) (ks xs out out′ : List ℕ) (answer : Encoded) : Type 0 where

@@ -5,24 +5,16 @@ use mathlib.Core.List.{List}
 use Prim.Native.Nat.{ℕ, _^_, _≤_, _<_}
 use lib.ListN.{length, getD, take}
 use Rattle.flat.specs.Tree.{DataType, kindsOf, argsOf}
-use Rattle.flat.specs.Reading.{type, reading, IsType}
-use Rattle.flat.specs.Output.{over, fitting, Writes}
+use Rattle.flat.specs.Reading.{type, IsType}
+use Rattle.flat.specs.Output.{over}
 use Rattle.flat.specs.declared.Written.{Written}
 use Rattle.encoding.specs.Encoding.{encoding, decoding}
-use Rattle.encoding.specs.Answer.{fittingBytes, Encodes}
+use Rattle.encoding.specs.Answer.{EncodeEnsures, DecodeEnsures}
 use Rattle.encoding.specs.declared.Encoded.{Encoded}
 
 -- every element of a list is below m: a byte of the code's, a u8, is below 256, and an argument, a u64, below 2^64
 abbrev pub Below : ℕ → List ℕ → Type 0
 Below m l = (i : ℕ) → i < length l → getD l i 0 < m
-
--- what `encode` ensures of two arrays, and of the lent bytes, out before the call and out′ after it
-abbrev pub EncodeEnsures : (w nodes deep : ℕ) (ks xs out out′ : List ℕ) → Encoded → Type 0
-EncodeEnsures w nodes deep ks xs out out′ answer = Encodes w (fittingBytes w (length out) (reading nodes deep ks xs)) out out′ answer
-
--- what `decode` ensures of bytes, and of the two lent arrays, ks and xs before the call and ks′ and xs′ after it
-abbrev pub DecodeEnsures : (w nodes deep : ℕ) (s ks xs ks′ xs′ : List ℕ) → Written → Type 0
-DecodeEnsures w nodes deep s ks xs ks′ xs′ answer = Writes (fitting (length ks) (length xs) (decoding w nodes deep s)) ks xs ks′ xs′ answer
 
 pub record ReadsBack (w nodes deep : ℕ) : Type 0 where
   -- the bytes of a valid type are that type

@@ -5,10 +5,10 @@ mod round_trip;
 ghost use mathlib.Core.Path.{_≡_};
 ghost use Prim.Native.Nat.{_≤_};
 ghost use lib.ListN.{length};
-ghost use Rattle.flat.specs.Reading.{reading, checkedOf, rootOf, RootFits};
-ghost use Rattle.flat.specs.Output.{over, fitting, Writes};
+ghost use Rattle.flat.specs.Reading.{checkedOf, rootOf, RootFits};
+ghost use Rattle.flat.specs.Output.{over};
 ghost use Rattle.encoding.specs.Encoding.{argsIn, decoding};
-ghost use Rattle.encoding.specs.Answer.{nodesIn, fittingBytes, Opens, Encodes, Puts};
+ghost use Rattle.encoding.specs.Answer.{nodesIn, Opens, EncodeEnsures, DecodeEnsures, Puts};
 use flat::Checked;
 use flat::Flat;
 use flat::Root;
@@ -101,7 +101,7 @@ pub fn decode(encoded: &[u8], kinds: &mut [u8], args: &mut [u64]) -> Written
       nodes ← ⟦Flat::MAX_NODES⟧ .entry
       deep ← ⟦Flat::MAX_DEPTH⟧ .entry
       w ← ⟦Encoding::ARGUMENT_BYTES⟧ .entry
-      ⌜ Writes (fitting (length (now (kinds .entry))) (length (now (args .entry))) (decoding w nodes deep (now (encoded .entry)))) (now (kinds .entry)) (now (args .entry)) (now (kinds .exit)) (now (args .exit)) r ⌝ }
+      ⌜ DecodeEnsures w nodes deep (now (encoded .entry)) (now (kinds .entry)) (now (args .entry)) (now (kinds .exit)) (now (args .exit)) r ⌝ }
 {
     match check(encoded) {
         Checked::Refused(e) => Written::Refused(e),
@@ -194,7 +194,7 @@ pub fn encode(kinds: &[u8], args: &[u64], out: &mut [u8]) -> Encoded
       nodes ← ⟦Flat::MAX_NODES⟧ .entry
       deep ← ⟦Flat::MAX_DEPTH⟧ .entry
       w ← ⟦Encoding::ARGUMENT_BYTES⟧ .entry
-      ⌜ Encodes w (fittingBytes w (length (now (out .entry))) (reading nodes deep (now (kinds .entry)) (now (args .entry)))) (now (out .entry)) (now (out .exit)) r ⌝ }
+      ⌜ EncodeEnsures w nodes deep (now (kinds .entry)) (now (args .entry)) (now (out .entry)) (now (out .exit)) r ⌝ }
 {
     match flat::check(kinds, args) {
         Checked::Valid => put(kinds, args, out),
