@@ -26,7 +26,9 @@ returns-2 : tie.Need-returns-2
 returns-2 c = root-refused (decoding _ _ _ _) (sym (c .before .e .given .1) ∙ c .before .before .before .check .ensures)
 
 returns-3 : tie.Need-returns-3
-returns-3 c = rw (c .word2 .ensures) (form-root (counted-form (c .before .before .enum-told .given .1) (c .before .before .before .before .check .ensures) (c .before .before .before .before .before .before .node-count .ensures)))
+returns-3 c =
+    let at = c .before .before in
+    rw (c .word2 .ensures) (form-root (counted-form (at .enum-told .given .1) (at .before .before .check .ensures) (at .before .before .before .before .node-count .ensures)))
 
 pub check-root-spec : {M : Type 1} → statement M
 check-root-spec =
@@ -36,6 +38,8 @@ check-root-spec =
     (λ c. omega (arith, one (c .before .before .node-count .ensures) (c .before .if1 .taken) .size)) (λ c κs. omega (arith, one (c .before .before .node-count .ensures) (c .before .if1 .taken) .size)) (λ c κs. search needs)
     returns
     (λ c κs. search needs) (λ c. search needs) (λ c. search needs)
-    (λ c. let z = counted-form (c .before .enum-told .given .1) (c .before .before .before .check .ensures) (c .before .before .before .before .before .node-count .ensures) .sized in omega (arith, z .some, z .size)) (λ c. omega (arith, counted-form (c .before .enum-told .given .1) (c .before .before .before .check .ensures) (c .before .before .before .before .before .node-count .ensures) .sized .few)) (λ c κs. let z = counted-form (c .before .enum-told .given .1) (c .before .before .before .check .ensures) (c .before .before .before .before .before .node-count .ensures) .sized in omega (arith, z .some, z .size))
+    (λ c. let at = c .before in let z = counted-form (at .enum-told .given .1) (at .before .before .check .ensures) (at .before .before .before .before .node-count .ensures) .sized in omega (arith, z .some, z .size))
+    (λ c. let at = c .before in omega (arith, counted-form (at .enum-told .given .1) (at .before .before .check .ensures) (at .before .before .before .before .node-count .ensures) .sized .few))
+    (λ c κs. let at = c .before in let z = counted-form (at .enum-told .given .1) (at .before .before .check .ensures) (at .before .before .before .before .node-count .ensures) .sized in omega (arith, z .some, z .size))
     returns-2
     returns-3)

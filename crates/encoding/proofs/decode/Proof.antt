@@ -18,7 +18,9 @@ count-requires : tie.Need-count-requires
 count-requires c κs = let form = encoded-form (c .enum-told .given .1) (c .before .before .check .ensures) refl in omega (arith, form .sized .size)
 
 read-args-requires : tie.Need-read-args-requires
-read-args-requires c κs = rw (part-to-end, length-drop) (omega (arith, encoded-form (c .before .before .before .before .before .before .before .before .before .before .enum-told .given .1) (c .before .before .before .before .before .before .before .before .before .before .before .before .check .ensures) (c .before .before .before .before .before .before .before .before .before .count .ensures .0) .sized .size))
+read-args-requires c κs =
+    let at = c .before .before .before .before .before .before .before .before .before in
+    rw (part-to-end, length-drop) (omega (arith, encoded-form (at .before .enum-told .given .1) (at .before .before .before .check .ensures) (at .count .ensures .0) .sized .size))
 
 returns : tie.Need-returns
 unfolding fitting
@@ -54,8 +56,8 @@ decode-spec =
     count-requires
     returns
     returns-2
-    (λ c. search needs) (λ c. search needs) (λ c. search needs) (λ c. omega (arith, encoded-form (c .before .before .before .enum-told .given .1) (c .before .before .before .before .before .check .ensures) (c .before .before .count .ensures .0) .sized .size)) (λ c κs. search needs)
-    (λ c. omega (arith, encoded-form (c .before .before .before .before .before .before .before .before .enum-told .given .1) (c .before .before .before .before .before .before .before .before .before .before .check .ensures) (c .before .before .before .before .before .before .before .count .ensures .0) .sized .size)) (λ c. omega (arith, encoded-form (c .before .before .before .before .before .before .before .before .enum-told .given .1) (c .before .before .before .before .before .before .before .before .before .before .check .ensures) (c .before .before .before .before .before .before .before .count .ensures .0) .sized .size)) (λ c. search needs)
+    (λ c. search needs) (λ c. search needs) (λ c. search needs) (λ c. let at = c .before .before in omega (arith, encoded-form (at .before .enum-told .given .1) (at .before .before .before .check .ensures) (at .count .ensures .0) .sized .size)) (λ c κs. search needs)
+    (λ c. let at = c .before .before .before .before .before .before .before in omega (arith, encoded-form (at .before .enum-told .given .1) (at .before .before .before .check .ensures) (at .count .ensures .0) .sized .size)) (λ c. let at = c .before .before .before .before .before .before .before in omega (arith, encoded-form (at .before .enum-told .given .1) (at .before .before .before .check .ensures) (at .count .ensures .0) .sized .size)) (λ c. search needs)
     read-args-requires
     returns-3
     (λ c. search needs) (λ c. search needs)
