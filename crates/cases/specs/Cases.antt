@@ -1,64 +1,40 @@
--- The cases that document 01 marks [P], as one table: each row is the number of its corner, what is asked and the answer. Assumes nothing: these are definitions.
+-- Document 01's worked cases, as one table: the cases that it marks [P], calls for every number of its table of refusals, the order of refusals, the bounds
+-- of the arguments, the codes of the kinds and the stored sheet. Each row is the place in document 01, what is asked and the answer: `case n` is of the
+-- corner n, `refusal n` is a call that is refused by n, and `passes` a call that is not refused. Assumes nothing: these are definitions.
 use mathlib.Core.Path.{_≡_}
 use mathlib.Core.Bool.{Bool, true, false}
-use mathlib.Core.List.{List, [], _∷_, map}
+use mathlib.Core.List.{List, [], _∷_, _++_, map}
 use mathlib.Core.Option.{Option, none, some}
-use Prim.Native.Nat.{ℕ, suc, _+_, _-_, _^_}
+use Prim.Native.Nat.{ℕ, zero, suc, _+_, _-_, _*_, _^_}
 use lib.IntN.{ℤ, pos, negsuc, negℤ}
-use lib.ListN.{getD, replicate}
+use lib.ListN.{replicate}
 use Rattle.flat.specs.Kind
-use Rattle.flat.specs.Tree.{DataType, leaf, struct, Fields, empty, field}
-use Rattle.datatypes.specs.Cast.{canCastTo}
-use Rattle.flat.specs.Reading.{Reading, type}
-use Rattle.flat.specs.declared.error.Error.the-variants.{NoUpcast}
-use Rattle.datatypes.specs.DynInt.{materializeSmallestDynInt}
-use Rattle.datatypes.specs.Materialize.{materializeUnknown}
-use Rattle.utils_lossless.specs.Lossless.{losslessOf}
-use Rattle.utils_supertype.specs.Pair.{supertypeOf}
-use Rattle.channels.specs.Merge.{mergedOf, codesAfter}
-use Rattle.channels.specs.declared.Merged.{Merged}
-use Rattle.channels.specs.declared.Merged.the-variants.{Held, Refused}
+use Rattle.flat.specs.Tree.{DataType, leaf, list, array, struct, Fields, empty, field, kindsOf, argsOf}
+use Rattle.flat.specs.Reading.{type}
+use Rattle.cases.specs.Question.{Limits, Call, check, check-encoded, get-supertype, materialize-unknown, merge, Asked, supertype, lossless, smallest-dyn-int, can-cast, materialize, merge-all, number-of, encoded, codes, Answered, joined, kind, verdict, result, merged, number, numbers, answer}
 
--- what is asked of the rules
-pub data Asked : Type 0 where
-  supertype : (implode toString : Bool) → DataType → DataType → Asked
-  lossless : DataType → DataType → Asked
-  smallest-dyn-int : ℤ → Asked
-  can-cast : DataType → DataType → Asked
-  materialize : (allow : Bool) → DataType → Asked
-  merge-all : (channels : ℕ) → List DataType → Asked
-
--- what they answer: some type, None or a refusal; a kind; yes, no or no verdict; a type, or that the call is refused; the answers, and the code that is left
-pub data Answered : Type 0 where
-  joined : Option Reading → Answered
-  kind : ℕ → Answered
-  verdict : Option Bool → Answered
-  result : Option DataType → Answered
-  merged : List Merged × ℕ → Answered
-
--- the columns of these types are merged one after another into channel 0 of the codes
-abbrev pub mergeAll : (channels : ℕ) → List ℕ → List DataType → List Merged × ℕ
-mergeAll channels codes [] = ([], getD codes 0 0)
-mergeAll channels codes (t ∷ ts) =
-    let a = mergedOf channels codes 0 (type t) in
-    let rest = mergeAll channels (codesAfter codes 0 a) ts in
-    (a ∷ rest .0, rest .1)
-
-abbrev pub answer : Asked → Answered
-answer (supertype implode toString l r) = joined (supertypeOf implode toString l r)
-answer (lossless l r) = joined (losslessOf l r)
-answer (smallest-dyn-int v) = kind (materializeSmallestDynInt v)
-answer (can-cast from to) = verdict (canCastTo from to)
-answer (materialize allow t) = result (materializeUnknown allow t)
-answer (merge-all channels ts) = merged (mergeAll channels (replicate channels 0) ts)
+-- a place in document 01: the corner of that number, "Why a call is turned down", or "Flat types and stored sheets"
+pub data Place : Type 0 where
+  corner : ℕ → Place
+  refusals : Place
+  flat-types : Place
 
 pub record Case : Type 0 where
-  pub corner : ℕ
+  pub place : Place
   pub asked : Asked
   pub answered : Answered
 
 abbrev pub case : ℕ → Asked → Answered → Case
-case n q a = record { corner = n; asked = q; answered = a }
+case n q a = record { place = corner n; asked = q; answered = a }
+
+abbrev pub refusal : ℕ → Call → Case
+refusal n call = record { place = refusals; asked = number-of call; answered = number n }
+
+abbrev pub passes : Call → Case
+passes = refusal 0
+
+abbrev pub stored : Asked → List ℕ → Case
+stored q ns = record { place = flat-types; asked = q; answered = numbers ns }
 
 abbrev pub joins : DataType → Answered
 joins t = joined (some (type t))
@@ -76,13 +52,10 @@ abbrev pub no-verdict : Answered
 no-verdict = verdict none
 
 abbrev pub gives : DataType → Answered
-gives t = result (some t)
+gives t = result 0 (some t)
 
-abbrev pub refused : Answered
-refused = result none
-
-abbrev pub leaves : List Merged → ℕ → Answered
-leaves answers code = merged (answers, code)
+abbrev pub refused-by : ℕ → Answered
+refused-by n = result n none
 
 -- a type without an argument
 abbrev pub of : ℕ → DataType
@@ -93,6 +66,13 @@ abbrev pub dyn : ℤ → DataType
 dyn (pos v) = leaf Kind.UnknownIntPos v
 dyn (negsuc v) = leaf Kind.UnknownIntNeg v
 
+-- a Decimal, and a Datetime
+abbrev pub decimal : (precision scale : ℕ) → DataType
+decimal precision scale = leaf Kind.Decimal (256 * scale + precision)
+
+abbrev pub datetime : (zone unit : ℕ) → DataType
+datetime zone unit = leaf Kind.Datetime (4 * zone + unit)
+
 -- a Struct of one field, and of two, named from n on
 abbrev pub one : ℕ → DataType → DataType
 one n t = struct (field n t empty)
@@ -100,9 +80,22 @@ one n t = struct (field n t empty)
 abbrev pub two : ℕ → DataType → DataType → DataType
 two n t u = struct (field n t (field (n + 1) u empty))
 
--- The table, for any flags i (implode) and s (primitive to string), any fields fs and any number n of further channels.
-abbrev pub table : Bool → Bool → Fields → ℕ → List Case
-table i s fs n =
+-- so many fields of Int8, and so many Lists over a type
+abbrev pub int8s : ℕ → Fields
+int8s zero = empty
+int8s (suc n) = field 0 (of Kind.Int8) (int8s n)
+
+abbrev pub lists : ℕ → DataType → DataType
+lists zero t = t
+lists (suc n) t = list (lists n t)
+
+-- the check of the arrays of a tree
+abbrev pub check-type : DataType → Call
+check-type t = check (kindsOf t) (argsOf t)
+
+-- the [P] cases, for any flags i (implode) and s (primitive to string) and any fields fs
+abbrev pub corners : Bool → Bool → Fields → List Case
+corners i s fs =
     -- 1: Ints are equal whatever they hold, so the left one returns
     case 1 (supertype i s (dyn (pos 1)) (dyn (pos 300))) (joins (dyn (pos 1)))
     ∷ case 1 (supertype i s (dyn (pos 300)) (dyn (pos 1))) (joins (dyn (pos 300)))
@@ -147,14 +140,177 @@ table i s fs n =
     ∷ case 15 (materialize false (of Kind.UnknownFloat)) (gives (of Kind.Float64))
     ∷ case 15 (materialize false (of Kind.UnknownStr)) (gives (of Kind.String))
     ∷ case 15 (materialize true (of Kind.UnknownAny)) (gives (of Kind.UnknownAny))
-    ∷ case 15 (materialize false (of Kind.UnknownAny)) refused
+    ∷ case 15 (materialize false (of Kind.UnknownAny)) (refused-by 7)
     ∷ case 15 (materialize true (two 1 (of Kind.UnknownStr) (of Kind.UnknownAny))) (gives (two 1 (of Kind.String) (of Kind.UnknownAny)))
-    ∷ case 15 (materialize false (two 1 (of Kind.UnknownStr) (of Kind.UnknownAny))) refused
-    -- 18: into one channel; 12 leaves the code that was held
-    ∷ case 18 (merge-all (suc n) (of Kind.UInt64 ∷ of Kind.Int8 ∷ of Kind.UInt128 ∷ [])) (leaves (Held Kind.UInt64 ∷ Held Kind.Int128 ∷ Refused NoUpcast ∷ []) Kind.Int128)
-    ∷ case 18 (merge-all (suc n) (of Kind.UInt128 ∷ of Kind.UInt8 ∷ [])) (leaves (Held Kind.UInt128 ∷ Held Kind.UInt128 ∷ []) Kind.UInt128)
+    ∷ case 15 (materialize false (two 1 (of Kind.UnknownStr) (of Kind.UnknownAny))) (refused-by 7)
+    -- 18: number and value of every answer, then the code that is left; 12 leaves the code that was held
+    ∷ case 18 (merge-all (of Kind.UInt64 ∷ of Kind.Int8 ∷ of Kind.UInt128 ∷ [])) (merged ((0, 5) ∷ (0, 11) ∷ (12, 0) ∷ []) 11)
+    ∷ case 18 (merge-all (of Kind.UInt128 ∷ of Kind.UInt8 ∷ [])) (merged ((0, 6) ∷ (0, 6) ∷ []) 6)
     ∷ []
 
--- The claim: every row's answer is what the definitions answer.
-abbrev pub CasesHold : Type 0
-CasesHold = (i s : Bool) (fs : Fields) (n : ℕ) → map (λ (c : Case). answer (c .asked)) (table i s fs n) ≡ map (λ (c : Case). c .answered) (table i s fs n)
+-- the table of refusals: calls for every number, and the nearest calls that are not refused
+abbrev pub causes : Bool → Bool → List Case
+causes i s =
+    -- 1: no node; one List over a Struct of 255 fields, and two; lengths that differ
+    refusal 1 (check [] [])
+    ∷ passes (check-type (lists 1 (struct (int8s 255))))
+    ∷ refusal 1 (check-type (lists 2 (struct (int8s 255))))
+    ∷ refusal 1 (check (Kind.Int8 ∷ []) [])
+    ∷ refusal 1 (check (Kind.Int8 ∷ []) (0 ∷ 0 ∷ []))
+    -- 1: a stored length under 2; no node; one byte less than 2 + 9 × n, as many, and one more
+    ∷ refusal 1 (check-encoded (1 ∷ []))
+    ∷ refusal 1 (check-encoded (0 ∷ 0 ∷ []))
+    ∷ refusal 1 (check-encoded (1 ∷ 0 ∷ Kind.Int8 ∷ replicate 7 0))
+    ∷ passes (check-encoded (1 ∷ 0 ∷ Kind.Int8 ∷ replicate 8 0))
+    ∷ refusal 1 (check-encoded (1 ∷ 0 ∷ Kind.Int8 ∷ replicate 9 0))
+    -- 2
+    ∷ refusal 2 (check-type (leaf 32 0))
+    -- 3
+    ∷ refusal 3 (check-type (leaf Kind.Int8 1))
+    -- 4: a field outside a Struct, no child, a node too many, a Struct's child that is no field
+    ∷ refusal 4 (check-type (leaf 31 0))
+    ∷ refusal 4 (check-type (of Kind.List))
+    ∷ refusal 4 (check (Kind.Int8 ∷ Kind.Int8 ∷ []) (0 ∷ 0 ∷ []))
+    ∷ refusal 4 (check (Kind.Struct ∷ Kind.Int8 ∷ []) (1 ∷ 0 ∷ []))
+    -- 5: 32 Lists over Int8, and 33
+    ∷ passes (check-type (lists 32 (of Kind.Int8)))
+    ∷ refusal 5 (check-type (lists 33 (of Kind.Int8)))
+    -- 6: on either side
+    ∷ refusal 6 (get-supertype i s (list (of Kind.Int8)) (of Kind.Int8) 1)
+    ∷ refusal 6 (get-supertype i s (of Kind.Int8) (struct empty) 1)
+    -- 7
+    ∷ refusal 7 (materialize-unknown false (list (of Kind.UnknownAny)) 2)
+    ∷ passes (materialize-unknown true (list (of Kind.UnknownAny)) 2)
+    -- 8: room for one node less than the result has; a None needs no room
+    ∷ refusal 8 (get-supertype i s (of Kind.Int8) (of Kind.Int16) 0)
+    ∷ passes (get-supertype i s (of Kind.Int8) (of Kind.Int16) 1)
+    ∷ refusal 8 (materialize-unknown true (list (of Kind.UnknownAny)) 1)
+    ∷ passes (get-supertype i s (datetime 1 0) (datetime 2 0) 0)
+    -- 9: channel 31, and channel 32
+    ∷ passes (merge 0 31 (of Kind.Int8))
+    ∷ refusal 9 (merge 0 32 (of Kind.Int8))
+    -- 10: held codes at both ends of 2 to 11
+    ∷ refusal 10 (merge 1 0 (of Kind.Int8))
+    ∷ passes (merge 2 0 (of Kind.Int8))
+    ∷ passes (merge 11 0 (of Kind.Int8))
+    ∷ refusal 10 (merge 12 0 (of Kind.Int8))
+    -- 11: offered codes at both ends of 2 to 11
+    ∷ refusal 11 (merge 0 0 (leaf 1 0))
+    ∷ passes (merge 0 0 (leaf 2 0))
+    ∷ passes (merge 0 0 (leaf 11 0))
+    ∷ refusal 11 (merge 0 0 (leaf 12 0))
+    -- 12: unequal integers without an upcast, and equal ones
+    ∷ refusal 12 (merge Kind.Int8 0 (of Kind.UInt128))
+    ∷ passes (merge Kind.UInt128 0 (of Kind.UInt128))
+    -- 13: on either side
+    ∷ refusal 13 (get-supertype i s (decimal 10 2) (of Kind.Int8) 1)
+    ∷ refusal 13 (get-supertype i s (of Kind.UInt128) (decimal 10 2) 1)
+    ∷ []
+
+-- the order of refusals: the lowest number that applies
+abbrev pub order : Bool → Bool → List Case
+order i s =
+    -- each of 1 to 5 looks at the whole type before the next: 1 and 2, 2 and 3, 3 and 4, 4 and 5
+    refusal 1 (check (32 ∷ []) [])
+    ∷ refusal 2 (check (Kind.List ∷ 32 ∷ []) (1 ∷ 0 ∷ []))
+    ∷ refusal 3 (check (31 ∷ Kind.Int8 ∷ []) (0 ∷ 1 ∷ []))
+    ∷ refusal 4 (check (kindsOf (lists 33 (of Kind.Int8)) ++ (Kind.Int8 ∷ [])) (argsOf (lists 33 (of Kind.Int8)) ++ (0 ∷ [])))
+    -- the left type through 1 to 5, then the right, then the rest
+    ∷ refusal 5 (get-supertype i s (lists 33 (of Kind.Int8)) (leaf 32 0) 1)
+    ∷ refusal 4 (get-supertype i s (of Kind.Int8) (leaf 31 0) 1)
+    ∷ refusal 2 (get-supertype i s (list (of Kind.Int8)) (leaf 32 0) 1)
+    -- 6, 7 and 13 where there is no room either: a refused call has no result
+    ∷ refusal 6 (get-supertype i s (list (of Kind.Int8)) (list (of Kind.Int8)) 0)
+    ∷ refusal 7 (materialize-unknown false (of Kind.UnknownAny) 0)
+    ∷ refusal 13 (get-supertype i s (decimal 10 2) (of Kind.Int8) 0)
+    -- in a merge 1 to 5, then 9, then 10, then 11
+    ∷ refusal 2 (merge 0 32 (leaf 32 0))
+    ∷ refusal 9 (merge 1 32 (of Kind.Boolean))
+    ∷ refusal 10 (merge 1 0 (of Kind.Boolean))
+    ∷ []
+
+-- the bounds of the arguments
+abbrev pub bounds : List Case
+bounds =
+    -- precision 1 to 38, scale 0 to precision
+    refusal 3 (check-type (decimal 0 0))
+    ∷ passes (check-type (decimal 1 0))
+    ∷ passes (check-type (decimal 1 1))
+    ∷ refusal 3 (check-type (decimal 1 2))
+    ∷ passes (check-type (decimal 38 38))
+    ∷ refusal 3 (check-type (decimal 38 39))
+    ∷ refusal 3 (check-type (decimal 39 0))
+    -- units 0 to 2, zone below 2^32
+    ∷ passes (check-type (datetime 0 2))
+    ∷ refusal 3 (check-type (datetime 0 3))
+    ∷ passes (check-type (datetime (2 ^ 32 - 1) 2))
+    ∷ refusal 3 (check-type (datetime (2 ^ 32) 0))
+    ∷ passes (check-type (leaf Kind.Duration 2))
+    ∷ refusal 3 (check-type (leaf Kind.Duration 3))
+    -- 0 to 255 fields: with 255 the argument fits, and the fields are missing
+    ∷ passes (check-type (struct empty))
+    ∷ refusal 4 (check-type (leaf Kind.Struct 255))
+    ∷ refusal 3 (check-type (leaf Kind.Struct 256))
+    -- a name below 2^32
+    ∷ passes (check-type (one (2 ^ 32 - 1) (of Kind.Int8)))
+    ∷ refusal 3 (check-type (one (2 ^ 32) (of Kind.Int8)))
+    -- any v and any width
+    ∷ passes (check-type (leaf Kind.UnknownIntPos (2 ^ 64 - 1)))
+    ∷ passes (check-type (leaf Kind.UnknownIntNeg (2 ^ 64 - 1)))
+    ∷ passes (check-type (array (2 ^ 64 - 1) (of Kind.Int8)))
+    -- all others have 0
+    ∷ map (λ (k : ℕ). refusal 3 (check-type (leaf k 1))) (0 ∷ 1 ∷ 2 ∷ 3 ∷ 4 ∷ 5 ∷ 6 ∷ 7 ∷ 8 ∷ 9 ∷ 10 ∷ 11 ∷ 12 ∷ 13 ∷ 14 ∷ 16 ∷ 17 ∷ 18 ∷ 19 ∷ 22 ∷ 23 ∷ 24 ∷ 25 ∷ 28 ∷ [])
+
+-- the kinds, in the order of their codes
+abbrev pub kinds : List ℕ
+kinds =
+    Kind.Null
+    ∷ Kind.Boolean
+    ∷ Kind.UInt8
+    ∷ Kind.UInt16
+    ∷ Kind.UInt32
+    ∷ Kind.UInt64
+    ∷ Kind.UInt128
+    ∷ Kind.Int8
+    ∷ Kind.Int16
+    ∷ Kind.Int32
+    ∷ Kind.Int64
+    ∷ Kind.Int128
+    ∷ Kind.Float16
+    ∷ Kind.Float32
+    ∷ Kind.Float64
+    ∷ Kind.Decimal
+    ∷ Kind.String
+    ∷ Kind.Binary
+    ∷ Kind.BinaryOffset
+    ∷ Kind.Date
+    ∷ Kind.Datetime
+    ∷ Kind.Duration
+    ∷ Kind.Time
+    ∷ Kind.UnknownAny
+    ∷ Kind.UnknownStr
+    ∷ Kind.UnknownFloat
+    ∷ Kind.UnknownIntPos
+    ∷ Kind.UnknownIntNeg
+    ∷ Kind.List
+    ∷ Kind.Array
+    ∷ Kind.Struct
+    ∷ Kind.Field
+    ∷ []
+
+-- the codes of the kinds, and the stored sheet of List(Int16)
+abbrev pub sheets : List Case
+sheets =
+    stored (codes kinds) (0 ∷ 1 ∷ 2 ∷ 3 ∷ 4 ∷ 5 ∷ 6 ∷ 7 ∷ 8 ∷ 9 ∷ 10 ∷ 11 ∷ 12 ∷ 13 ∷ 14 ∷ 15 ∷ 16 ∷ 17 ∷ 18 ∷ 19 ∷ 20 ∷ 21 ∷ 22 ∷ 23 ∷ 24 ∷ 25 ∷ 26 ∷ 27 ∷ 28 ∷ 29 ∷ 30 ∷ 31 ∷ [])
+    ∷ stored (encoded (list (of Kind.Int16))) (0x02 ∷ 0x00 ∷ 0x1C ∷ 0x08 ∷ replicate 16 0)
+    ∷ []
+
+-- the table, for any flags and any fields
+abbrev pub table : Bool → Bool → Fields → List Case
+table i s fs = corners i s fs ++ (causes i s ++ (order i s ++ (bounds ++ sheets)))
+
+-- The claim: at these limits, every row's answer is what the definitions answer.
+abbrev pub CasesHold : (nodes deep channels width : ℕ) → Type 0
+CasesHold nodes deep channels width =
+    let l : Limits = record { nodes = nodes; deep = deep; channels = channels; width = width } in
+    (i s : Bool) (fs : Fields) → map (λ (c : Case). answer l (c .asked)) (table i s fs) ≡ map (λ (c : Case). c .answered) (table i s fs)

@@ -1,2 +1,3 @@
 -- The worked cases.
+pub mod Question
 pub mod Cases

@@ -1,1 +1,15 @@
-// Document 01's worked cases, marked [P] there: one table over all the definitions (specs/Cases.antt), and one claim (proofs/Hold.antt). There is no code.
+// Document 01's worked cases: one table over all the definitions (specs/Cases.antt), and one claim.
+ghost use Rattle.cases.specs.Cases.{CasesHold};
+use channels::ChannelTypes;
+use encoding::Encoding;
+use flat::Flat;
+
+// The claim, at the code's own limits. It is the whole of this function, which does nothing.
+pub fn cases_hold()
+    ensures { λ r. do
+      nodes ← ⟦Flat::MAX_NODES⟧ .entry
+      deep ← ⟦Flat::MAX_DEPTH⟧ .entry
+      channels ← ⟦ChannelTypes::CHANNELS⟧ .entry
+      w ← ⟦Encoding::ARGUMENT_BYTES⟧ .entry
+      ⌜ CasesHold nodes deep channels w ⌝ }
+{}

@@ -3,3 +3,4 @@ mod Arms
 mod Pairs
 mod Steps
 mod Entry
+pub mod Structs

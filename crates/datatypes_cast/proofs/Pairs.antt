@@ -72,7 +72,7 @@ width-arms is-array is-list p q t u = absurd (omega arith)
 width-arms (is-array {a}) (is-array {a = b}) p q t u = rw (ne-eqb a b (λ e. q (sym e)))
 
 -- of two Structs, the first with a field
-struct-arms : (fs gs : Fields) → (count fs ≡ 0 → ⊥) → arms (struct fs) (struct gs) ≡ cond (eqb (count fs) (count gs)) (fieldsCast fs gs) (some false)
+pub struct-arms : (fs gs : Fields) → (count fs ≡ 0 → ⊥) → arms (struct fs) (struct gs) ≡ cond (eqb (count fs) (count gs)) (fieldsCast fs gs) (some false)
 unfolding count
 struct-arms empty gs z = absurd (z refl)
 struct-arms (field name t fs) gs z = refl

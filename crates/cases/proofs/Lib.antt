@@ -1,2 +1,0 @@
--- The claim.
-pub mod Hold
