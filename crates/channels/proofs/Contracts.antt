@@ -16,7 +16,7 @@ use denote.Ask.Asked.{asked}
 use Rattle.channels.specs.declared.ChannelTypes.{ChannelTypes}
 use Rattle.channels.specs.declared.Merged.{Merged}
 use Rattle.channels.specs.declared.Outcome.{Outcome}
-use Rattle.channels.specs.Merge.{Merges}
+use Rattle.channels.specs.Merge.{outcomeOf}
 use Rattle.channels.specs.Model.{flatMerge}
 use Rattle.channels.proofs.ChannelTypes.merge as merge
 use Rattle.channels.proofs.merge_in_place as lent
@@ -28,7 +28,7 @@ module _ {M : Type 1} (𝓤 : URA M) (H : Heap 𝓤) (A : Atoms 𝓤) (mem : Mem
       asked 𝓤 H A run (merge.⟦ChannelTypes·CHANNELS⟧-code (κ₁, (κ₂, tt))) tt (λ channels.
       asked 𝓤 H A run (merge.⟦Flat·MAX-NODES⟧-code (κ₁, (κ₂, tt))) tt (λ nodes.
       asked 𝓤 H A run (merge.⟦Flat·MAX-DEPTH⟧-code (κ₁, (κ₂, tt))) tt (λ deep.
-      (let m = flatMerge nodes deep ch (now ks) (now xs) in fact 𝓤 (Merges channels s (m .channel) (m .column) o)))))
+      (let m = flatMerge nodes deep ch (now ks) (now xs) in fact 𝓤 (o ≡ outcomeOf channels s (m .channel) (m .column))))))
 
   pub by-value : (s : ChannelTypes) (o : Outcome)
       → merge.clauses 𝓤 H A mem run (κ₁, (κ₂, tt)) (s, (ch, (ks, (xs, tt)))) .ensures tt o (s, (ch, (ks, (xs, tt)))) ≡ Step s o

@@ -19,7 +19,7 @@ use Rattle.utils_numbers.proofs.Ranges.{least-one}
 use Rattle.channels.specs.declared.ChannelTypes.{ChannelTypes}
 use Rattle.channels.specs.declared.Merged.{Merged}
 use Rattle.channels.specs.declared.Merged.the-variants.{Held, Refused}
-use Rattle.channels.specs.Merge.{unless, mergedWith, mergedOf, codesAfter, started}
+use Rattle.channels.specs.Merge.{unless, mergedWith, mergedOf, codesAfter, started, outcomeOf}
 use Rattle.channels.specs.Model.{Merge, Model, blank, joining, numbered, StandsWhere, Stands, Enters, not-a-type, no-channel, not-integer, accepted, no-room, Feeds}
 use Rattle.channels.specs.Rule
 use Rattle.channels.specs.Rule.{Run, kindIn, AllListed}
@@ -132,10 +132,11 @@ refused-where (no-room l′ i′ n) l i = ((λ x. n), (λ n′. refl))
 module _ {channels : ℕ} where
   -- the model that is fed the merges of a run gives its answers, and the codes follow it
   pub by-model : {ms : List Merge} {xs : List Merged} {s : ChannelTypes} → Run channels (started channels) ms xs s → (b : Model) × Feeds channels ms xs b × Follow channels b (s .codes)
+  unfolding outcomeOf
   by-model Run.none = (blank, Feeds.none, record { size = length-replicate channels 0; stands = λ ch l. getD-replicate channels ch 0 0 l })
   by-model (Run.next {m = m} {o = o} r h) =
       let f = by-model r in
-      let e : Step channels (f .0) (m .channel) (m .column) (o .answer) (o .types .codes) = rw (h .answers, h .leaves) (step (f .2) (m .channel) (m .column)) in
+      let e : Step channels (f .0) (m .channel) (m .column) (o .answer) (o .types .codes) = rw h (step (f .2) (m .channel) (m .column)) in
       (e .0, Feeds.next (f .1) (e .1), e .2)
 
   -- the merges settle the answers and the model

@@ -14,7 +14,7 @@ use Rattle.channels.specs.declared.Merged.{Merged}
 use Rattle.channels.specs.declared.Merged.the-variants.{Held, Refused}
 use Rattle.channels.specs.declared.Outcome.{Outcome}
 use Rattle.flat.specs.declared.error.Error.the-variants.{NoUpcast}
-use Rattle.channels.specs.Merge.{started, Merges}
+use Rattle.channels.specs.Merge.{started, outcomeOf}
 use Rattle.channels.specs.Model.{Merge, Model, Stands, Feeds}
 
 -- A list of merges stands with the latest first, so that what was merged before a merge is the rest of the list.
@@ -24,7 +24,7 @@ use Rattle.channels.specs.Model.{Merge, Model, Stands, Feeds}
 pub data Run (channels : ℕ) (s₀ : ChannelTypes) : List Merge → List Merged → ChannelTypes → Type 0 where
   none : Run channels s₀ [] [] s₀
   next : {ms : List Merge} {xs : List Merged} {s : ChannelTypes} {m : Merge} {o : Outcome} → Run channels s₀ ms xs s
-      → Merges channels s (m .channel) (m .column) o → Run channels s₀ (m ∷ ms) (o .answer ∷ xs) (o .types)
+      → o ≡ outcomeOf channels s (m .channel) (m .column) → Run channels s₀ (m ∷ ms) (o .answer ∷ xs) (o .types)
 
 -- the code of a channel
 abbrev pub codeAt : ChannelTypes → ℕ → ℕ
