@@ -13,6 +13,7 @@ use lib.Seq.{getD-set-same, getD-set-other}
 use borrow.Author.Tests.{ltb-true, ltb-false, eq-eqb, ne-eqb}
 use Rattle.flat.specs.Tree.{DataType, headKind}
 use Rattle.flat.specs.Reading.{Reading, refused, type}
+use Rattle.flat.specs.declared.error.Error.{Error}
 use Rattle.flat.specs.declared.error.Error.the-variants.{Channel, NoUpcast}
 use Rattle.utils_numbers.specs.Range.{Listed, Least, Room}
 use Rattle.utils_numbers.proofs.Ranges.{least-one}
@@ -114,18 +115,22 @@ enters-listed {b = b} {channel = channel} (accepted {t = t} l i r m) ch h = go (
     go false = h
 enters-listed (no-room l i n) ch h = h
 
--- an answer told apart by a number
+-- an answer told apart by a number, and by its refusal
 abbrev heldOne : Merged → ℕ
 heldOne (Held c) = 0
 heldOne (Refused e) = 1
 
--- a listed type for one of the channels is refused exactly where there is no room
+abbrev errorIn : Merged → Error
+errorIn (Held c) = NoUpcast
+errorIn (Refused e) = e
+
+-- a listed type for one of the channels is refused exactly where there is no room, and by 12 alone
 pub refused-where : {channels : ℕ} {b b′ : Model} {channel : ℕ} {t : DataType} {a : Merged} → Enters channels b channel (type t) a b′ → channel < channels → Listed (headKind t)
-    → (a ≡ Refused NoUpcast) ↔ (Room (headKind t ∷ b channel) → ⊥)
+    → ((a ≡ Refused NoUpcast) ↔ (Room (headKind t ∷ b channel) → ⊥)) × ((e : Error) → a ≡ Refused e → e ≡ NoUpcast)
 refused-where (no-channel h) l i = absurd (omega arith)
 refused-where (not-integer l′ n) l i = absurd (n i)
-refused-where (accepted l′ i′ r m) l i = ((λ x. absurd (let y : _≡_ {A = ℕ} 0 1 = ap heldOne x in omega arith)), (λ n. absurd (n r)))
-refused-where (no-room l′ i′ n) l i = ((λ x. n), (λ n′. refl))
+refused-where (accepted l′ i′ r m) l i = (((λ x. absurd (let y : _≡_ {A = ℕ} 0 1 = ap heldOne x in omega arith)), (λ n. absurd (n r))), λ e x. sym (ap errorIn x))
+refused-where (no-room l′ i′ n) l i = (((λ x. n), (λ n′. refl)), λ e x. sym (ap errorIn x))
 
 -- ---- a list of merges
 

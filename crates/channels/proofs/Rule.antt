@@ -12,6 +12,7 @@ use lib.Seq.{getD-set-same, getD-set-other}
 use borrow.Author.Tests.{ltb-true, eqb-true, eqb-false}
 use Rattle.flat.specs.Tree.{DataType, headKind}
 use Rattle.flat.specs.Reading.{Reading, refused, type}
+use Rattle.flat.specs.declared.error.Error.{Error}
 use Rattle.flat.specs.declared.error.Error.the-variants.{Channel, NoUpcast}
 use Rattle.utils_numbers.specs.Range.{Listed, Covers, Room}
 use Rattle.utils_numbers.proofs.Ranges.{least-one}
@@ -21,7 +22,7 @@ use Rattle.channels.specs.declared.Merged.the-variants.{Held, Refused}
 use Rattle.channels.specs.declared.Outcome.{Outcome}
 use Rattle.channels.specs.Merge.{unless, mergedWith, mergedOf, codesAfter, started, outcomeOf}
 use Rattle.channels.specs.Model.{Merge, Model, numbered, StandsWhere, Stands, Feeds}
-use Rattle.channels.proofs.Pages.{covers-none}
+use Rattle.channels.proofs.Pages.{covers-none, least-on}
 use Rattle.channels.specs.Rule.{Run, codeAt, Tells, accepted, AllListed, only, answersTo, ChannelRule}
 use Rattle.channels.proofs.Models.{by-model, one-model, pages, all-listed, refused-where}
 
@@ -155,7 +156,7 @@ module _ {channels : ℕ} where
   keeps {ms} {xs} {s} r ch l = let f = by-model r .1 in (rw (pages f ch) at (all-listed f ch), covers-where (accepted ch ms xs) (codeAt s ch) (holds r ch l))
 
   refused-when : {ms : List Merge} {xs : List Merged} {m : Merge} {a : Merged} {t : DataType} {b : Model} → Feeds channels (m ∷ ms) (a ∷ xs) b
-      → m .column ≡ type t → Listed (headKind t) → m .channel < channels → (a ≡ Refused NoUpcast) ↔ ¬ Room (headKind t ∷ accepted (m .channel) ms xs)
+      → m .column ≡ type t → Listed (headKind t) → m .channel < channels → ((a ≡ Refused NoUpcast) ↔ ¬ Room (headKind t ∷ accepted (m .channel) ms xs)) × ((e : Error) → a ≡ Refused e → e ≡ NoUpcast)
   refused-when {m = m} (Feeds.next f e) q i l = rw (← pages f (m .channel)) (refused-where (rw q at e) l i)
 
 pub channel-rule : (channels : ℕ) → ChannelRule channels
@@ -166,6 +167,7 @@ channel-rule channels = record {
   one-model = one-model;
   keeps = keeps;
   holds = holds;
+  least-on = least-on;
   the-one = least-one;
   refused-when = λ r. refused-when (by-model r .1);
   answers = answers;

@@ -1,4 +1,6 @@
 // The type of each channel, document 01's season record: a column's type is merged into a channel (document 01's offer) without ever losing a number.
+mod limits;
+
 ghost use mathlib.Core.Path.{_≡_};
 ghost use mathlib.Core.Bool.{_||_};
 ghost use lib.Dec.{eqb};
