@@ -22,11 +22,13 @@ use Rattle.utils.specs.Join.{joinedOf, joinedNumber, joinedValue, kindsFound, a
 use Rattle.utils.specs.declared.join.Joined.{Joined}
 use Rattle.utils_report.specs.Report.{reportNumber, reportValue}
 use Rattle.utils_report.specs.declared.Report.{Report}
-use Rattle.channels.specs.Merge.{mergedNumber, mergedValue, mergedOf, codesAfter}
+use Rattle.channels.specs.Merge.{mergedNumber, mergedValue}
 use Rattle.channels.specs.declared.Merged.{Merged}
+use Rattle.channels.specs.declared.Outcome.{Outcome}
 use Rattle.encoding_join.specs.Join.{joinedBytes, bytesFound}
 use Rattle.flat.specs.declared.Written.{Written}
 use Rattle.capi.specs.declared.Reply.{Reply}
+use Rattle.capi.specs.declared.channel.TypesReply.{TypesReply}
 
 -- a refusal's number with value 0, or 0 with what the call says of the type
 abbrev pub replyOf : (DataType → ℕ) → Reading → Reply
@@ -89,10 +91,9 @@ reportReply a = record { number = reportNumber a; value = reportValue a }
 abbrev pub mergedReply : Merged → Reply
 mergedReply a = record { number = mergedNumber a; value = mergedValue a }
 
--- What a call comes to that merges a column into a channel: the reply, and the codes of the channels, cs before the call and cs′ after it.
-pub record MergeReply (channels : ℕ) (cs : List ℕ) (channel : ℕ) (column : Reading) (cs′ : List ℕ) (reply : Reply) : Type 0 where
-  pub replies : reply ≡ mergedReply (mergedOf channels cs channel column)
-  pub codes : cs′ ≡ codesAfter cs channel (mergedOf channels cs channel column)
+-- the same beside the types as the merge leaves them
+abbrev pub outcomeReply : Outcome → TypesReply
+outcomeReply o = record { reply = mergedReply (o .answer); types = o .types }
 
 -- What a call comes to that writes a flat type: the number of nodes, and the two lent arrays, ks and xs before the call and ks′ and xs′ after it.
 pub record DecodeReply (r : Reading) (ks xs ks′ xs′ : List ℕ) (reply : Reply) : Type 0 where

@@ -2,7 +2,8 @@
 ghost use mathlib.Core.Path.{_≡_};
 ghost use Rattle.flat.specs.Reading.{reading};
 ghost use Rattle.encoding.specs.Encoding.{decoding};
-ghost use Rattle.capi.specs.Reply.{mergedReply, MergeReply};
+ghost use Rattle.channels.specs.Merge.{outcomeOf};
+ghost use Rattle.capi.specs.Reply.{mergedReply, outcomeReply};
 use crate::Reply;
 use channels::ChannelTypes;
 use channels::Merged;
@@ -37,7 +38,7 @@ pub extern "C" fn lz_channel_merge(
       nodes ← ⟦Flat::MAX_NODES⟧ .entry
       deep ← ⟦Flat::MAX_DEPTH⟧ .entry
       w ← ⟦Encoding::ARGUMENT_BYTES⟧ .entry
-      ⌜ MergeReply channels (now (codes .entry)) channel (decoding w nodes deep (now (column .entry))) (now (codes .exit)) r ⌝ }
+      ⌜ record { reply = r; types = record { codes = now (codes .exit) } } ≡ outcomeReply (outcomeOf channels (record { codes = now (codes .entry) }) channel (decoding w nodes deep (now (column .entry)))) ⌝ }
 {
     let answer = encoding_join::merge(codes, channel, column);
     merged_reply(answer)
@@ -55,7 +56,7 @@ pub extern "C" fn lz_flat_channel_merge(
       channels ← ⟦ChannelTypes::CHANNELS⟧ .entry
       nodes ← ⟦Flat::MAX_NODES⟧ .entry
       deep ← ⟦Flat::MAX_DEPTH⟧ .entry
-      ⌜ MergeReply channels (now (types .entry) .codes) channel (reading nodes deep (now (kinds .entry)) (now (args .entry))) (now (types .exit) .codes) r ⌝ }
+      ⌜ record { reply = r; types = now (types .exit) } ≡ outcomeReply (outcomeOf channels (now (types .entry)) channel (reading nodes deep (now (kinds .entry)) (now (args .entry)))) ⌝ }
 {
     let answer = channels::merge_in_place(types, channel, kinds, args);
     merged_reply(answer)
@@ -73,7 +74,7 @@ pub extern "C" fn lz_flat_channel_merged(
       channels ← ⟦ChannelTypes::CHANNELS⟧ .entry
       nodes ← ⟦Flat::MAX_NODES⟧ .entry
       deep ← ⟦Flat::MAX_DEPTH⟧ .entry
-      ⌜ MergeReply channels (types .codes) channel (reading nodes deep (now (kinds .entry)) (now (args .entry))) (r .types .codes) (r .reply) ⌝ }
+      ⌜ r ≡ outcomeReply (outcomeOf channels types channel (reading nodes deep (now (kinds .entry)) (now (args .entry)))) ⌝ }
 {
     let next = types.merge(channel, kinds, args);
     let answer = next.answer;

@@ -17,7 +17,7 @@ use Rattle.channels.specs.declared.ChannelTypes.{ChannelTypes}
 use Rattle.channels.specs.declared.Merged.{Merged}
 use Rattle.channels.specs.declared.Merged.the-variants.{Held, Refused}
 use Rattle.channels.specs.declared.Outcome.{Outcome}
-use Rattle.channels.specs.Merge.{upcastHeld, mergedWith, mergedOf, codesAfter, rootColumn, Merges}
+use Rattle.channels.specs.Merge.{upcastHeld, mergedWith, mergedOf, rootColumn, outcomeWith, outcomeOf}
 
 -- a channel that holds h is offered the kind k
 module _ (h k : ℕ) where
@@ -46,33 +46,32 @@ module _ (h k : ℕ) where
 
 -- ---- a merge
 
-module _ {n : ℕ} {s : ChannelTypes} {ch : ℕ} where
+module _ (n : ℕ) (s : ChannelTypes) (ch : ℕ) where
   -- by the answer that the definition gives
-  told : {r : Reading} {o : Outcome} (a : Merged) → a ≡ mergedOf n (s .codes) ch r → o .answer ≡ a → o .types .codes ≡ codesAfter (s .codes) ch a → Merges n s ch r o
-  told a e f g = record { answers = f ∙ e; leaves = g ∙ ap (codesAfter (s .codes) ch) e }
+  told : (r : Reading) {a : Merged} → a ≡ mergedOf n (s .codes) ch r → outcomeWith s ch a ≡ outcomeOf n s ch r
+  unfolding outcomeOf
+  told r e = ap (outcomeWith s ch) e
 
   -- of a column told by its root
-  module _ {column : Root} {o : Outcome} where
-    pub refused-column : (e : Error) → column ≡ Root.Refused e → o .answer ≡ Refused e → o .types .codes ≡ s .codes → Merges n s ch (rootColumn column) o
+  module _ {column : Root} where
+    pub refused-column : {e : Error} → column ≡ Root.Refused e → outcomeWith s ch (Refused e) ≡ outcomeOf n s ch (rootColumn column)
     unfolding mergedOf
-    refused-column e c f g = told (Refused e) (rw c) f g
+    refused-column c = told (rootColumn column) (rw c)
 
     module _ {k a : ℕ} (c : column ≡ Root.Node k a) where
-      pub no-channel : n ≤ ch → o .answer ≡ Refused Channel → o .types .codes ≡ s .codes → Merges n s ch (rootColumn column) o
+      pub no-channel : n ≤ ch → outcomeWith s ch (Refused Channel) ≡ outcomeOf n s ch (rootColumn column)
       unfolding mergedOf headKind
-      no-channel h f g = told (Refused Channel) (rw (c, le-ltb ch n h)) f g
+      no-channel h = told (rootColumn column) (rw (c, le-ltb ch n h))
 
-      pub on-channel : (m : Merged) → ch < n → m ≡ mergedWith (getD (s .codes) ch 0) k → o .answer ≡ m → o .types .codes ≡ codesAfter (s .codes) ch m → Merges n s ch (rootColumn column) o
+      pub on-channel : {m : Merged} → ch < n → m ≡ mergedWith (getD (s .codes) ch 0) k → outcomeWith s ch m ≡ outcomeOf n s ch (rootColumn column)
       unfolding mergedOf headKind
-      on-channel m h e f g = told m (rw (c, lt-ltb ch n h) e) f g
+      on-channel h e = told (rootColumn column) (rw (c, lt-ltb ch n h) e)
 
--- a merge looks at the root of a column's type alone
-of-root : (n : ℕ) (codes : List ℕ) (ch : ℕ) (r : Reading) → mergedOf n codes ch (rootColumn (rootOf r)) ≡ mergedOf n codes ch r
-unfolding mergedOf headKind
-of-root n codes ch (refused e) = refl
-of-root n codes ch (type t) = refl
+  -- a merge looks at the root of a column's type alone
+  of-root : (r : Reading) → outcomeOf n s ch (rootColumn (rootOf r)) ≡ outcomeOf n s ch r
+  unfolding outcomeOf mergedOf headKind
+  of-root (refused e) = refl
+  of-root (type t) = refl
 
-pub by-root : {n : ℕ} {s : ChannelTypes} {ch : ℕ} {column : Root} {r : Reading} {o : Outcome} → column ≡ rootOf r → Merges n s ch (rootColumn column) o → Merges n s ch r o
-by-root {n} {s} {ch} {column} {r} e m =
-    let same = ap (λ (c : Root). mergedOf n (s .codes) ch (rootColumn c)) e ∙ of-root n (s .codes) ch r in
-    record { answers = m .answers ∙ same; leaves = m .leaves ∙ ap (codesAfter (s .codes) ch) same }
+  pub by-root : (r : Reading) {column : Root} {o : Outcome} → column ≡ rootOf r → o ≡ outcomeOf n s ch (rootColumn column) → o ≡ outcomeOf n s ch r
+  by-root r e m = m ∙ ap (λ (c : Root). outcomeOf n s ch (rootColumn c)) e ∙ of-root r

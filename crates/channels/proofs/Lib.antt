@@ -4,3 +4,4 @@ mod Contracts
 mod Pages
 mod Models
 pub mod Rule
+mod Worked

@@ -13,13 +13,14 @@ use lib.Seq.{getD-set-same, getD-set-other}
 use borrow.Author.Tests.{ltb-true, ltb-false, eq-eqb, ne-eqb}
 use Rattle.flat.specs.Tree.{DataType, headKind}
 use Rattle.flat.specs.Reading.{Reading, refused, type}
+use Rattle.flat.specs.declared.error.Error.{Error}
 use Rattle.flat.specs.declared.error.Error.the-variants.{Channel, NoUpcast}
 use Rattle.utils_numbers.specs.Range.{Listed, Least, Room}
 use Rattle.utils_numbers.proofs.Ranges.{least-one}
 use Rattle.channels.specs.declared.ChannelTypes.{ChannelTypes}
 use Rattle.channels.specs.declared.Merged.{Merged}
 use Rattle.channels.specs.declared.Merged.the-variants.{Held, Refused}
-use Rattle.channels.specs.Merge.{unless, mergedWith, mergedOf, codesAfter, started}
+use Rattle.channels.specs.Merge.{unless, mergedWith, mergedOf, codesAfter, started, outcomeOf}
 use Rattle.channels.specs.Model.{Merge, Model, blank, joining, numbered, StandsWhere, Stands, Enters, not-a-type, no-channel, not-integer, accepted, no-room, Feeds}
 use Rattle.channels.specs.Rule
 use Rattle.channels.specs.Rule.{Run, kindIn, AllListed}
@@ -114,28 +115,33 @@ enters-listed {b = b} {channel = channel} (accepted {t = t} l i r m) ch h = go (
     go false = h
 enters-listed (no-room l i n) ch h = h
 
--- an answer told apart by a number
+-- an answer told apart by a number, and by its refusal
 abbrev heldOne : Merged → ℕ
 heldOne (Held c) = 0
 heldOne (Refused e) = 1
 
--- a listed type for one of the channels is refused exactly where there is no room
+abbrev errorIn : Merged → Error
+errorIn (Held c) = NoUpcast
+errorIn (Refused e) = e
+
+-- a listed type for one of the channels is refused exactly where there is no room, and by 12 alone
 pub refused-where : {channels : ℕ} {b b′ : Model} {channel : ℕ} {t : DataType} {a : Merged} → Enters channels b channel (type t) a b′ → channel < channels → Listed (headKind t)
-    → (a ≡ Refused NoUpcast) ↔ (Room (headKind t ∷ b channel) → ⊥)
+    → ((a ≡ Refused NoUpcast) ↔ (Room (headKind t ∷ b channel) → ⊥)) × ((e : Error) → a ≡ Refused e → e ≡ NoUpcast)
 refused-where (no-channel h) l i = absurd (omega arith)
 refused-where (not-integer l′ n) l i = absurd (n i)
-refused-where (accepted l′ i′ r m) l i = ((λ x. absurd (let y : _≡_ {A = ℕ} 0 1 = ap heldOne x in omega arith)), (λ n. absurd (n r)))
-refused-where (no-room l′ i′ n) l i = ((λ x. n), (λ n′. refl))
+refused-where (accepted l′ i′ r m) l i = (((λ x. absurd (let y : _≡_ {A = ℕ} 0 1 = ap heldOne x in omega arith)), (λ n. absurd (n r))), λ e x. sym (ap errorIn x))
+refused-where (no-room l′ i′ n) l i = (((λ x. n), (λ n′. refl)), λ e x. sym (ap errorIn x))
 
 -- ---- a list of merges
 
 module _ {channels : ℕ} where
   -- the model that is fed the merges of a run gives its answers, and the codes follow it
   pub by-model : {ms : List Merge} {xs : List Merged} {s : ChannelTypes} → Run channels (started channels) ms xs s → (b : Model) × Feeds channels ms xs b × Follow channels b (s .codes)
+  unfolding outcomeOf
   by-model Run.none = (blank, Feeds.none, record { size = length-replicate channels 0; stands = λ ch l. getD-replicate channels ch 0 0 l })
   by-model (Run.next {m = m} {o = o} r h) =
       let f = by-model r in
-      let e : Step channels (f .0) (m .channel) (m .column) (o .answer) (o .types .codes) = rw (h .answers, h .leaves) (step (f .2) (m .channel) (m .column)) in
+      let e : Step channels (f .0) (m .channel) (m .column) (o .answer) (o .types .codes) = rw h (step (f .2) (m .channel) (m .column)) in
       (e .0, Feeds.next (f .1) (e .1), e .2)
 
   -- the merges settle the answers and the model

@@ -103,3 +103,7 @@ answered page held k = go (numbered page) refl
 -- where it stands once a listed type has joined
 pub stands-joined : (k c : ℕ) (page : List ℕ) → Listed k → Least c (k ∷ page) → Stands (k ∷ page) c
 stands-joined k c page l m = rw (is-listed-true k l) m
+
+-- and such a page stands at the least
+pub least-on : (c k : ℕ) (ks : List ℕ) → Listed k → Stands (k ∷ ks) c → Least c (k ∷ ks)
+least-on c k ks l s = rw (is-listed-true k l) at s

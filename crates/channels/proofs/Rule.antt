@@ -12,6 +12,7 @@ use lib.Seq.{getD-set-same, getD-set-other}
 use borrow.Author.Tests.{ltb-true, eqb-true, eqb-false}
 use Rattle.flat.specs.Tree.{DataType, headKind}
 use Rattle.flat.specs.Reading.{Reading, refused, type}
+use Rattle.flat.specs.declared.error.Error.{Error}
 use Rattle.flat.specs.declared.error.Error.the-variants.{Channel, NoUpcast}
 use Rattle.utils_numbers.specs.Range.{Listed, Covers, Room}
 use Rattle.utils_numbers.proofs.Ranges.{least-one}
@@ -19,9 +20,9 @@ use Rattle.channels.specs.declared.ChannelTypes.{ChannelTypes}
 use Rattle.channels.specs.declared.Merged.{Merged}
 use Rattle.channels.specs.declared.Merged.the-variants.{Held, Refused}
 use Rattle.channels.specs.declared.Outcome.{Outcome}
-use Rattle.channels.specs.Merge.{unless, mergedWith, mergedOf, codesAfter, started, Merges}
+use Rattle.channels.specs.Merge.{unless, mergedWith, mergedOf, codesAfter, started, outcomeOf}
 use Rattle.channels.specs.Model.{Merge, Model, numbered, StandsWhere, Stands, Feeds}
-use Rattle.channels.proofs.Pages.{covers-none}
+use Rattle.channels.proofs.Pages.{covers-none, least-on}
 use Rattle.channels.specs.Rule.{Run, codeAt, Tells, accepted, AllListed, only, answersTo, ChannelRule}
 use Rattle.channels.proofs.Models.{by-model, one-model, pages, all-listed, refused-where}
 
@@ -60,15 +61,18 @@ module _ (channels : ℕ) where
   same-answer x y channel (type t) h = rw h
 
 -- the same of a merge
-module _ {channels : ℕ} {s : ChannelTypes} {channel : ℕ} {column : Reading} {o : Outcome} (h : Merges channels s channel column o) where
+module _ (channels : ℕ) (s : ChannelTypes) (m : Merge) {o : Outcome} (h : o ≡ outcomeOf channels s (m .channel) (m .column)) where
   keeps-length : length (o .types .codes) ≡ length (s .codes)
-  keeps-length = rw (h .leaves) (after-length (s .codes) channel (mergedOf channels (s .codes) channel column))
+  unfolding outcomeOf
+  keeps-length = rw h (after-length (s .codes) (m .channel) (mergedOf channels (s .codes) (m .channel) (m .column)))
 
-  keeps-other : (ch : ℕ) → (ch ≡ channel → ⊥) → codeAt (o .types) ch ≡ codeAt s ch
-  keeps-other ch n = rw (h .leaves) (after-other (s .codes) channel (mergedOf channels (s .codes) channel column) ch n)
+  keeps-other : (ch : ℕ) → (ch ≡ m .channel → ⊥) → codeAt (o .types) ch ≡ codeAt s ch
+  unfolding outcomeOf
+  keeps-other ch n = rw h (after-other (s .codes) (m .channel) (mergedOf channels (s .codes) (m .channel) (m .column)) ch n)
 
-  own-code : length (s .codes) ≡ channels → codeAt (o .types) channel ≡ codeAfter (codeAt s channel) (o .answer)
-  own-code n = rw (h .answers, h .leaves) (after-own channels (s .codes) channel column n)
+  own-code : length (s .codes) ≡ channels → codeAt (o .types) (m .channel) ≡ codeAfter (codeAt s (m .channel)) (o .answer)
+  unfolding outcomeOf
+  own-code n = rw h (after-own channels (s .codes) (m .channel) (m .column) n)
 
 -- the channel's own code after one answer, of codes of one length that agree there
 after-same : (x y : List ℕ) (ch : ℕ) (a : Merged) → length x ≡ length y → getD x ch 0 ≡ getD y ch 0 → getD (codesAfter x ch a) ch 0 ≡ getD (codesAfter y ch a) ch 0
@@ -82,12 +86,13 @@ after-same x y ch (Held c) n h = go (decLt ch (length x))
     go (yes l) = getD-set-same x ch c 0 l ∙ sym (getD-set-same y ch c 0 (omega arith))
     go (no l) = past x (omega arith) ∙ sym (past y (omega arith))
 
--- one column merged into a channel of two types, which have the same code there
-same-merge : {channels : ℕ} {s t : ChannelTypes} {channel : ℕ} {column : Reading} {o p : Outcome} → Merges channels s channel column o → Merges channels t channel column p
-    → length (s .codes) ≡ length (t .codes) → codeAt s channel ≡ codeAt t channel → (codeAt (o .types) channel ≡ codeAt (p .types) channel) × (o .answer ≡ p .answer)
-same-merge {channels} {s} {t} {channel} {column} {o} {p} h g n e =
-    let m = same-answer channels (s .codes) (t .codes) channel column e in
-    (rw (h .leaves, g .leaves, m) (after-same (s .codes) (t .codes) channel (mergedOf channels (t .codes) channel column) n e), h .answers ∙ m ∙ sym (g .answers))
+-- one merge into two types, which have the same code at its channel
+same-merge : (channels : ℕ) (s t : ChannelTypes) (m : Merge) {o p : Outcome} → o ≡ outcomeOf channels s (m .channel) (m .column) → p ≡ outcomeOf channels t (m .channel) (m .column)
+    → length (s .codes) ≡ length (t .codes) → codeAt s (m .channel) ≡ codeAt t (m .channel) → (codeAt (o .types) (m .channel) ≡ codeAt (p .types) (m .channel)) × (o .answer ≡ p .answer)
+unfolding outcomeOf
+same-merge channels s t m h g n e =
+    let a = same-answer channels (s .codes) (t .codes) (m .channel) (m .column) e in
+    rw (h, g, a) (after-same (s .codes) (t .codes) (m .channel) (mergedOf channels (t .codes) (m .channel) (m .column)) n e, refl)
 
 -- an answer is the code after it
 tells : (held : ℕ) (a : Merged) {code : ℕ} → code ≡ codeAfter held a → Tells a code
@@ -102,13 +107,12 @@ module _ {channels : ℕ} where
   run-of s₀ [] = ([], s₀, Run.none)
   run-of s₀ (m ∷ ms) =
       let r = run-of s₀ ms in
-      let a : Merged = mergedOf channels (r .1 .codes) (m .channel) (m .column) in
-      let o : Outcome = record { types = record { codes = codesAfter (r .1 .codes) (m .channel) a }; answer = a } in
-      (a ∷ r .0, o .types, Run.next {o = o} (r .2) (record { answers = refl; leaves = refl }))
+      let o = outcomeOf channels (r .1) (m .channel) (m .column) in
+      (o .answer ∷ r .0, o .types, Run.next {o = o} (r .2) refl)
 
   run-length : {ms : List Merge} {xs : List Merged} {s₀ s : ChannelTypes} → Run channels s₀ ms xs s → length (s .codes) ≡ length (s₀ .codes)
   run-length Run.none = refl
-  run-length (Run.next r h) = keeps-length h ∙ run-length r
+  run-length (Run.next {s = s} {m = m} r h) = keeps-length channels s m h ∙ run-length r
 
   -- what was merged before is a run too
   before : (later ms : List Merge) {xs : List Merged} {s₀ s : ChannelTypes} → Run channels s₀ (later ++ ms) xs s → (ys zs : List Merged) × (t : ChannelTypes) × Run channels s₀ ms zs t × (xs ≡ ys ++ zs)
@@ -116,7 +120,7 @@ module _ {channels : ℕ} where
   before (m ∷ later) ms (Run.next {o = o} r h) = let e = before later ms r in (o .answer ∷ e .0, e .1, e .2, e .3, ap (o .answer ∷_) (e .4))
 
   answers : {ms : List Merge} {xs : List Merged} {s₀ s : ChannelTypes} {m : Merge} {a : Merged} → length (s₀ .codes) ≡ channels → Run channels s₀ (m ∷ ms) (a ∷ xs) s → Tells a (codeAt s (m .channel))
-  answers n (Run.next {s = s} {m = m} {o = o} r h) = tells (codeAt s (m .channel)) (o .answer) (own-code h (run-length r ∙ n))
+  answers n (Run.next {s = s} {m = m} {o = o} r h) = tells (codeAt s (m .channel)) (o .answer) (own-code channels s m h (run-length r ∙ n))
 
   -- a merge into another channel leaves this one as it was; one into this channel is in both lists
   alone : (ch : ℕ) {ms : List Merge} {xs ys : List Merged} {s₀ s t : ChannelTypes} → Run channels s₀ ms xs s → Run channels s₀ (only ch ms) ys t → (codeAt s ch ≡ codeAt t ch) × (answersTo ch ms xs ≡ ys)
@@ -130,9 +134,9 @@ module _ {channels : ℕ} where
       go true e rest (Run.next {xs = zs} {s = u} r′ h′) =
           let b = rest zs u r′ in
           let d : m .channel ≡ ch = eqb-true (m .channel) ch e in
-          let a = same-merge h h′ (run-length r ∙ sym (run-length r′)) (rw d (b .0)) in
+          let a = same-merge channels s u m h h′ (run-length r ∙ sym (run-length r′)) (rw d (b .0)) in
           (rw d at (a .0), cc)
-      go {ys} {t} false e rest r′ = let b = rest ys t r′ in (keeps-other h ch (λ d. eqb-false (m .channel) ch e (sym d)) ∙ b .0, b .1)
+      go {ys} {t} false e rest r′ = let b = rest ys t r′ in (keeps-other channels s m h ch (λ d. eqb-false (m .channel) ch e (sym d)) ∙ b .0, b .1)
 
 -- ---- lists of merges, from types started empty
 
@@ -152,7 +156,7 @@ module _ {channels : ℕ} where
   keeps {ms} {xs} {s} r ch l = let f = by-model r .1 in (rw (pages f ch) at (all-listed f ch), covers-where (accepted ch ms xs) (codeAt s ch) (holds r ch l))
 
   refused-when : {ms : List Merge} {xs : List Merged} {m : Merge} {a : Merged} {t : DataType} {b : Model} → Feeds channels (m ∷ ms) (a ∷ xs) b
-      → m .column ≡ type t → Listed (headKind t) → m .channel < channels → (a ≡ Refused NoUpcast) ↔ ¬ Room (headKind t ∷ accepted (m .channel) ms xs)
+      → m .column ≡ type t → Listed (headKind t) → m .channel < channels → ((a ≡ Refused NoUpcast) ↔ ¬ Room (headKind t ∷ accepted (m .channel) ms xs)) × ((e : Error) → a ≡ Refused e → e ≡ NoUpcast)
   refused-when {m = m} (Feeds.next f e) q i l = rw (← pages f (m .channel)) (refused-where (rw q at e) l i)
 
 pub channel-rule : (channels : ℕ) → ChannelRule channels
@@ -163,6 +167,7 @@ channel-rule channels = record {
   one-model = one-model;
   keeps = keeps;
   holds = holds;
+  least-on = least-on;
   the-one = least-one;
   refused-when = λ r. refused-when (by-model r .1);
   answers = answers;

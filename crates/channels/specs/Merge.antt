@@ -1,5 +1,4 @@
 -- What a merge comes to: its answer, and the types as it leaves them. Assumes nothing: these are definitions.
-use mathlib.Core.Path.{_≡_}
 use mathlib.Core.Bool.{Bool, true, false, _||_}
 use mathlib.Core.List.{List}
 use Prim.Native.Nat.{ℕ}
@@ -66,10 +65,13 @@ abbrev pub codesAfter : List ℕ → ℕ → Merged → List ℕ
 codesAfter codes channel (Held c) = set codes channel c
 codesAfter codes channel (Refused e) = codes
 
--- What the contract of a merge says: a column is merged into a channel of these types, and this is the outcome.
-pub record Merges (channels : ℕ) (types : ChannelTypes) (channel : ℕ) (column : Reading) (outcome : Outcome) : Type 0 where
-  pub answers : outcome .answer ≡ mergedOf channels (types .codes) channel column
-  pub leaves : outcome .types .codes ≡ codesAfter (types .codes) channel (mergedOf channels (types .codes) channel column)
+-- an answer, beside the types as it leaves them
+abbrev pub outcomeWith : ChannelTypes → ℕ → Merged → Outcome
+outcomeWith types channel a = record { types = record { codes = codesAfter (types .codes) channel a }; answer = a }
+
+-- What a merge comes to: a column is merged into a channel of these types.
+unfoldable pub outcomeOf : (channels : ℕ) → ChannelTypes → ℕ → Reading → Outcome
+outcomeOf channels types channel column = outcomeWith types channel (mergedOf channels (types .codes) channel column)
 
 -- a column told by the root of its type, on which alone a merge rests
 abbrev pub rootColumn : Root → Reading

@@ -35,16 +35,18 @@ blank i = []
 abbrev pub joining : Model → ℕ → ℕ → Model
 joining b channel k i = cond (eqb channel i) (k ∷ b i) (b i)
 
--- some type on the page has a number
+-- some type on the page has a number in its range: a listed type has, no other could hold any
 abbrev pub numbered : List ℕ → Bool
 numbered [] = false
 numbered (k ∷ ks) = isListed k || numbered ks
 
+-- at code 0 without a number, else at the type that demand 3 names
 abbrev pub StandsWhere : Bool → List ℕ → ℕ → Type 0
 StandsWhere false page c = c ≡ 0
 StandsWhere true page c = Least c page
 
--- "A channel with an empty page stands at code 0, any other at the code of the type that demand 3 names, taken over the types on its page"
+-- "A channel with an empty page stands at code 0, any other at the code of the type that demand 3 names, taken over the types on its page." Only listed types join a
+-- page, so that it is empty or has a number (`ChannelRule.least-on`).
 abbrev pub Stands : List ℕ → ℕ → Type 0
 Stands page c = StandsWhere (numbered page) page c
 

@@ -8,23 +8,24 @@ use lib.Dec.{eqb}
 use lib.ListN.{length, getD}
 use Rattle.flat.specs.Tree.{DataType, headKind}
 use Rattle.flat.specs.Reading.{Reading, refused, type}
+use Rattle.flat.specs.declared.error.Error.{Error}
+use Rattle.flat.specs.declared.error.Error.the-variants.{NoUpcast}
 use Rattle.utils_numbers.specs.Range.{Listed, Covers, Least, Room}
 use Rattle.channels.specs.declared.ChannelTypes.{ChannelTypes}
 use Rattle.channels.specs.declared.Merged.{Merged}
 use Rattle.channels.specs.declared.Merged.the-variants.{Held, Refused}
 use Rattle.channels.specs.declared.Outcome.{Outcome}
-use Rattle.flat.specs.declared.error.Error.the-variants.{NoUpcast}
-use Rattle.channels.specs.Merge.{started, Merges}
+use Rattle.channels.specs.Merge.{started, outcomeOf}
 use Rattle.channels.specs.Model.{Merge, Model, Stands, Feeds}
 
 -- A list of merges stands with the latest first, so that what was merged before a merge is the rest of the list.
 
--- "each offer given the record as the last one left it and nobody else writing it": a step is what the contract of either form says of a merge
--- (proofs/Contracts.antt)
+-- "each offer given the record as the last one left it and nobody else writing it": a step is what the contract of each form says of a merge
+-- (proofs/Contracts.antt, and crates/capi/proofs/Contracts.antt of the C entry points)
 pub data Run (channels : ℕ) (s₀ : ChannelTypes) : List Merge → List Merged → ChannelTypes → Type 0 where
   none : Run channels s₀ [] [] s₀
   next : {ms : List Merge} {xs : List Merged} {s : ChannelTypes} {m : Merge} {o : Outcome} → Run channels s₀ ms xs s
-      → Merges channels s (m .channel) (m .column) o → Run channels s₀ (m ∷ ms) (o .answer ∷ xs) (o .types)
+      → o ≡ outcomeOf channels s (m .channel) (m .column) → Run channels s₀ (m ∷ ms) (o .answer ∷ xs) (o .types)
 
 -- the code of a channel
 abbrev pub codeAt : ChannelTypes → ℕ → ℕ
@@ -61,7 +62,7 @@ answersTo ch [] xs = []
 answersTo ch (m ∷ ms) [] = []
 answersTo ch (m ∷ ms) (a ∷ xs) = cond (eqb (m .channel) ch) (a ∷ answersTo ch ms xs) (answersTo ch ms xs)
 
--- The claim, of any number of channels: `ChannelTypes` has 32, and `ChannelTypes::empty` gives `started` of them.
+-- The claim, of any number of channels: `ChannelTypes` has 32 (`ChannelLimit`), and `ChannelTypes::empty` gives `started` of them.
 pub record ChannelRule (channels : ℕ) : Type 0 where
   -- every list has a run, from any codes, so that nothing is said of nothing; and so has what was merged before, so that what is said of the latest merge of a
   -- list is said of each
@@ -80,10 +81,13 @@ pub record ChannelRule (channels : ℕ) : Type 0 where
   -- so; one without is empty."
   pub holds : {ms : List Merge} {xs : List Merged} {s : ChannelTypes} → Run channels (started channels) ms xs s
       → (ch : ℕ) → ch < channels → Stands (accepted ch ms xs) (codeAt s ch)
+  -- "with an accepted column": its type is listed, by `keeps`, so that its page has a number and the channel stands at the least
+  pub least-on : (c k : ℕ) (ks : List ℕ) → Listed k → Stands (k ∷ ks) c → Least c (k ∷ ks)
   pub the-one : {ks : List ℕ} {t u : ℕ} → Least t ks → Least u ks → t ≡ u
   -- "In it a valid column of a listed integer type, on a valid channel, is refused exactly when no listed type includes its range and those accepted there before."
+  -- It is then refused by 12, and never by another number.
   pub refused-when : {ms : List Merge} {xs : List Merged} {s : ChannelTypes} {m : Merge} {a : Merged} {t : DataType} → Run channels (started channels) (m ∷ ms) (a ∷ xs) s
-      → m .column ≡ type t → Listed (headKind t) → m .channel < channels → (a ≡ Refused NoUpcast) ↔ ¬ Room (headKind t ∷ accepted (m .channel) ms xs)
+      → m .column ≡ type t → Listed (headKind t) → m .channel < channels → ((a ≡ Refused NoUpcast) ↔ ¬ Room (headKind t ∷ accepted (m .channel) ms xs)) × ((e : Error) → a ≡ Refused e → e ≡ NoUpcast)
   -- "Every answer is the code then held or the refusal's number."
   pub answers : {ms : List Merge} {xs : List Merged} {s₀ s : ChannelTypes} {m : Merge} {a : Merged} → length (s₀ .codes) ≡ channels → Run channels s₀ (m ∷ ms) (a ∷ xs) s
       → Tells a (codeAt s (m .channel))

@@ -1,10 +1,12 @@
 // The type of each channel, document 01's season record: a column's type is merged into a channel (document 01's offer) without ever losing a number.
+mod limits;
+
 ghost use mathlib.Core.Path.{_≡_};
 ghost use mathlib.Core.Bool.{_||_};
 ghost use lib.Dec.{eqb};
 ghost use Rattle.flat.specs.Reading.{reading};
 ghost use Rattle.utils_numbers.specs.Range.{isListed};
-ghost use Rattle.channels.specs.Merge.{mergedWith, mergedNumber, mergedValue, started, rootColumn, Merges};
+ghost use Rattle.channels.specs.Merge.{mergedWith, mergedNumber, mergedValue, started, rootColumn, outcomeOf};
 use flat::Flat;
 use flat::Root;
 use flat::error::Error;
@@ -88,7 +90,7 @@ fn merge_kind(held: u8, kind: u8) -> Merged
 pub fn merge_codes(codes: &mut [u8; ChannelTypes::CHANNELS], channel: usize, column: Root) -> Merged
     ensures { λ a. do
       channels ← ⟦ChannelTypes::CHANNELS⟧ .entry
-      ⌜ Merges channels (record { codes = now (codes .entry) }) channel (rootColumn column) (record { types = record { codes = now (codes .exit) }; answer = a }) ⌝ }
+      ⌜ record { types = record { codes = now (codes .exit) }; answer = a } ≡ outcomeOf channels (record { codes = now (codes .entry) }) channel (rootColumn column) ⌝ }
 {
     match column {
         Root::Refused(e) => Merged::Refused(e),
@@ -128,7 +130,7 @@ impl ChannelTypes {
           channels ← ⟦ChannelTypes::CHANNELS⟧ .entry
           nodes ← ⟦Flat::MAX_NODES⟧ .entry
           deep ← ⟦Flat::MAX_DEPTH⟧ .entry
-          ⌜ Merges channels self channel (reading nodes deep (now (kinds .entry)) (now (args .entry))) r ⌝ }
+          ⌜ r ≡ outcomeOf channels self channel (reading nodes deep (now (kinds .entry)) (now (args .entry))) ⌝ }
     {
         let mut codes = self.codes;
         let answer = merge_codes(&mut codes, channel, flat::check_root(kinds, args));
@@ -148,7 +150,7 @@ pub fn merge_in_place(
       channels ← ⟦ChannelTypes::CHANNELS⟧ .entry
       nodes ← ⟦Flat::MAX_NODES⟧ .entry
       deep ← ⟦Flat::MAX_DEPTH⟧ .entry
-      ⌜ Merges channels (now (types .entry)) channel (reading nodes deep (now (kinds .entry)) (now (args .entry))) (record { types = now (types .exit); answer = a }) ⌝ }
+      ⌜ record { types = now (types .exit); answer = a } ≡ outcomeOf channels (now (types .entry)) channel (reading nodes deep (now (kinds .entry)) (now (args .entry))) ⌝ }
 {
     let next = (*types).merge(channel, kinds, args);
     *types = next.types;

@@ -6,7 +6,7 @@ ghost use Rattle.utils.specs.Join.{resultOf, joining};
 ghost use Rattle.utils_lossless.specs.Lossless.{losslessOf};
 ghost use Rattle.utils_supertype.specs.Pair.{supertypeOf};
 ghost use Rattle.utils_report.specs.Report.{typesReport};
-ghost use Rattle.channels.specs.Merge.{Merges};
+ghost use Rattle.channels.specs.Merge.{outcomeOf};
 ghost use Rattle.encoding_join.specs.Join.{fittingFoundBytes, JoinsBytes};
 use channels::ChannelTypes;
 use channels::Merged;
@@ -94,7 +94,7 @@ pub fn merge(codes: &mut [u8; ChannelTypes::CHANNELS], channel: usize, column: &
       nodes ← ⟦Flat::MAX_NODES⟧ .entry
       deep ← ⟦Flat::MAX_DEPTH⟧ .entry
       w ← ⟦Encoding::ARGUMENT_BYTES⟧ .entry
-      ⌜ Merges channels (record { codes = now (codes .entry) }) channel (decoding w nodes deep (now (column .entry))) (record { types = record { codes = now (codes .exit) }; answer = a }) ⌝ }
+      ⌜ record { types = record { codes = now (codes .exit) }; answer = a } ≡ outcomeOf channels (record { codes = now (codes .entry) }) channel (decoding w nodes deep (now (column .entry))) ⌝ }
 {
     let root = check_root(column);
     merge_codes(codes, channel, root)

@@ -39,7 +39,6 @@ use denote.Triple.Table.{entered, cited}
 use denote.Triple.Walked.{Stays, gave-ref, stay-dropped, walkOf, onExit, AllGo, goes-dropped, goes-gave-ref, Walks, ends-at, walked, walk-meets}
 use denote.Exit.{yes}
 use denote.Triple.Clauses.{ensured, lasts, Lasts}
-use Rattle.channels.specs.Merge.{Merges}
 use Rattle.channels.specs.declared.ChannelTypes.{ChannelTypes}
 use Rattle.channels.specs.declared.Merged.{Merged}
 use Rattle.channels.proofs.ChannelTypes as S
@@ -49,7 +48,7 @@ use Rattle.channels.proofs.merge_in_place as place
 use Rattle.channels.proofs.merge_in_place.Symbol as place-def
 use Rattle.channels.proofs.merge_in_place.Symbol.{name as #merge-in-place}
 use Rattle.channels.proofs.merge_in_place.Met as place-thm
-use Rattle.capi.specs.Reply.{mergedReply, MergeReply}
+use Rattle.capi.specs.Reply.{mergedReply}
 use Rattle.capi.specs.declared.Reply.{Reply}
 use Rattle.capi.proofs.Reply as R
 use Rattle.capi.proofs.Reply.Laws as R′

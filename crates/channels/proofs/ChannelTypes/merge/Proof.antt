@@ -5,7 +5,7 @@ use Rattle.channels.proofs.ChannelTypes.merge.Statement.{statement}
 use Rattle.channels.proofs.ChannelTypes.merge.Tie as tie
 
 returns : tie.Need-returns
-returns c = by-root (c .before .check-root .ensures .0) (c .merge-codes .ensures)
+returns c = by-root _ _ _ _ (c .before .check-root .ensures .0) (c .merge-codes .ensures)
 
 pub merge-spec : {M : Type 1} → statement M
 merge-spec = tie.close (tie.spec (λ c κs. search needs) (λ c κs. search needs) returns)

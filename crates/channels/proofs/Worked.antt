@@ -1,0 +1,20 @@
+-- The list of merges that was worked by hand comes out so. Assumes nothing.
+use mathlib.Core.Path.{refl}
+use Rattle.flat.specs.Tree.{headKind}
+use Rattle.datatypes.specs.Match.{among}
+use Rattle.datatypes.specs.Predicate.{isFloat, isUnknownInt, isSignedInteger, isUnsignedInteger, isInteger, isNested, isUnknown}
+use Rattle.utils_numbers.specs.Range.{isListed}
+use Rattle.utils_lossless.specs.Lossless.{choose, mixed, upcastWhere, upcastOf}
+use Rattle.channels.specs.Merge.{mergedWith, mergedOf, outcomeOf}
+use Rattle.channels.specs.Rule.{Run}
+use Rattle.channels.specs.Worked.{Worked}
+
+pub worked : Worked
+unfolding headKind among isFloat isUnknownInt isSignedInteger isUnsignedInteger isInteger isNested isUnknown isListed choose mixed upcastWhere upcastOf mergedWith mergedOf outcomeOf
+worked = record {
+  run = Run.next (Run.next (Run.next (Run.next (Run.next Run.none refl) refl) refl) refl) refl;
+  channel-0 = (refl, refl, refl);
+  channel-1 = (refl, refl, refl);
+  channel-2 = (refl, refl, refl);
+  pages = (refl, refl, refl);
+}
