@@ -24,6 +24,7 @@ turn DynNumber = DynNumber
 turn DynBoolean = DynBoolean
 turn DynDecimal = DynDecimal
 
+-- the first plan of two that answers
 abbrev pub orPlan : Plan → Plan → Plan
 orPlan No q = q
 orPlan Left q = Left

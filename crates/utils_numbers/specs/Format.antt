@@ -70,7 +70,7 @@ pub record Largest (f : Format) (n : ℕ) : Type 0 where
   pub no-larger : (z : ℤ) → WholeIn f z → magnitude z ≤ n
 
 pub record FormatLaws : Type 0 where
-  -- k stands in the types' names, and w in table 3.5
+  -- proved in proofs/Formats.antt: k stands in the names of the types, and w in table 3.5
   pub float16 : Interchange Kind.Float16 16 5
   pub float32 : Interchange Kind.Float32 32 8
   pub float64 : Interchange Kind.Float64 64 11
