@@ -24,7 +24,7 @@ use Rattle.utils_arms.specs.declared.plan.Plan.{Plan}
 use Rattle.utils_arms.specs.declared.plan.Plan.the-variants.{No, Left, Right, Kind, Decimals, DatetimeDuration, Datetimes, Durations, DynNumber, DynBoolean, DynDecimal}
 use Rattle.utils_arms.specs.Node.{unitAt, unit, zone, same, plain, fits}
 use Rattle.utils_arms.specs.Supertype.{is, planOf, pick, Call, sameZone, run, orElse, inner, supertypeWith}
-use Rattle.utils_arms.specs.Rule.{turn, orPlan, pickPlan, norm, ruleOf, skip, Apart}
+use Rattle.utils_arms.specs.Rule.{turn, orPlan, ruleOf, skip, Apart}
 use Rattle.utils_arms.proofs.Areas.{alike, alike-eq, right-at}
 
 -- ---- Booleans and answers
@@ -32,6 +32,10 @@ use Rattle.utils_arms.proofs.Areas.{alike, alike-eq, right-at}
 or-no : (a b : Bool) → (a || b) ≡ false → (a ≡ false) × (b ≡ false)
 or-no true b e = absurd (subst T e tt)
 or-no false b e = (refl, e)
+
+or-cases : (x y : Bool) {X : Type 0} → T (x || y) → (T x → X) → (T y → X) → X
+or-cases true y t f g = f t
+or-cases false y t f g = g t
 
 pub is-true : (b : Bool) → T b → b ≡ true
 is-true true t = refl
@@ -153,30 +157,6 @@ module _ (call : Call) (l r : Node) where
   merged DynBoolean q t = none-after call l r DynBoolean q t
   merged DynDecimal q t = refl
 
-  module _ (fl : fits l ≡ true) (fr : fits r ≡ true) where
-    -- a plan and its normal form give one answer
-    pub normal : (p : Plan) → run call (norm (l .kind) (r .kind) p) l r ≡ run call p l r
-    unfolding run norm
-    normal No = refl
-    normal Left = go (plain (l .kind)) refl
-      where
-        go : (b : Bool) → plain (l .kind) ≡ b → run call (pickPlan b (Kind (l .kind)) Left) l r ≡ Some l
-        go true e = ap Some (same-node l (plain-zero l fl e))
-        go false e = refl
-    normal Right = go (plain (r .kind)) refl
-      where
-        go : (b : Bool) → plain (r .kind) ≡ b → run call (pickPlan b (Kind (r .kind)) Right) l r ≡ Some r
-        go true e = ap Some (same-node r (plain-zero r fr e))
-        go false e = refl
-    normal (Kind k) = refl
-    normal Decimals = refl
-    normal DatetimeDuration = refl
-    normal Datetimes = refl
-    normal Durations = refl
-    normal DynNumber = refl
-    normal DynBoolean = refl
-    normal DynDecimal = refl
-
 -- ---- the laws
 
 -- two different types: both tries run a plan
@@ -198,12 +178,11 @@ unfolding everywhere
 at-apart f t s a b h = of-flag (λ s. f s a b) (or-right (f true a b && f false a b) (h .two) (in-area (λ a b. skip a b || (f true a b && f false a b)) 0 28 0 28 t a b (omega arith))) s
 
 -- two types in the order of their kinds
-pub settled : (call : Call) (s : Bool) (l r : Node) → fits l ≡ true → fits r ≡ true → Apart (l .kind) (r .kind) → same l r ≡ false → supertypeWith call s l r ≡ run call (ruleOf s (l .kind) (r .kind)) l r
+pub settled : (call : Call) (s : Bool) (l r : Node) → Apart (l .kind) (r .kind) → same l r ≡ false → supertypeWith call s l r ≡ run call (ruleOf s (l .kind) (r .kind)) l r
 unfolding ruleOf
-settled call s l r fl fr h e =
+settled call s l r h e =
     tries call s l r e
     ∙ merged call l r (planOf s (l .kind) (r .kind)) (planOf s (r .kind) (l .kind)) (at-apart (λ s a b. merges (planOf s a b) (planOf s b a)) (unfold everywhere in tt) s (l .kind) (r .kind) h)
-    ∙ sym (normal call l r fl fr (orPlan (planOf s (l .kind) (r .kind)) (turn (planOf s (r .kind) (l .kind)))))
 
 -- ---- the other order
 
@@ -211,40 +190,27 @@ settled call s l r fl fr h e =
 unfoldable pub lopsided : ℕ → ℕ → Bool
 lopsided a b = (is UnknownAny a && is String b) || (among (UnknownFloat ∷ UnknownIntPos ∷ UnknownIntNeg ∷ []) a && is UnknownStr b)
 
--- (a, b) out of order and its plans p of (a, b) and q of (b, a): why their answers don't depend on which is tried first
-data Swaps (a b : ℕ) (p q : Plan) : Type 0 where
-  first-none : p ≡ No → Swaps a b p q
-  second-none : q ≡ No → Swaps a b p q
-  one-answer : T (turns q) → norm a b p ≡ norm a b (turn q) → Swaps a b p q
-  duration-datetime : a ≡ Duration → b ≡ Datetime → p ≡ DatetimeDuration → q ≡ DatetimeDuration → Swaps a b p q
+-- the test t holds, and the plans p and q are these
+abbrev these : Bool → Plan → Plan → Plan → Plan → Bool
+these t p x q y = t && (alike p x && alike q y)
 
--- the same as a test
+of-these : (t : Bool) (p x q y : Plan) → T (these t p x q y) → T t × (p ≡ x) × (q ≡ y)
+of-these t p x q y u =
+    let v = and-right t _ u in
+    (and-left t _ u, alike-eq p x (and-left (alike p x) _ v), alike-eq q y (and-right (alike p x) _ v))
+
+-- (a, b) out of order and its plans p of (a, b) and q of (b, a): their answers don't depend on which is tried first. One plan gives none, the two are one, one
+-- names the kind of the type that the other gives, or a Duration meets a Datetime
 abbrev swaps : ℕ → ℕ → Plan → Plan → Bool
-swaps a b p q = alike p No || (alike q No || ((turns q && alike (norm a b p) (norm a b (turn q))) || (is Duration a && (is Datetime b && (alike p DatetimeDuration && alike q DatetimeDuration)))))
+swaps a b p q =
+    alike p No || (alike q No || ((turns q && alike p (turn q))
+    || (these (plain a) p Left q (Kind a) || (these (plain b) p (Kind b) q Left || these (is Duration a && is Datetime b) p DatetimeDuration q DatetimeDuration))))
 
-swaps-of : (a b : ℕ) (p q : Plan) → T (swaps a b p q) → Swaps a b p q
-swaps-of a b p q t = go (alike p No) refl (alike q No) refl (turns q && alike (norm a b p) (norm a b (turn q))) refl t
-  where
-    timed : T (is Duration a && (is Datetime b && (alike p DatetimeDuration && alike q DatetimeDuration))) → Swaps a b p q
-    timed u =
-        let v = and-right (is Duration a) _ u in
-        let w = and-right (is Datetime b) _ v in
-        duration-datetime (eqb→eq a Duration (and-left (is Duration a) _ u)) (eqb→eq b Datetime (and-left (is Datetime b) _ v))
-        (alike-eq p DatetimeDuration (and-left (alike p DatetimeDuration) _ w)) (alike-eq q DatetimeDuration (and-right (alike p DatetimeDuration) _ w))
-
-    go : (x : Bool) → alike p No ≡ x → (y : Bool) → alike q No ≡ y → (z : Bool) → (turns q && alike (norm a b p) (norm a b (turn q))) ≡ z
-        → T (x || (y || (z || (is Duration a && (is Datetime b && (alike p DatetimeDuration && alike q DatetimeDuration)))))) → Swaps a b p q
-    go true e y f z g u = first-none (alike-eq p No (to-T e))
-    go false e true f z g u = second-none (alike-eq q No (to-T f))
-    go false e false f true g u = one-answer (and-left (turns q) _ (to-T g)) (alike-eq (norm a b p) (norm a b (turn q)) (and-right (turns q) _ (to-T g)))
-    go false e false f false g u = timed u
-
-swap-of : (s : Bool) (a b : ℕ) → b < a → Apart b a → lopsided a b ≡ false → Swaps a b (planOf s a b) (planOf s b a)
+swap-of : (s : Bool) (a b : ℕ) → b < a → Apart b a → lopsided a b ≡ false → T (swaps a b (planOf s a b) (planOf s b a))
 swap-of s a b lt h n =
-    swaps-of a b (planOf s a b) (planOf s b a)
-    (or-right (swaps a b (planOf s a b) (planOf s b a)) n
+    or-right (swaps a b (planOf s a b) (planOf s b a)) n
     (or-right (lopsided a b || swaps a b (planOf s a b) (planOf s b a)) (lt-leb a b lt)
-    (at-apart (λ s b a. leb a b || (lopsided a b || swaps a b (planOf s a b) (planOf s b a))) (unfold everywhere lopsided in tt) s b a h)))
+    (at-apart (λ s b a. leb a b || (lopsided a b || swaps a b (planOf s a b) (planOf s b a))) (unfold everywhere lopsided in tt) s b a h))
 
 -- the coarser of two units is the same in either order
 of-number : (u : TimeUnit) → unitAt (unitNumber u) ≡ u
@@ -256,14 +222,35 @@ pub units-sym : (u v : TimeUnit) → getTimeUnits u v ≡ getTimeUnits v u
 units-sym u v = sym (of-number (getTimeUnits u v)) ∙ ap unitAt (coarser u v ∙ max-comm (unitNumber u) (unitNumber v) ∙ sym (coarser v u)) ∙ of-number (getTimeUnits v u)
 
 module _ (call : Call) (l r : Node) (fl : fits l ≡ true) (fr : fits r ≡ true) where
-  swapped : (p q : Plan) → Swaps (l .kind) (r .kind) p q → orElse (run call p l r) (run call q r l) ≡ orElse (run call q r l) (run call p l r)
+  -- the answers of p and q, whichever is tried first
+  abbrev Level : Plan → Plan → Type 0
+  Level p q = orElse (run call p l r) (run call q r l) ≡ orElse (run call q r l) (run call p l r)
+
+  swapped : (p q : Plan) → T (swaps (l .kind) (r .kind) p q) → Level p q
   unfolding run
-  swapped p q (first-none e) = rw e (sym (or-nothing (run call q r l)))
-  swapped p q (second-none e) = rw e (or-nothing (run call p l r))
-  swapped p q (one-answer t e) =
-      let same-answer : run call p l r ≡ run call q r l = sym (normal call l r fl fr p) ∙ ap (λ (x : Plan). run call x l r) e ∙ normal call l r fl fr (turn q) ∙ sym (turned call l r q t) in
-      rw same-answer
-  swapped p q (duration-datetime a b e f) = rw (e, f, a, b, units-sym (unit l) (unit r))
+  swapped p q t =
+      or-cases (alike p No) _ t (λ u. rw (alike-eq p No u) (sym (or-nothing (run call q r l))))
+      (λ t. or-cases (alike q No) _ t (λ u. rw (alike-eq q No u) (or-nothing (run call p l r)))
+      (λ t. or-cases (turns q && alike p (turn q)) _ t (λ u. rw (alike-eq p (turn q) (and-right (turns q) _ u), turned call l r q (and-left (turns q) _ u)))
+      (λ t. or-cases (these (plain (l .kind)) p Left q (Kind (l .kind))) _ t named-left
+      (λ t. or-cases (these (plain (r .kind)) p (Kind (r .kind)) q Left) _ t named-right timed))))
+    where
+      named-left : T (these (plain (l .kind)) p Left q (Kind (l .kind))) → Level p q
+      named-left u =
+          let v = of-these (plain (l .kind)) p Left q (Kind (l .kind)) u in
+          rw (v .1, v .2) (ap Some (sym (same-node l (plain-zero l fl (is-true (plain (l .kind)) (v .0))))))
+
+      named-right : T (these (plain (r .kind)) p (Kind (r .kind)) q Left) → Level p q
+      named-right u =
+          let v = of-these (plain (r .kind)) p (Kind (r .kind)) q Left u in
+          rw (v .1, v .2) (ap Some (same-node r (plain-zero r fr (is-true (plain (r .kind)) (v .0)))))
+
+      timed : T (these (is Duration (l .kind) && is Datetime (r .kind)) p DatetimeDuration q DatetimeDuration) → Level p q
+      timed u =
+          let v = of-these (is Duration (l .kind) && is Datetime (r .kind)) p DatetimeDuration q DatetimeDuration u in
+          let a = eqb→eq (l .kind) Duration (and-left (is Duration (l .kind)) _ (v .0)) in
+          let b = eqb→eq (r .kind) Datetime (and-right (is Duration (l .kind)) _ (v .0)) in
+          rw (v .1, v .2, a, b, units-sym (unit l) (unit r))
 
 -- two types against the order of their kinds, the lopsided pairs apart
 pub either-order : (call : Call) (s : Bool) (l r : Node) → fits l ≡ true → fits r ≡ true → r .kind < l .kind → Apart (r .kind) (l .kind) → lopsided (l .kind) (r .kind) ≡ false → same l r ≡ false → supertypeWith call s l r ≡ supertypeWith call s r l

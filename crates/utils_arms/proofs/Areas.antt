@@ -16,7 +16,7 @@ use Rattle.utils_arms.specs.declared.plan.Plan.{Plan}
 use Rattle.utils_arms.specs.declared.plan.Plan.the-variants.{No, Left, Right, Kind, Decimals, DatetimeDuration, Datetimes, Durations, DynNumber, DynBoolean, DynDecimal}
 use Rattle.utils_arms.specs.Node.{plain}
 use Rattle.utils_arms.specs.Supertype.{arms, unknownArms, planOf}
-use Rattle.utils_arms.specs.Rule.{norm, ruleOf, skip, Apart}
+use Rattle.utils_arms.specs.Rule.{ruleOf, skip, Apart}
 
 -- ---- plans as numbers
 
@@ -65,8 +65,8 @@ alike-eq p q t = sym (back p) ∙ ap plans (eqb→eq (codeOf p) (codeOf q) t) �
 
 -- the plan f is that of a and b, the flag on or off
 unfoldable pub right-at : (Bool → ℕ → ℕ → Plan) → Bool → ℕ → ℕ → Bool
-unfolding norm ruleOf planOf arms unknownArms plain skip among isFloat isUnknownInt isSignedInteger isUnsignedInteger isInteger isPrimitiveNumeric isPrimitive isString isUnknown headKind physicalLeaf physicalKind
-right-at f s a b = alike (norm a b (f s a b)) (ruleOf s a b)
+unfolding ruleOf planOf arms unknownArms plain skip among isFloat isUnknownInt isSignedInteger isUnsignedInteger isInteger isPrimitiveNumeric isPrimitive isString isUnknown headKind physicalLeaf physicalKind
+right-at f s a b = alike (f s a b) (ruleOf s a b)
 
 unfoldable pub right : (Bool → ℕ → ℕ → Plan) → ℕ → ℕ → Bool
 unfolding right-at
@@ -77,21 +77,21 @@ unfoldable pub right-apart : (Bool → ℕ → ℕ → Plan) → ℕ → ℕ →
 unfolding right
 right-apart f a b = skip a b || right f a b
 
-is-right : (f : Bool → ℕ → ℕ → Plan) (s : Bool) (a b : ℕ) → T (right f a b) → norm a b (f s a b) ≡ ruleOf s a b
+is-right : (f : Bool → ℕ → ℕ → Plan) (s : Bool) (a b : ℕ) → T (right f a b) → f s a b ≡ ruleOf s a b
 unfolding right right-at
-is-right f true a b u = alike-eq (norm a b (f true a b)) (ruleOf true a b) (and-left (right-at f true a b) (right-at f false a b) u)
-is-right f false a b u = alike-eq (norm a b (f false a b)) (ruleOf false a b) (and-right (right-at f true a b) (right-at f false a b) u)
+is-right f true a b u = alike-eq (f true a b) (ruleOf true a b) (and-left (right-at f true a b) (right-at f false a b) u)
+is-right f false a b u = alike-eq (f false a b) (ruleOf false a b) (and-right (right-at f true a b) (right-at f false a b) u)
 
 -- the laws that each row's answers cite: f is right all over an area
-pub rule : (f : Bool → ℕ → ℕ → Plan) (i m j n : ℕ) → T (area (right f) i m j n) → (s : Bool) (a b : ℕ) → In i m j n a b → norm a b (f s a b) ≡ ruleOf s a b
+pub rule : (f : Bool → ℕ → ℕ → Plan) (i m j n : ℕ) → T (area (right f) i m j n) → (s : Bool) (a b : ℕ) → In i m j n a b → f s a b ≡ ruleOf s a b
 rule f i m j n t s a b h = is-right f s a b (in-area (right f) i m j n t a b h)
 
-pub rule-apart : (f : Bool → ℕ → ℕ → Plan) (i m j n : ℕ) → T (area (right-apart f) i m j n) → (s : Bool) (a b : ℕ) → In i m j n a b → skip a b ≡ false → norm a b (f s a b) ≡ ruleOf s a b
+pub rule-apart : (f : Bool → ℕ → ℕ → Plan) (i m j n : ℕ) → T (area (right-apart f) i m j n) → (s : Bool) (a b : ℕ) → In i m j n a b → skip a b ≡ false → f s a b ≡ ruleOf s a b
 unfolding right-apart
 rule-apart f i m j n t s a b h e = is-right f s a b (or-right (right f a b) e (in-area (right-apart f) i m j n t a b h))
 
 -- what `alone` answers for a time type with Time or an Unknown kind
-pub alone-right : (s : Bool) (a b : ℕ) → In Date 4 Time 6 a b → skip a b ≡ false → norm a b (cond (ltb b UnknownAny) No (Kind UnknownAny)) ≡ ruleOf s a b
+pub alone-right : (s : Bool) (a b : ℕ) → In Date 4 Time 6 a b → skip a b ≡ false → cond (ltb b UnknownAny) No (Kind UnknownAny) ≡ ruleOf s a b
 alone-right s a b h e = rule-apart (λ s a b. cond (ltb b UnknownAny) No (Kind UnknownAny)) Date 4 Time 6 (unfold right-apart in tt) s a b h e
 
 pub apart-at : {k a b : ℕ} → a ≡ k → Apart a b → Apart k b

@@ -1,13 +1,14 @@
 -- The definition's two layers of calls are the source's recursion: the inner call meets known types, for which no arm calls again. Assumes nothing.
 use mathlib.Core.Path.{_≡_, refl, ap}
-use mathlib.Core.Bool.{Bool, true, false, cond, _&&_, _||_}
+use mathlib.Core.Bool.{Bool, true, false, cond, not, _&&_, _||_}
 use mathlib.Core.List.{List, [], _∷_}
 use Prim.Native.Nat.{ℕ, _≤_, _<_}
 use native.Mathlib.Omega.{arith}
 use native.Mathlib.Decide.{decLt}
-use lib.Dec.{T, ltb, ltb→lt}
-use lib.IntN.{ℤ}
-use lib.Signed.{nonNeg}
+use native.Mathlib.Nat.{le-antisymm}
+use lib.Dec.{T, leb→le, ltb, ltb→lt}
+use lib.IntN.{ℤ, pos, negsuc}
+use lib.Signed.{leZ, nonNeg, _≤ℤ_}
 use borrow.Author.Tests.{le-ltb}
 use Rattle.flat.specs.Kind.{Null, UInt8, UInt16, UInt32, UInt64, Int8, Int16, Int32, Int64, Int128, UnknownAny, UnknownIntNeg}
 use Rattle.flat.proofs.Rules.{area, in-area, and-left, and-right, or-right}
@@ -19,7 +20,7 @@ use Rattle.utils.specs.Join.{Node, Some, Nothing, node}
 use Rattle.utils_arms.specs.declared.plan.Plan.{Plan}
 use Rattle.utils_arms.specs.declared.plan.Plan.the-variants.{No, Left, Right, Kind, Decimals, DatetimeDuration, Datetimes, Durations, DynNumber, DynBoolean, DynDecimal}
 use Rattle.utils_arms.specs.Node.{value, same, fits}
-use Rattle.utils_arms.specs.Supertype.{planOf, smallestFitting, dynNumber, pick, Call, run, orElse, inner, supertypeWith, knownSupertype, supertype}
+use Rattle.utils_arms.specs.Supertype.{planOf, maxDyn, smallestFitting, dynNumber, pick, Call, run, orElse, inner, supertypeWith, knownSupertype, supertype}
 use Rattle.utils_arms.specs.Laws.{SupertypeLaws}
 use Rattle.utils_arms.proofs.Areas.{alike, alike-eq, right-at}
 use Rattle.utils_arms.proofs.Answers.{is-true, to-T, in-range, of-flag}
@@ -158,5 +159,30 @@ dyn-ints : (i s : Bool) (l r : Node) → isUnknownInt (l .kind) ≡ true → isU
 unfolding supertype supertypeWith inner equalNode
 dyn-ints i s l r p q = rw (p, q)
 
+-- the two tests of an order agree on one number alone
+antisym : (v w : ℤ) → T (leZ v w) → T (leZ w v) → v ≡ w
+antisym (pos m) (pos n) t u = ap pos (le-antisymm (leb→le m n t) (leb→le n m u))
+antisym (pos m) (negsuc n) t u = absurd t
+antisym (negsuc m) (pos n) t u = absurd u
+antisym (negsuc m) (negsuc n) t u = ap negsuc (le-antisymm (leb→le m n u) (leb→le n m t))
+
+maximum : (v w : ℤ) → v ≤ℤ w → (maxDyn v w ≡ w) × (maxDyn w v ≡ w)
+maximum v w h = (rw (maxDyn, is-true (leZ v w) (h .le)), go (leZ w v) refl)
+  where
+    go : (b : Bool) → leZ w v ≡ b → elim b [ true ↦ v | false ↦ w ] ≡ w
+    go true e = antisym v w (h .le) (to-T e)
+    go false e = refl
+
+-- two kinds of which the left is a dyn int reach the arm of the dyn ints only where the right is one too
+unfoldable both-dyn : Bool → ℕ → ℕ → Bool
+unfolding right-at
+both-dyn s a b = not (alike (planOf s a b) DynNumber && isUnknownInt a) || isUnknownInt b
+
+no-maximum : (s : Bool) (l r : Node) → fits l ≡ true → fits r ≡ true → planOf s (l .kind) (r .kind) ≡ DynNumber → isUnknownInt (l .kind) ≡ true → same l r ≡ true
+unfolding equalNode both-dyn
+no-maximum s l r p q e d =
+    let t : T (both-dyn s (l .kind) (r .kind)) = of-flag (λ s. both-dyn s (l .kind) (r .kind)) (in-area (λ a b. both-dyn true a b && both-dyn false a b) 0 28 0 28 (unfold both-dyn in tt) (l .kind) (r .kind) (omega (arith, in-range l p, in-range r q))) s in
+    rw (d, is-true (isUnknownInt (r .kind)) (rw (e, d) at t))
+
 pub supertype-laws : SupertypeLaws
-supertype-laws = record { implode = implode; recursive = recursive; dyn-ints = dyn-ints }
+supertype-laws = record { implode = implode; recursive = recursive; dyn-ints = dyn-ints; maximum = maximum; no-maximum = no-maximum }

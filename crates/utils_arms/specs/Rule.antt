@@ -1,6 +1,6 @@
 -- The plan of two kinds in ascending order: what the definition answers for them in either of its two tries. Assumes nothing: these are definitions.
 use mathlib.Core.Path.{_≡_}
-use mathlib.Core.Bool.{Bool, true, false, _&&_, _||_}
+use mathlib.Core.Bool.{Bool, false, _&&_, _||_}
 use Prim.Native.Nat.{ℕ, _≤_}
 use lib.Dec.{ltb, eqb}
 use Rattle.utils_arms.specs.declared.plan.Plan.{Plan}
@@ -24,6 +24,7 @@ turn DynNumber = DynNumber
 turn DynBoolean = DynBoolean
 turn DynDecimal = DynDecimal
 
+-- the first plan of two that answers
 abbrev pub orPlan : Plan → Plan → Plan
 orPlan No q = q
 orPlan Left q = Left
@@ -37,27 +38,9 @@ orPlan DynNumber q = DynNumber
 orPlan DynBoolean q = DynBoolean
 orPlan DynDecimal q = DynDecimal
 
-abbrev pub pickPlan : Bool → Plan → Plan → Plan
-pickPlan true p q = p
-pickPlan false p q = q
-
--- one of the two types, where it has no argument, is its kind
-unfoldable pub norm : ℕ → ℕ → Plan → Plan
-norm a b No = No
-norm a b Left = pickPlan (plain a) (Kind a) Left
-norm a b Right = pickPlan (plain b) (Kind b) Right
-norm a b (Kind k) = Kind k
-norm a b Decimals = Decimals
-norm a b DatetimeDuration = DatetimeDuration
-norm a b Datetimes = Datetimes
-norm a b Durations = Durations
-norm a b DynNumber = DynNumber
-norm a b DynBoolean = DynBoolean
-norm a b DynDecimal = DynDecimal
-
 -- the plan of the first try, else that of the second
 unfoldable pub ruleOf : Bool → ℕ → ℕ → Plan
-ruleOf s a b = norm a b (orPlan (planOf s a b) (turn (planOf s b a)))
+ruleOf s a b = orPlan (planOf s a b) (turn (planOf s b a))
 
 -- two kinds out of order, or such that two types of them are always one
 unfoldable pub skip : ℕ → ℕ → Bool
@@ -71,4 +54,4 @@ pub record Apart (a b : ℕ) : Type 0 where
 
 -- p is the plan of a and b, with the flag on and off
 abbrev pub Settles : ℕ → ℕ → Plan → Type 0
-Settles a b p = (s : Bool) → norm a b p ≡ ruleOf s a b
+Settles a b p = (s : Bool) → p ≡ ruleOf s a b

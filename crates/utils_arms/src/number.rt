@@ -2,7 +2,7 @@
 ghost use mathlib.Core.Path.{_≡_};
 ghost use Prim.Native.Nat.{_≤_, max};
 ghost use Rattle.flat.specs.Kind.{UInt8, UInt128, Int8, Int128, Boolean, Float16, Float64, Date, Time, UnknownFloat, UnknownIntNeg};
-ghost use Rattle.utils_arms.specs.Rule.{norm, ruleOf, Apart, Settles};
+ghost use Rattle.utils_arms.specs.Rule.{ruleOf, Apart, Settles};
 use crate::plan::Plan;
 use crate::row::string_if;
 use flat::kind::Kind;
@@ -116,7 +116,7 @@ fn dynamic(a: u8, b: u8) -> Plan
         return Plan::DynBoolean;
     }
     if a == Kind::INT128 {
-        return Plan::Left;
+        return Plan::Kind(Kind::INT128);
     }
     Plan::DynNumber
 }
@@ -124,7 +124,7 @@ fn dynamic(a: u8, b: u8) -> Plan
 // With any kind that is not below it.
 pub fn number_row(to_string: bool, a: u8, b: u8) -> Plan
     requires { ⌜ Apart a b × (Boolean ≤ a) × (a ≤ Float64) ⌝ }
-    ensures { λ r. ⌜ norm a b r ≡ ruleOf «to_string» a b ⌝ }
+    ensures { λ r. ⌜ r ≡ ruleOf «to_string» a b ⌝ }
 {
     match b {
         Kind::NULL..=Kind::FLOAT64 => Plan::Kind(numeric(a, b)),

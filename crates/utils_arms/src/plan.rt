@@ -1,6 +1,6 @@
 // What an arm answers, and the arm of two kinds.
 ghost use mathlib.Core.Path.{_≡_};
-ghost use Rattle.utils_arms.specs.Rule.{norm, ruleOf, Apart};
+ghost use Rattle.utils_arms.specs.Rule.{ruleOf, Apart};
 use crate::number::number_row;
 use crate::row;
 use flat::kind::Kind;
@@ -23,10 +23,10 @@ pub enum Plan {
 // The plan of two kinds in ascending order.
 pub fn planned(to_string: bool, a: u8, b: u8) -> Plan
     requires { ⌜ Apart a b ⌝ }
-    ensures { λ r. ⌜ norm a b r ≡ ruleOf «to_string» a b ⌝ }
+    ensures { λ r. ⌜ r ≡ ruleOf «to_string» a b ⌝ }
 {
     match a {
-        Kind::NULL => Plan::Right,
+        Kind::NULL => row::null_row(b),
         Kind::BOOLEAN..=Kind::FLOAT64 => number_row(to_string, a, b),
         Kind::DECIMAL => row::decimal_row(to_string, b),
         Kind::STRING => row::string_row(to_string, b),

@@ -3,8 +3,8 @@ ghost use mathlib.Core.Path.{_≡_};
 ghost use mathlib.Core.Bool.{cond};
 ghost use Prim.Native.Nat.{_≤_};
 ghost use lib.Dec.{ltb};
-ghost use Rattle.flat.specs.Kind.{String, UnknownAny, Decimal, Date, Datetime, Duration, Binary, Time};
-ghost use Rattle.utils_arms.specs.Rule.{norm, ruleOf, Apart};
+ghost use Rattle.flat.specs.Kind.{Null, String, UnknownAny, Decimal, Date, Datetime, Duration, Binary, Time};
+ghost use Rattle.utils_arms.specs.Rule.{ruleOf, Apart, Settles};
 use crate::plan::Plan;
 use flat::kind::Kind;
 
@@ -19,7 +19,14 @@ pub fn string_if(to_string: bool) -> Plan
     }
 }
 
-// str with dyn float or a dyn int: str where primitives may become strings.
+// String with dyn float or a dyn int: the left type where primitives may become strings.
+fn left_if(to_string: bool) -> Plan
+    ensures { λ r. ⌜ r ≡ cond «to_string» Plan.Left Plan.No ⌝ }
+{
+    if to_string { Plan::Left } else { Plan::No }
+}
+
+// str with them: the left type where primitives may become strings, else any.
 fn str_if(to_string: bool) -> Plan
     ensures { λ r. ⌜ r ≡ cond «to_string» Plan.Left (Plan.Kind UnknownAny) ⌝ }
 {
@@ -41,9 +48,21 @@ fn alone(b: u8) -> Plan
     }
 }
 
+// Null with String meets the String arm first.
+pub fn null_row(b: u8) -> Plan
+    requires { ⌜ Apart Null b ⌝ }
+    ensures { λ r. ⌜ Settles Null b r ⌝ }
+{
+    if b == Kind::STRING {
+        Plan::Kind(Kind::STRING)
+    } else {
+        Plan::Right
+    }
+}
+
 pub fn decimal_row(to_string: bool, b: u8) -> Plan
     requires { ⌜ Apart Decimal b ⌝ }
-    ensures { λ r. ⌜ norm Decimal b r ≡ ruleOf «to_string» Decimal b ⌝ }
+    ensures { λ r. ⌜ r ≡ ruleOf «to_string» Decimal b ⌝ }
 {
     match b {
         Kind::NULL..=Kind::DECIMAL => Plan::Decimals,
@@ -57,21 +76,21 @@ pub fn decimal_row(to_string: bool, b: u8) -> Plan
 
 pub fn string_row(to_string: bool, b: u8) -> Plan
     requires { ⌜ Apart String b ⌝ }
-    ensures { λ r. ⌜ norm String b r ≡ ruleOf «to_string» String b ⌝ }
+    ensures { λ r. ⌜ r ≡ ruleOf «to_string» String b ⌝ }
 {
     match b {
         Kind::NULL..=Kind::BINARY => Plan::Kind(Kind::BINARY),
         Kind::BINARY_OFFSET => Plan::Kind(Kind::STRING),
         Kind::DATE..=Kind::TIME => string_if(to_string),
         Kind::UNKNOWN_ANY => Plan::Kind(Kind::UNKNOWN_ANY),
-        Kind::UNKNOWN_STR => Plan::Kind(Kind::STRING),
-        _ => string_if(to_string),
+        Kind::UNKNOWN_STR => Plan::Left,
+        _ => left_if(to_string),
     }
 }
 
 fn date_row(to_string: bool, b: u8) -> Plan
     requires { ⌜ Apart Date b ⌝ }
-    ensures { λ r. ⌜ norm Date b r ≡ ruleOf «to_string» Date b ⌝ }
+    ensures { λ r. ⌜ r ≡ ruleOf «to_string» Date b ⌝ }
 {
     match b {
         Kind::NULL..=Kind::DATETIME => Plan::Right,
@@ -82,7 +101,7 @@ fn date_row(to_string: bool, b: u8) -> Plan
 
 fn datetime_row(to_string: bool, b: u8) -> Plan
     requires { ⌜ Apart Datetime b ⌝ }
-    ensures { λ r. ⌜ norm Datetime b r ≡ ruleOf «to_string» Datetime b ⌝ }
+    ensures { λ r. ⌜ r ≡ ruleOf «to_string» Datetime b ⌝ }
 {
     match b {
         Kind::NULL..=Kind::DATETIME => Plan::Datetimes,
@@ -93,7 +112,7 @@ fn datetime_row(to_string: bool, b: u8) -> Plan
 
 fn duration_row(to_string: bool, b: u8) -> Plan
     requires { ⌜ Apart Duration b ⌝ }
-    ensures { λ r. ⌜ norm Duration b r ≡ ruleOf «to_string» Duration b ⌝ }
+    ensures { λ r. ⌜ r ≡ ruleOf «to_string» Duration b ⌝ }
 {
     match b {
         Kind::NULL..=Kind::DURATION => Plan::Durations,
@@ -104,7 +123,7 @@ fn duration_row(to_string: bool, b: u8) -> Plan
 // Binary, BinaryOffset, Date, Datetime, Duration or Time.
 pub fn other_row(to_string: bool, a: u8, b: u8) -> Plan
     requires { ⌜ Apart a b × (Binary ≤ a) × (a ≤ Time) ⌝ }
-    ensures { λ r. ⌜ norm a b r ≡ ruleOf «to_string» a b ⌝ }
+    ensures { λ r. ⌜ r ≡ ruleOf «to_string» a b ⌝ }
 {
     match a {
         Kind::NULL..=Kind::BINARY_OFFSET => alone(b),
@@ -118,10 +137,10 @@ pub fn other_row(to_string: bool, a: u8, b: u8) -> Plan
 // Any, str, dyn float or a dyn int.
 pub fn unknown_row(to_string: bool, a: u8, b: u8) -> Plan
     requires { ⌜ Apart a b × (UnknownAny ≤ a) ⌝ }
-    ensures { λ r. ⌜ norm a b r ≡ ruleOf «to_string» a b ⌝ }
+    ensures { λ r. ⌜ r ≡ ruleOf «to_string» a b ⌝ }
 {
     match a {
-        Kind::UNKNOWN_ANY => Plan::Left,
+        Kind::NULL..=Kind::UNKNOWN_ANY => Plan::Kind(Kind::UNKNOWN_ANY),
         Kind::UNKNOWN_STR => str_if(to_string),
         _ => Plan::Left,
     }

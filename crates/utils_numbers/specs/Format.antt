@@ -2,7 +2,7 @@
 use mathlib.Core.Path.{_≡_}
 use mathlib.Core.Bool.{cond}
 use mathlib.Core.Option.{Option, none, some}
-use Prim.Native.Nat.{ℕ, suc, _+_, _-_, _*_, _^_, _<_}
+use Prim.Native.Nat.{ℕ, suc, _+_, _-_, _*_, _^_, _≤_, _<_}
 use lib.Dec.{eqb}
 use lib.IntN.{ℤ, pos, negsuc, negℤ}
 use lib.Signed.{_≤ℤ_}
@@ -16,12 +16,22 @@ pub record Format : Type 0 where
 abbrev pub format : ℕ → ℕ → Format
 format p e = record { precision = p; emax = e }
 
--- binary16, binary32 and binary64 of table 3.5
+-- the three of table 3.5
+abbrev pub binary16 : Format
+binary16 = format 11 15
+
+abbrev pub binary32 : Format
+binary32 = format 24 127
+
+abbrev pub binary64 : Format
+binary64 = format 53 1023
+
+-- the format of a float type
 unfoldable pub formatOf : ℕ → Option Format
 formatOf k =
-    cond (eqb k Kind.Float16) (some (format 11 15))
-    (cond (eqb k Kind.Float32) (some (format 24 127))
-    (cond (eqb k Kind.Float64) (some (format 53 1023))
+    cond (eqb k Kind.Float16) (some binary16)
+    (cond (eqb k Kind.Float32) (some binary32)
+    (cond (eqb k Kind.Float64) (some binary64)
     none))
 
 -- m × 2 ^ q, with either sign, is a finite number of the format (section 3.3): q runs from emin − (p − 1) to emax − (p − 1), where emin is 1 − emax
@@ -45,3 +55,24 @@ pub record WholeIn (f : Format) (z : ℤ) : Type 0 where
   pub q : ℕ
   pub finite : Finite f m (pos q)
   pub is : magnitude z ≡ m * 2 ^ q
+
+-- the kind has an interchange format of k bits (section 3.6): one for the sign, w for the exponent, and p − 1 for the significand, whose first bit is not
+-- stored; the largest exponent is that of w bits
+pub record Interchange (kind k w : ℕ) : Type 0 where
+  pub its : Format
+  pub is : formatOf kind ≡ some its
+  pub bits : k ≡ 1 + w + (its .precision - 1)
+  pub most : its .emax ≡ 2 ^ (w - 1) - 1
+
+-- n is the largest whole number of the format
+pub record Largest (f : Format) (n : ℕ) : Type 0 where
+  pub has : WholeIn f (pos n)
+  pub no-larger : (z : ℤ) → WholeIn f z → magnitude z ≤ n
+
+pub record FormatLaws : Type 0 where
+  -- proved in proofs/Formats.antt: k stands in the names of the types, and w in table 3.5
+  pub float16 : Interchange Kind.Float16 16 5
+  pub float32 : Interchange Kind.Float32 32 8
+  pub float64 : Interchange Kind.Float64 64 11
+  -- the largest number of a format determines its precision and its exponent; that of binary16 is 65504 = (2 ^ 11 − 1) × 2 ^ 5
+  pub largest16 : Largest (float16 .its) 65504

@@ -13,7 +13,7 @@ use Rattle.datatypes.specs.Match.{among}
 use Rattle.datatypes.specs.Predicate.{isSignedInteger}
 use Rattle.utils.specs.Join.{Some, node}
 use Rattle.utils_numbers.specs.Range.{Listed, Holds, Includes}
-use Rattle.utils_numbers.specs.Format.{Format, format, formatOf, WholeIn}
+use Rattle.utils_numbers.specs.Format.{Format, binary64, formatOf, WholeIn}
 use Rattle.utils_lossless.specs.Lossless.{upcastOf}
 use Rattle.utils_lossless.specs.declared.upcast.Upcast.the-variants.{To, Nothing}
 use Rattle.utils_lossless.proofs.Laws.{lossless-laws}
@@ -40,7 +40,7 @@ in-range t l z (float f e w) =
 abbrev odd : ℤ
 odd = pos (2 ^ 53 + 1)
 
-not-double : WholeIn (format 53 1023) odd → ⊥
+not-double : WholeIn binary64 odd → ⊥
 not-double w = go (w .m) (w .q) (w .finite .significand) (w .is)
   where
     go : (m q : ℕ) → m < 2 ^ 53 → 2 ^ 53 + 1 ≡ m * 2 ^ q → ⊥
@@ -50,7 +50,7 @@ not-double w = go (w .m) (w .q) (w .finite .significand) (w .is)
 not-float64 : Has Float64 odd → ⊥
 unfolding formatOf
 not-float64 (integer h) = omega arith
-not-float64 (float f e w) = not-double (subst (λ (g : Format). WholeIn g odd) (let y : f ≡ format 53 1023 = cc in y) w)
+not-float64 (float f e w) = not-double (subst (λ (g : Format). WholeIn g odd) (let y : f ≡ binary64 = cc in y) w)
 
 -- the supertype of two integer types is of the kind t
 module _ (a b : ℕ) (p : Listed a) (q : Listed b) (t : ℕ) (is : supertype false false (node a 0) (node b 0) ≡ Some (node t 0)) where

@@ -19,7 +19,7 @@ use Rattle.utils_lossless.specs.Lossless.{choose, floats, signed, unsigned, mix
 use Rattle.utils_lossless.specs.declared.upcast.Upcast.{Upcast}
 use Rattle.utils_lossless.specs.declared.upcast.Upcast.the-variants.{To, Nothing as NoUpcast}
 use Rattle.utils_arms.specs.declared.plan.Plan.the-variants.{Kind}
-use Rattle.utils_arms.specs.Rule.{norm, ruleOf, skip, Apart, Settles}
+use Rattle.utils_arms.specs.Rule.{ruleOf, skip, Apart, Settles}
 use Rattle.utils_arms.specs.Supertype.{run, inner, supertypeWith, knownSupertype, supertype}
 use Rattle.utils_arms.proofs.Areas.{alike, alike-eq, right-at}
 use Rattle.utils_report.specs.Laws.{uint128WithSigned, uint64WithSigned}
@@ -153,7 +153,6 @@ module _ (a b : ℕ) (p : Listed a) (q : Listed b) (h : a < b) where
   either-way = eqb→eq (joined b a) (joined a b) (and-right (alike (Kind (joined a b)) (ruleOf false a b)) _ (and-right (not (skip a b)) _ ordered))
 
   planned : {r : ℕ} → Settles a b (Kind r) → joined a b ≡ r
-  unfolding norm
   planned f =
       let e = alike-eq (Kind (joined a b)) (ruleOf false a b) (and-left (alike (Kind (joined a b)) (ruleOf false a b)) _ (and-right (not (skip a b)) _ ordered)) in
       let g = f false in

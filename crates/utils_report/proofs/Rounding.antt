@@ -1,6 +1,7 @@
 -- roundTiesToEven is what its name says, and two numbers of which Float64 makes one. Assumes nothing.
-use mathlib.Core.Path.{_≡_, refl, sym, ap, _∙_}
+use mathlib.Core.Path.{_≡_, refl, sym, ap, subst, _∙_}
 use mathlib.Core.Bool.{Bool, true, false, cond, _&&_, _||_}
+use mathlib.Core.Option.{some}
 use Prim.Native.Nat.{ℕ, zero, suc, _+_, _-_, _*_, _/_, _%_, _^_, _≤_, _<_}
 use native.Mathlib.Nat.{le-of-lt, lt-of-lt-of-le, lt-of-le-of-lt, not-le-of-lt, lt-of-not-le, ne-of-lt, add-mul, mul-assoc, mul-left-comm, mul-le-mul-left, mul-le-mul-right, mul-lt-mul-of-pos-right, div-add-mod', div-lt-iff-lt-mul, mod-lt, pow-succ'}
 use native.Mathlib.Omega.{arith}
@@ -10,12 +11,13 @@ use lib.Pow.{pow-pos, pow-mono, pow-lt, pow-add}
 use lib.IntN.{ℤ, pos, negsuc, negℤ}
 use lib.Signed.{mag, leZ-yes}
 use borrow.Author.Tests.{ltb-true, ltb-false, eqb-true, eqb-false}
+use Rattle.flat.specs.Kind.{Float64}
 use Rattle.datatypes.specs.Match.{among}
 use Rattle.datatypes.specs.Predicate.{isSignedInteger}
 use Rattle.datatypes.specs.Integer.{widthOf}
 use Rattle.datatypes.proofs.Integers.{bits}
 use Rattle.utils_numbers.specs.Range.{Listed}
-use Rattle.utils_numbers.specs.Format.{format, magnitude, WholeIn}
+use Rattle.utils_numbers.specs.Format.{Format, binary64, formatOf, magnitude, WholeIn}
 use Rattle.utils_numbers.proofs.Tests.{at}
 use Rattle.utils_numbers.proofs.Ranges.{size}
 use Rattle.utils_report.specs.Rounding.{halvings, lastUnit, nearestQuotient, nearest, asFloat64, distance, RoundingLaws}
@@ -185,8 +187,25 @@ module _ (p n : ℕ) where
       let f : n * 2 ^ h ≡ n = rw (let e : h ≡ 0 = omega arith in e) (omega arith) in
       omega (arith, as-near n)
 
+-- ---- Float64
+
+-- the bits of its significand
+abbrev p64 : ℕ
+p64 = binary64 .precision
+
+-- by the table of formats
+the-format : (f : Format) → formatOf Float64 ≡ some f → f ≡ binary64
+unfolding formatOf
+the-format f e = cc
+
+-- a whole number of at most so many bits, whichever its sign, is kept
+whole : (z : ℤ) → magnitude z < 2 ^ p64 → asFloat64 z ≡ z
+unfolding asFloat64 nearest lastUnit
+whole (pos n) l = ap pos (kept p64 n l)
+whole (negsuc n) l = ap (λ (m : ℕ). negℤ (pos m)) (kept p64 (suc n) l)
+
 -- a number of up to 129 bits, whichever its sign, goes to one of Float64's format
-in-format : (n : ℕ) → n < 2 ^ 129 → (z : ℤ) → magnitude z ≡ nearest 53 n → WholeIn (format 53 1023) z
+in-format : (n : ℕ) → n < 2 ^ 129 → (z : ℤ) → magnitude z ≡ nearest p64 n → WholeIn binary64 z
 unfolding nearest lastUnit
 in-format n l z e = record {
   m = w .m;
@@ -195,21 +214,21 @@ in-format n l z e = record {
   is = e ∙ w .is;
 }
   where
-    w : Written 53 (v 53 n) (h 53 n)
-    w = rounded 53 n (omega arith)
+    w : Written p64 (v p64 n) (h p64 n)
+    w = rounded p64 n (omega arith)
 
-    few : h 53 n < 77
-    few = lt-of-not-le (λ g. not-le-of-lt l (unit 53 n .from 76 g))
+    few : h p64 n < 77
+    few = lt-of-not-le (λ g. not-le-of-lt l (unit p64 n .from 76 g))
 
 -- the integer types' numbers have no more
 few-bits : (k : ℕ) → Listed k → 2 ^ bits (isSignedInteger k) (widthOf k) < 2 ^ 129
 unfolding isSignedInteger among
 few-bits k l = pow-lt (ltb→lt (bits (isSignedInteger k) (widthOf k)) 129 (at (λ k. ltb (bits (isSignedInteger k) (widthOf k)) 129) tt k l))
 
-integers : (k : ℕ) (z : ℤ) → Listed k → mag z < 2 ^ bits (isSignedInteger k) (widthOf k) → WholeIn (format 53 1023) (asFloat64 z)
+integers : (k : ℕ) (z : ℤ) → Listed k → mag z < 2 ^ bits (isSignedInteger k) (widthOf k) → WholeIn binary64 (asFloat64 z)
 unfolding asFloat64
-integers k (pos n) l i = in-format n (lt-of-lt-of-le i (le-of-lt (few-bits k l))) (pos (nearest 53 n)) refl
-integers k (negsuc n) l i = in-format (suc n) (lt-of-le-of-lt i (few-bits k l)) (negℤ (pos (nearest 53 (suc n)))) (go (nearest 53 (suc n)))
+integers k (pos n) l i = in-format n (lt-of-lt-of-le i (le-of-lt (few-bits k l))) (pos (nearest p64 n)) refl
+integers k (negsuc n) l i = in-format (suc n) (lt-of-le-of-lt i (few-bits k l)) (negℤ (pos (nearest p64 (suc n)))) (go (nearest p64 (suc n)))
   where
     go : (n : ℕ) → magnitude (negℤ (pos n)) ≡ n
     go zero = refl
@@ -225,7 +244,8 @@ rounding-laws = record {
       let j : 1 ≤ p = omega arith in
       let w = rounded p n j in
       (w .m, w .q, w .low, w .even i (even p n (m * 2 ^ q) (beside p n m q (h p n) j l (unit p n)) d x), w .is);
-  in-format = λ k z w. integers k z (w .0) (size (isSignedInteger k) (widthOf k) z (w .1));
+  whole = λ z f e l. whole z (subst (λ (g : Format). magnitude z < 2 ^ g .precision) (the-format f e) l);
+  in-format = λ k z f e w. subst (λ (g : Format). WholeIn g (asFloat64 z)) (sym (the-format f e)) (integers k z (w .0) (size (isSignedInteger k) (widthOf k) z (w .1)));
 }
 
 -- 2 ^ 53 + 1 lies between two numbers of the format and goes to the even one, 2 ^ 53

@@ -13,7 +13,7 @@ use Rattle.utils_lossless.specs.declared.upcast.Upcast.the-variants.{To, Nothin
 use Rattle.utils_arms.specs.Supertype.{supertype}
 use Rattle.utils_report.specs.Kept.{Kept}
 use Rattle.utils_report.specs.Laws.{uint128WithSigned, uint64WithSigned}
-use Rattle.utils_report.specs.Report.{Says, pickReport, byUpcast, reportOf}
+use Rattle.utils_report.specs.Report.{Says, pickReport, byUpcast, reportOf, ReportLaws}
 use Rattle.utils_report.specs.declared.Report.{Report}
 use Rattle.utils_report.proofs.Pairs.{joined, is-joined, Answered, float64, integral, answered}
 use Rattle.utils_report.proofs.Keeping.{keeps, misses, rounds, avoidable, unavoidable}
@@ -68,7 +68,7 @@ module _ (a b : ℕ) (p : Listed a) (q : Listed b) where
       go (integral e l k) false true h g = lossy (misses a b p q (joined a b) is (l .1) (λ v w. subst T (sym g ∙ k .0 (v, w)) tt))
       go (integral e l k) false false h g = ((p, q), keeps a b p q (joined a b) is (k .1 g .0) (k .1 g .1))
 
-pub means : (a b : ℕ) → Says a b (reportOf a b)
+means : (a b : ℕ) → Says a b (reportOf a b)
 unfolding reportOf
 means a b = go (isListed a) (isListed b) refl refl
   where
@@ -78,6 +78,5 @@ means a b = go (isListed a) (isListed b) refl refl
     go true false e f = λ h. subst T f (of-listed b (h .1))
     go false y e f = λ h. subst T e (of-listed a (h .0))
 
--- so that a report which is so is the definition's
-pub settles : (a b : ℕ) (r : Report) → Says a b r → r ≡ reportOf a b
-settles a b r h = one a b r (reportOf a b) h (means a b)
+pub report-laws : ReportLaws
+report-laws = record { means = means; only = λ a b r h. one a b r (reportOf a b) h (means a b) }

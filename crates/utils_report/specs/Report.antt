@@ -1,4 +1,5 @@
 -- What a report says of two columns that are to be joined. Assumes nothing: these are definitions.
+use mathlib.Core.Path.{_≡_}
 use mathlib.Core.Bool.{Bool, true, false, _&&_, _||_}
 use mathlib.Core.List.{[], _∷_}
 use Prim.Native.Nat.{ℕ}
@@ -17,7 +18,7 @@ use Rattle.utils_report.specs.declared.Report.{Report}
 abbrev pub Integers : ℕ → ℕ → Type 0
 Integers a b = Listed a × Listed b
 
--- what each report says of the kinds of two valid types: exactly one of the first four is so (proofs/Settled.antt)
+-- what each report says of the kinds of two valid types
 abbrev pub Says : ℕ → ℕ → Report → Type 0
 -- the supertype keeps every whole number of both
 Says a b Report.Kept = Integers a b × Kept a b
@@ -37,12 +38,17 @@ abbrev pub byUpcast : Upcast → Report
 byUpcast (To k) = Report.Avoidable
 byUpcast Nothing = Report.Unavoidable
 
--- The report on two kinds: where UInt64 or UInt128 meets a signed type that is no wider the supertype loses numbers, and the lossless upcast tells whether an
--- integer type keeps them. That it says what is so is `means` in proofs/Settled.antt.
+-- the report on two kinds: where UInt64 or UInt128 meets a signed type that is no wider the supertype loses numbers, and the lossless upcast tells whether an
+-- integer type keeps them
 unfoldable pub reportOf : ℕ → ℕ → Report
 reportOf a b =
     pickReport (isListed a && isListed b) (pickReport (uint64WithSigned a b || uint128WithSigned a b) (byUpcast (upcastOf a b)) Report.Kept)
     Report.NotIntegers
+
+-- exactly one report is so, and it is the definition's (proved in proofs/Settled.antt)
+pub record ReportLaws : Type 0 where
+  pub means : (a b : ℕ) → Says a b (reportOf a b)
+  pub only : (a b : ℕ) (r : Report) → Says a b r → r ≡ reportOf a b
 
 -- of two roots: the left one's refusal, then the right one's, then the report on their kinds
 unfoldable pub rootsReport : Root → Root → Report

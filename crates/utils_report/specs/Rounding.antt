@@ -1,11 +1,13 @@
 -- What becomes of a whole number in a float format: IEEE 754's roundTiesToEven. Assumes nothing: these are definitions.
 use mathlib.Core.Path.{_≡_}
 use mathlib.Core.Bool.{true, false, cond, _&&_, _||_}
+use mathlib.Core.Option.{some}
 use Prim.Native.Nat.{ℕ, zero, suc, _+_, _-_, _*_, _/_, _%_, _^_, _≤_, _<_}
 use lib.Dec.{ltb, eqb}
 use lib.IntN.{ℤ, pos, negsuc, negℤ}
+use Rattle.flat.specs.Kind.{Float64}
 use Rattle.utils_numbers.specs.Range.{Holds}
-use Rattle.utils_numbers.specs.Format.{format, WholeIn}
+use Rattle.utils_numbers.specs.Format.{Format, binary64, formatOf, magnitude, WholeIn}
 
 -- how often n is halved until p bits hold it; n halvings are always enough
 unfoldable pub halvings : ℕ → ℕ → ℕ → ℕ
@@ -26,8 +28,8 @@ nearest p n = nearestQuotient n (lastUnit p n) * lastUnit p n
 
 -- a whole number as Float64 has it; the integer types' numbers lie far below the largest of the format
 unfoldable pub asFloat64 : ℤ → ℤ
-asFloat64 (pos n) = pos (nearest 53 n)
-asFloat64 (negsuc n) = negℤ (pos (nearest 53 (suc n)))
+asFloat64 (pos n) = pos (nearest (binary64 .precision) n)
+asFloat64 (negsuc n) = negℤ (pos (nearest (binary64 .precision) (suc n)))
 
 -- how far apart two whole numbers are
 abbrev pub distance : ℕ → ℕ → ℕ
@@ -44,5 +46,7 @@ pub record RoundingLaws : Type 0 where
   -- where another is as near, the last of its p bits is 0 (a single bit leaves no such choice)
   pub even : (p n m q : ℕ) → 2 ≤ p → m < 2 ^ p → distance n (m * 2 ^ q) ≡ distance n (nearest p n) → (m * 2 ^ q ≡ nearest p n → ⊥)
       → (j i : ℕ) × (j < 2 ^ p) × (j % 2 ≡ 0) × (nearest p n ≡ j * 2 ^ i)
-  -- the numbers of every integer type are rounded to numbers of Float64's format
-  pub in-format : (k : ℕ) (z : ℤ) → Holds k z → WholeIn (format 53 1023) (asFloat64 z)
+  -- by Float64's format: its whole numbers of at most p bits are kept ...
+  pub whole : (z : ℤ) (f : Format) → formatOf Float64 ≡ some f → magnitude z < 2 ^ f .precision → asFloat64 z ≡ z
+  -- ... and the numbers of every integer type are rounded to numbers of it
+  pub in-format : (k : ℕ) (z : ℤ) (f : Format) → formatOf Float64 ≡ some f → Holds k z → WholeIn f (asFloat64 z)

@@ -5,7 +5,7 @@ ghost use Rattle.flat.specs.Reading.{reading};
 ghost use Rattle.utils.specs.Join.{Some, node};
 ghost use Rattle.utils_numbers.specs.Range.{Listed};
 ghost use Rattle.utils_arms.specs.Supertype.{supertype};
-ghost use Rattle.utils_report.specs.Report.{Says, rootsReport, typesReport, reportNumber, reportValue};
+ghost use Rattle.utils_report.specs.Report.{reportOf, rootsReport, typesReport, reportNumber, reportValue};
 use flat::Flat;
 use flat::Root;
 use flat::error::Error;
@@ -69,7 +69,7 @@ fn integer_supertype(a: u8, b: u8) -> u8
 // Of two integer types.
 fn report_integers(a: u8, b: u8) -> Report
     requires { ⌜ Listed a × Listed b ⌝ }
-    ensures { λ r. ⌜ Says a b r ⌝ }
+    ensures { λ r. ⌜ r ≡ reportOf a b ⌝ }
 {
     let t = integer_supertype(a, b);
     if t <= Kind::INT128 {
@@ -87,7 +87,7 @@ fn report_integers(a: u8, b: u8) -> Report
 
 // Of the kinds of two valid types.
 fn report_kinds(a: u8, b: u8) -> Report
-    ensures { λ r. ⌜ Says a b r ⌝ }
+    ensures { λ r. ⌜ r ≡ reportOf a b ⌝ }
 {
     match a {
         Kind::UINT8..=Kind::INT128 => match b {

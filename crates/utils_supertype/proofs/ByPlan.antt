@@ -1,5 +1,5 @@
 -- The answer by its plan, for two types in the order of their kinds. Assumes nothing.
-use mathlib.Core.Path.{_≡_, refl, sym, _∙_, ap, subst}
+use mathlib.Core.Path.{_≡_, refl, sym, _∙_, ap}
 use mathlib.Core.Bool.{Bool, true, false, not, _&&_, _||_, and-eq-true-iff}
 use Prim.Native.Nat.{ℕ, _+_, _*_, _/_, _%_, _≤_, _<_, max}
 use native.Mathlib.Nat.{max-comm}
@@ -21,9 +21,9 @@ use Rattle.utils_arms.specs.declared.plan.Plan.{Plan}
 use Rattle.utils_arms.specs.declared.plan.Plan.the-variants as plan
 use Rattle.utils_arms.specs.Node.{unitAt, unit, zone, value, plain, fits}
 use Rattle.utils_arms.specs.Supertype.{dynNumber, run, knownSupertype}
-use Rattle.utils_arms.specs.Rule.{norm, ruleOf, Apart}
+use Rattle.utils_arms.specs.Rule.{ruleOf, Apart}
 use Rattle.utils_arms.proofs.Areas.{codeOf, alike}
-use Rattle.utils_arms.proofs.Answers.{is-true, plain-zero, same-node, zones, normal, everywhere, at-apart}
+use Rattle.utils_arms.proofs.Answers.{is-true, plain-zero, same-node, zones, everywhere, at-apart}
 use Rattle.utils_arms.proofs.Recursive.{dyn-int-of}
 use Rattle.utils_supertype.proofs.Numbers.{known-boolean}
 
@@ -57,11 +57,9 @@ only p q t s a b h e =
 
 -- ---- the answer
 
-module _ (s : Bool) (l r : Node) (pre : (fits l ≡ true) × (fits r ≡ true) × Apart (l .kind) (r .kind)) (q : Plan) (right-plan : norm (l .kind) (r .kind) q ≡ ruleOf s (l .kind) (r .kind)) where
+module _ (s : Bool) (l r : Node) (pre : (fits l ≡ true) × (fits r ≡ true) × Apart (l .kind) (r .kind)) (q : Plan) (right-plan : q ≡ ruleOf s (l .kind) (r .kind)) where
   answer : (p : Plan) (t : Supertype) → q ≡ p → t ≡ run knownSupertype p l r → t ≡ run knownSupertype (ruleOf s (l .kind) (r .kind)) l r
-  answer p t e h =
-      h ∙ sym (normal knownSupertype l r (pre .0) (pre .1) p)
-      ∙ ap (λ (x : Plan). run knownSupertype x l r) (subst (λ (x : Plan). norm (l .kind) (r .kind) x ≡ ruleOf s (l .kind) (r .kind)) e right-plan)
+  answer p t e h = h ∙ ap (λ (x : Plan). run knownSupertype x l r) (sym e ∙ right-plan)
 
   pub none : q ≡ plan.No → Nothing ≡ run knownSupertype (ruleOf s (l .kind) (r .kind)) l r
   unfolding run
@@ -87,28 +85,24 @@ module _ (s : Bool) (l r : Node) (pre : (fits l ≡ true) × (fits r ≡ true) �
   unfolding run
   dyn-decimal e = answer plan.DynDecimal (Some (node Kind.Decimal (256 * (l .arg / 256) + 38))) e refl
 
-  -- a plan that norm leaves as it is
-  rule-is : (p : Plan) → q ≡ p → norm (l .kind) (r .kind) p ≡ p → ruleOf s (l .kind) (r .kind) ≡ p
-  rule-is p e n = sym right-plan ∙ ap (norm (l .kind) (r .kind)) e ∙ n
-
   module _ (a b : ℕ) where
-    pair : (p : Plan) → T (everywhere (among-kinds p (λ i j. eqb i a && eqb j b))) → q ≡ p → norm (l .kind) (r .kind) p ≡ p → (l .kind ≡ a) × (r .kind ≡ b)
-    pair p t e n =
-        let u = only p (λ i j. eqb i a && eqb j b) t s (l .kind) (r .kind) (pre .2) (rule-is p e n) in
+    pair : (p : Plan) → T (everywhere (among-kinds p (λ i j. eqb i a && eqb j b))) → q ≡ p → (l .kind ≡ a) × (r .kind ≡ b)
+    pair p t e =
+        let u = only p (λ i j. eqb i a && eqb j b) t s (l .kind) (r .kind) (pre .2) (sym right-plan ∙ e) in
         (eqb→eq (l .kind) a (and-left (eqb (l .kind) a) _ u), eqb→eq (r .kind) b (and-right (eqb (l .kind) a) _ u))
 
   pub datetime-duration : (m : ℕ) → q ≡ plan.DatetimeDuration → m ≡ 4 * (l .arg / 4) + max (l .arg % 4) (r .arg % 4) → Some (node Kind.Datetime m) ≡ run knownSupertype (ruleOf s (l .kind) (r .kind)) l r
-  unfolding run norm
+  unfolding run
   datetime-duration m e h =
-      let k = pair Kind.Datetime Kind.Duration plan.DatetimeDuration (unfold everywhere in tt) e refl in
+      let k = pair Kind.Datetime Kind.Duration plan.DatetimeDuration (unfold everywhere in tt) e in
       let g = unit-of-duration r (pre .1) (k .1) in
       answer plan.DatetimeDuration (Some (node Kind.Datetime m)) e (rw (h, eq-eqb (l .kind) Kind.Datetime (k .0), larger-unit l r (unit-of-datetime l (pre .0) (k .0)) (omega arith)))
 
   module _ (e : q ≡ plan.Datetimes) where
     pub one-zone : (m : ℕ) → l .arg / 4 ≡ r .arg / 4 → m ≡ 4 * (r .arg / 4) + max (r .arg % 4) (l .arg % 4) → Some (node Kind.Datetime m) ≡ run knownSupertype (ruleOf s (l .kind) (r .kind)) l r
-    unfolding run norm
+    unfolding run
     one-zone m z h =
-        let k = pair Kind.Datetime Kind.Datetime plan.Datetimes (unfold everywhere in tt) e refl in
+        let k = pair Kind.Datetime Kind.Datetime plan.Datetimes (unfold everywhere in tt) e in
         answer plan.Datetimes (Some (node Kind.Datetime m)) e (rw (h, zones (zone l) (zone r), eq-eqb (zone l) (zone r) z, larger-unit l r (unit-of-datetime l (pre .0) (k .0)) (unit-of-datetime r (pre .1) (k .1)), max-comm (r .arg % 4) (l .arg % 4)))
 
     pub two-zones : (l .arg / 4 ≡ r .arg / 4 → ⊥) → Nothing ≡ run knownSupertype (ruleOf s (l .kind) (r .kind)) l r
@@ -116,9 +110,9 @@ module _ (s : Bool) (l r : Node) (pre : (fits l ≡ true) × (fits r ≡ true) �
     two-zones n = answer plan.Datetimes Nothing e (rw (zones (zone l) (zone r), ne-eqb (zone l) (zone r) n))
 
   pub durations : (m : ℕ) → q ≡ plan.Durations → m ≡ max (l .arg) (r .arg) → Some (node Kind.Duration m) ≡ run knownSupertype (ruleOf s (l .kind) (r .kind)) l r
-  unfolding run norm
+  unfolding run
   durations m e h =
-      let k = pair Kind.Duration Kind.Duration plan.Durations (unfold everywhere in tt) e refl in
+      let k = pair Kind.Duration Kind.Duration plan.Durations (unfold everywhere in tt) e in
       let f = unit-of-duration l (pre .0) (k .0) in
       let g = unit-of-duration r (pre .1) (k .1) in
       let u : l .arg % 4 ≡ l .arg = omega arith in
@@ -130,9 +124,8 @@ module _ (s : Bool) (l r : Node) (pre : (fits l ≡ true) × (fits r ≡ true) �
   bare-left h = same-node l (plain-zero l (pre .0) (is-true (plain (l .kind)) (in-run plain 0 15 (unfold plain among in tt) (l .kind) (omega arith) (omega arith))))
 
   pub number-kinds : q ≡ plan.DynNumber → (Kind.UInt8 ≤ l .kind) × (l .kind ≤ Kind.Int64)
-  unfolding norm
   number-kinds e =
-      let u = only plan.DynNumber (λ a b. leb Kind.UInt8 a && leb a Kind.Int64) (unfold everywhere in tt) s (l .kind) (r .kind) (pre .2) (rule-is plan.DynNumber e refl) in
+      let u = only plan.DynNumber (λ a b. leb Kind.UInt8 a && leb a Kind.Int64) (unfold everywhere in tt) s (l .kind) (r .kind) (pre .2) (sym right-plan ∙ e) in
       (leb→le Kind.UInt8 (l .kind) (and-left (leb Kind.UInt8 (l .kind)) _ u), leb→le (l .kind) Kind.Int64 (and-right (leb Kind.UInt8 (l .kind)) _ u))
 
   pub number : (k : ℕ) → q ≡ plan.DynNumber → Some (node k 0) ≡ dynNumber knownSupertype (node (l .kind) 0) (value r) → Some (node k 0) ≡ run knownSupertype (ruleOf s (l .kind) (r .kind)) l r
@@ -143,9 +136,9 @@ module _ (s : Bool) (l r : Node) (pre : (fits l ≡ true) × (fits r ≡ true) �
       (rw (sym (of-run isUnknownInt false 0 26 (unfold says in tt) (l .kind) (omega arith))) (h ∙ ap (λ (n : Node). dynNumber knownSupertype n (value r)) (bare-left (omega arith))))
 
   pub boolean : (k : ℕ) → q ≡ plan.DynBoolean → k ≡ materializeDynInt (value r) → Some (node k 0) ≡ run knownSupertype (ruleOf s (l .kind) (r .kind)) l r
-  unfolding run norm
+  unfolding run
   boolean k e h =
-      let one : l .kind ≡ Kind.Boolean = eqb→eq (l .kind) Kind.Boolean (only plan.DynBoolean (λ a b. eqb a Kind.Boolean) (unfold everywhere in tt) s (l .kind) (r .kind) (pre .2) (rule-is plan.DynBoolean e refl)) in
+      let one : l .kind ≡ Kind.Boolean = eqb→eq (l .kind) Kind.Boolean (only plan.DynBoolean (λ a b. eqb a Kind.Boolean) (unfold everywhere in tt) s (l .kind) (r .kind) (pre .2) (sym right-plan ∙ e)) in
       let t : T (leb Kind.UInt8 k && leb k Kind.Int128) = rw h (dyn-int-of (λ k. leb Kind.UInt8 k && leb k Kind.Int128) tt tt (value r)) in
       answer plan.DynBoolean (Some (node k 0)) e
       (rw (← h) (known-boolean k (leb→le Kind.UInt8 k (and-left (leb Kind.UInt8 k) _ t)) (leb→le k Kind.Int128 (and-right (leb Kind.UInt8 k) _ t))

@@ -19,9 +19,9 @@ use Rattle.utils_arms.specs.declared.plan.Plan.{Plan}
 use Rattle.utils_arms.specs.declared.plan.Plan.the-variants as plan
 use Rattle.utils_arms.specs.Node.{same, fits}
 use Rattle.utils_arms.specs.Supertype.{smallestFitting, dynNumber, Call, run, inner, supertypeWith, knownSupertype}
-use Rattle.utils_arms.specs.Rule.{norm, ruleOf, skip, Apart, Settles}
+use Rattle.utils_arms.specs.Rule.{ruleOf, skip, Apart, Settles}
 use Rattle.utils_arms.proofs.Areas.{right, rule}
-use Rattle.utils_arms.proofs.Answers.{is-true, normal, settled, either-order, lopsided}
+use Rattle.utils_arms.proofs.Answers.{is-true, settled, either-order, lopsided}
 use Rattle.utils_arms.proofs.Recursive.{smallest-of}
 
 -- ---- the smallest fitting type
@@ -70,13 +70,12 @@ bare a h = is-true (fits (node a 0)) (in-run (λ a. fits (node a 0)) 0 15 (unfol
 distinct : (a b : ℕ) → (a ≡ b → ⊥) → a ≤ Kind.Float64 → same (node a 0) (node b 0) ≡ false
 distinct a b n h = left-known a 0 b 0 n (omega arith) (omega arith)
 
-module _ (a b : ℕ) (p : Plan) (below : a < b) (numbers : b ≤ Kind.Float64) (e : norm a b p ≡ ruleOf true a b) where
-  by-plan : run stop p (node a 0) (node b 0) ≡ run stop (ruleOf true a b) (node a 0) (node b 0)
-  by-plan = sym (normal stop (node a 0) (node b 0) (bare a (omega arith)) (bare b numbers) p) ∙ ap (λ (q : Plan). run stop q (node a 0) (node b 0)) e
-
+module _ (a b : ℕ) (p : Plan) (below : a < b) (numbers : b ≤ Kind.Float64) (e : p ≡ ruleOf true a b) where
   known-up : run stop p (node a 0) (node b 0) ≡ knownSupertype (node a 0) (node b 0)
   unfolding knownSupertype
-  known-up = by-plan ∙ sym (settled stop true (node a 0) (node b 0) (bare a (omega arith)) (bare b numbers) (apart-below below numbers) (distinct a b (omega arith) (omega arith)))
+  known-up =
+      ap (λ (q : Plan). run stop q (node a 0) (node b 0)) e
+      ∙ sym (settled stop true (node a 0) (node b 0) (apart-below below numbers) (distinct a b (omega arith) (omega arith)))
 
   known-down : run stop p (node a 0) (node b 0) ≡ knownSupertype (node b 0) (node a 0)
   unfolding knownSupertype

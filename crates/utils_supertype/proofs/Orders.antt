@@ -27,13 +27,13 @@ module _ (i s : Bool) (l r : Node) where
   module _ (pre : (fits l ≡ true) × (fits r ≡ true)) (differ : same l r ≡ false) where
     pub in-order : l .kind ≤ r .kind → run knownSupertype (ruleOf s (l .kind) (r .kind)) l r ≡ supertype i s l r
     unfolding supertype
-    in-order h = sym (settled knownSupertype s l r (pre .0) (pre .1) (ready l r pre differ h .2) differ)
+    in-order h = sym (settled knownSupertype s l r (ready l r pre differ h .2) differ)
 
     pub out-of-order : r .kind < l .kind → lopsided (l .kind) (r .kind) ≡ false → run knownSupertype (ruleOf s (r .kind) (l .kind)) r l ≡ supertype i s l r
     unfolding supertype
     out-of-order h n =
         let turned = ready-turned l r pre differ h .2 in
-        sym (settled knownSupertype s r l (pre .1) (pre .0) turned (same-sym r l ∙ differ)) ∙ sym (either-order knownSupertype s l r (pre .0) (pre .1) h turned n differ)
+        sym (settled knownSupertype s r l turned (same-sym r l ∙ differ)) ∙ sym (either-order knownSupertype s l r (pre .0) (pre .1) h turned n differ)
 
     -- the first try answers with a kind
     first-try : (k : ℕ) → planOf s (l .kind) (r .kind) ≡ plan.Kind k → Some (node k 0) ≡ supertype i s l r

@@ -12,12 +12,12 @@ fn the_widths_are_those_of_rusts_integers() {
     assert!(INTEGER.contains(&definition), "{definition}");
 }
 
-/// binary16 has no type in stable Rust: its two numbers are read in the standard alone.
+/// binary16 has no type in stable Rust: its two numbers are held to its width and its largest number by `FormatLaws`.
 #[test]
 fn the_formats_are_those_of_rusts_floats() {
-    let floats = [("Float32", f32::MANTISSA_DIGITS, f32::MAX_EXP), ("Float64", f64::MANTISSA_DIGITS, f64::MAX_EXP)];
-    for (kind, digits, past_most) in floats {
-        let definition = format!("(cond (eqb k Kind.{kind}) (some (format {digits} {}))\n", past_most - 1);
+    let floats = [("binary32", f32::MANTISSA_DIGITS, f32::MAX_EXP), ("binary64", f64::MANTISSA_DIGITS, f64::MAX_EXP)];
+    for (name, digits, past_most) in floats {
+        let definition = format!("\n{name} = format {digits} {}\n", past_most - 1);
         assert!(FORMAT.contains(&definition), "{definition}");
     }
 }

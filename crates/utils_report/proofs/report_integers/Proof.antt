@@ -4,6 +4,7 @@ use mathlib.Core.Logic.{⊎-elim}
 use borrow.Author.Needs.{needs}
 use Rattle.utils_report.specs.Kept.{Kept}
 use Rattle.utils_report.proofs.Keeping.{no, keeps, listed, misses, rounds, avoidable, unavoidable}
+use Rattle.utils_report.proofs.Settled.{report-laws}
 use Rattle.utils_report.proofs.report_integers.Statement.{statement}
 use Rattle.utils_report.proofs.report_integers.Tie as tie
 use Rattle.utils_report.proofs.report_integers.Reads as reads
@@ -26,7 +27,7 @@ returns c =
     let at = c .before .before .before in
     let is = at .before .before in
     let l = is .before .pre in
-    (l, keeps _ _ (l .0) (l .1) _ (is .integer-supertype .ensures) (at .includes .ensures .0 (c .before .before .if2 .taken)) (c .before .includes2 .ensures .0 (c .if3 .taken)))
+    report-laws .only _ _ _ (l, keeps _ _ (l .0) (l .1) _ (is .integer-supertype .ensures) (at .includes .ensures .0 (c .before .before .if2 .taken)) (c .before .includes2 .ensures .0 (c .if3 .taken)))
 
 -- where the ways meet that don't return
 lost : (j : lts.Joined1 (integer-supertype-reads.Asked, integer-supertype-reads.Learnt, includes-reads.Asked, includes-reads.Learnt, upcast-kinds-reads.Asked, upcast-kinds-reads.Learnt) reads.Pre reads.Post) → Kept (j .before .before .args .a) (j .before .before .args .b) → ⊥
@@ -39,10 +40,10 @@ lost j =
     (j .if1 .came)
 
 returns-2 : tie.Need-returns-2
-returns-2 c = let j = c .before .before .before in let l = j .before .before .pre in avoidable (l .0) (l .1) (lost j) (sym (c .before .before .upcast-kinds .ensures) ∙ c .enum-told .given .1)
+returns-2 c = let j = c .before .before .before in let l = j .before .before .pre in report-laws .only _ _ _ (avoidable (l .0) (l .1) (lost j) (sym (c .before .before .upcast-kinds .ensures) ∙ c .enum-told .given .1))
 
 returns-3 : tie.Need-returns-3
-returns-3 c = let j = c .before .before .before in let l = j .before .before .pre in unavoidable (l .0) (l .1) (lost j) (sym (c .before .before .upcast-kinds .ensures) ∙ c .enum-told2 .given .1)
+returns-3 c = let j = c .before .before .before in let l = j .before .before .pre in report-laws .only _ _ _ (unavoidable (l .0) (l .1) (lost j) (sym (c .before .before .upcast-kinds .ensures) ∙ c .enum-told2 .given .1))
 
 pub report-integers-spec : {M : Type 1} → statement M
 report-integers-spec =

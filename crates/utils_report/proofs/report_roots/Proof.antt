@@ -2,7 +2,6 @@
 use mathlib.Core.Path.{refl}
 use borrow.Author.Needs.{needs}
 use Rattle.utils_report.specs.Report.{rootsReport}
-use Rattle.utils_report.proofs.Settled.{settles}
 use Rattle.utils_report.proofs.report_roots.Statement.{statement}
 use Rattle.utils_report.proofs.report_roots.Tie as tie
 
@@ -16,7 +15,7 @@ returns-2 c = rw (c .before .before .before .before .left2 .given .1, c .before 
 
 returns-3 : tie.Need-returns-3
 unfolding rootsReport
-returns-3 c = rw (c .before .before .before .before .before .left2 .given .1, c .before .before .right2 .given .1) (settles _ _ _ (c .report-kinds .ensures))
+returns-3 c = rw (c .before .before .before .before .before .left2 .given .1, c .before .before .right2 .given .1) (c .report-kinds .ensures)
 
 pub report-roots-spec : {M : Type 1} → statement M
 report-roots-spec =

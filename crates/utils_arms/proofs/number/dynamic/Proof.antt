@@ -19,7 +19,7 @@ returns-4 : tie.Need-returns-4
 returns-4 c s = rule (λ s a b. DynBoolean) Boolean 1 UnknownIntPos 2 (unfold right in tt) s _ _ (omega arith)
 
 returns-5 : tie.Need-returns-5
-returns-5 c s = rule (λ s a b. Left) Int128 1 UnknownIntPos 2 (unfold right in tt) s _ _ (omega arith)
+returns-5 c s = rule (λ s a b. Kind Int128) Int128 1 UnknownIntPos 2 (unfold right in tt) s _ _ (omega arith)
 
 returns-6 : tie.Need-returns-6
 returns-6 c s = rule (λ s a b. DynNumber) UInt8 9 UnknownIntPos 2 (unfold right in tt) s _ _ (omega arith)

@@ -1,11 +1,11 @@
 -- `utils_arms::plan::planned` meets its contract. Assumes nothing.
-use native.Mathlib.Omega.{arith}
 use borrow.Author.Needs.{needs}
-use Rattle.flat.specs.Kind.{Null}
-use Rattle.utils_arms.specs.declared.plan.Plan.the-variants.{Right}
-use Rattle.utils_arms.proofs.Areas.{right-apart, rule-apart, apart-at}
+use Rattle.utils_arms.proofs.Areas.{apart-at}
 use Rattle.utils_arms.proofs.plan.planned.Statement.{statement}
 use Rattle.utils_arms.proofs.plan.planned.Tie as tie
+
+null-row-requires : tie.Need-null-row-requires
+null-row-requires c κs = apart-at (c .match .keys1) (c .before .pre)
 
 decimal-row-requires : tie.Need-decimal-row-requires
 decimal-row-requires c κs = apart-at (c .match .keys2) (c .before .pre)
@@ -14,7 +14,7 @@ string-row-requires : tie.Need-string-row-requires
 string-row-requires c κs = apart-at (c .match .keys3) (c .before .pre)
 
 returns : tie.Need-returns
-returns c = rule-apart (λ s a b. Right) Null 1 Null 28 (unfold right-apart in tt) _ _ _ (omega arith) (cc)
+returns c = rw (c .before .match .keys1) (c .null-row .ensures _)
 
 returns-2 : tie.Need-returns-2
 returns-2 c = rw (c .before .match .keys2) (c .decimal-row .ensures)
@@ -32,4 +32,4 @@ returns-6 : tie.Need-returns-6
 returns-6 c = c .unknown-row .ensures
 
 pub planned-spec : {M : Type 1} → statement M
-planned-spec = tie.close (tie.spec decimal-row-requires string-row-requires (λ c κs. search needs) (λ c κs. search needs) (λ c κs. search needs) returns returns-2 returns-3 returns-4 returns-5 returns-6)
+planned-spec = tie.close (tie.spec null-row-requires decimal-row-requires string-row-requires (λ c κs. search needs) (λ c κs. search needs) (λ c κs. search needs) returns returns-2 returns-3 returns-4 returns-5 returns-6)
