@@ -15,38 +15,11 @@ ghost use Rattle.datatypes_cast.specs.Verdict.{castOf};
 ghost use Rattle.datatypes_build.specs.Build.{materialized, physical};
 ghost use Rattle.capi.specs.Reply.{answerReply, verdictReply, innerReply, DecodeReply};
 use crate::Reply;
+use crate::answer_reply;
+use crate::inner_reply;
+use crate::verdict_reply;
 use crate::written;
-use datatypes::answer::Answer;
-use datatypes_cast::Verdict;
-use datatypes_inner::Inner;
 use flat::Flat;
-
-fn answer_reply(a: Answer) -> Reply
-    ensures { λ r. ⌜ r ≡ answerReply a ⌝ }
-{
-    Reply {
-        number: a.number(),
-        value: a.value(),
-    }
-}
-
-fn verdict_reply(v: Verdict) -> Reply
-    ensures { λ r. ⌜ r ≡ verdictReply v ⌝ }
-{
-    Reply {
-        number: v.number(),
-        value: v.value(),
-    }
-}
-
-fn inner_reply(inner: Inner) -> Reply
-    ensures { λ r. ⌜ r ≡ innerReply inner ⌝ }
-{
-    Reply {
-        number: inner.number(),
-        value: inner.value(),
-    }
-}
 
 // Whether no type in it is unknown.
 #[no_mangle]
