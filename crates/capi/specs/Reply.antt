@@ -53,7 +53,7 @@ verdictOf Cast.NoVerdict = Verdict.NoVerdict
 abbrev pub bytesReply : Encoded → Reply
 bytesReply a = record { number = encodedNumber a; value = encodedValue a }
 
--- a unit
+-- the number of a unit
 abbrev pub unitReply : Unit → Reply
 unitReply a = record { number = unitAnswerNumber a; value = unitAnswerValue a }
 
