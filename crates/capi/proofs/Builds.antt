@@ -52,7 +52,7 @@ pub room-of : (n : ℕ) (l : List ℕ) → length (take n l) ≡ n → n ≤ len
 room-of n l e = omega (arith, length-take n l)
 
 -- ---- a refused call
-pub build-refused : {w nodes : ℕ} {s : List ℕ} {r : Reading} {xs xs′ K A out : List ℕ} {e : Error} {a : Reply} → xs′ ≡ argsOpened w nodes s xs → r ≡ refused e → a ≡ checkReply (refused e) → BuildReply w nodes s r xs K A out xs′ K A out a
+pub build-refused : {w nodes : ℕ} {s : List ℕ} {r : Reading} {xs xs′ K A out : List ℕ} {e : Error} {a : Reply} → xs′ ≡ argsOpened w nodes s xs → r ≡ refused e → a ≡ checkReply (Checked.Refused e) → BuildReply w nodes s r xs K A out xs′ K A out a
 unfolding kindsOver argsOver
 build-refused x q h = record { forms = record { encodes = encode-refused q h; new-kinds = rw q; new-args = rw q }; args = x }
 

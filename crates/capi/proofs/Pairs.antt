@@ -12,6 +12,7 @@ use Rattle.flat.specs.Tree.{DataType, size}
 use Rattle.flat.specs.Reading.{Reading, refused, type}
 use Rattle.flat.specs.Walk.{typeAt}
 use Rattle.flat.specs.Output.{writtenOf}
+use Rattle.flat.specs.declared.Checked.{Checked}
 use Rattle.flat.specs.declared.Written.{Written}
 use Rattle.flat.specs.declared.error.Error.{Error}
 use Rattle.encoding.specs.Encoding.{decoding}
@@ -93,11 +94,11 @@ module _ {w nodes deep : ℕ} {s t xs ys xs′ ys′ : List ℕ} {a : Pair} (o :
         go (some true) n m = refl
 
   -- a refused call
-  pub pair-refused : (f : Reading → Reading → Reply) → ((e : Error) (q : Reading) → checkReply (refused e) ≡ f (refused e) q) → ((t : DataType) (e : Error) → checkReply (refused e) ≡ f (type t) (refused e))
-      → {e : Error} {reply : Reply} → a ≡ Pair.Refused e → reply ≡ checkReply (refused e) → PairReply w nodes s t xs ys xs′ ys′ (f (decoding w nodes deep s) (decoding w nodes deep t)) reply
+  pub pair-refused : (f : Reading → Reading → Reply) → ((e : Error) (q : Reading) → checkReply (Checked.Refused e) ≡ f (refused e) q) → ((t : DataType) (e : Error) → checkReply (Checked.Refused e) ≡ f (type t) (refused e))
+      → {e : Error} {reply : Reply} → a ≡ Pair.Refused e → reply ≡ checkReply (Checked.Refused e) → PairReply w nodes s t xs ys xs′ ys′ (f (decoding w nodes deep s) (decoding w nodes deep t)) reply
   pair-refused f l r {e} q h = record { replies = h ∙ go (decoding w nodes deep s) (decoding w nodes deep t) (sym q ∙ o .answers); left = o .left; right = o .right }
     where
-      go : (x y : Reading) → Pair.Refused e ≡ pairOf x y → checkReply (refused e) ≡ f x y
+      go : (x y : Reading) → Pair.Refused e ≡ pairOf x y → checkReply (Checked.Refused e) ≡ f x y
       go (refused d) y p = let z : e ≡ d = cc in rw z (l d y)
       go (type t) (refused d) p = let z : e ≡ d = cc in rw z (r t d)
       go (type t) (type u) p = absurd (let z : _≡_ {A = ℕ} 0 1 = cc in omega arith)

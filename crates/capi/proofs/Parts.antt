@@ -15,10 +15,12 @@ use Rattle.encoding.specs.Answer.{Puts}
 use Rattle.encoding.specs.declared.Encoded.{Encoded}
 use Rattle.encoding.proofs.Answers.{puts-type}
 use Rattle.encoding.proofs.Opening.{Opened}
+use Rattle.datatypes_inner.specs.Part.{Last}
+use Rattle.datatypes_inner.specs.declared.Inner.{Inner}
 use Rattle.datatypes_inner.specs.Shape.{shape, shapeOf, arraysAt, widthsAt}
-use Rattle.datatypes_inner.proofs.Endings.{Last, Found, Finds, finds-inner, finds-leaf, finds-array-leaf}
+use Rattle.datatypes_inner.proofs.Endings.{Found, Finds, finds-inner, finds-leaf, finds-array-leaf}
 use Rattle.datatypes_inner.proofs.Shapes.{arrays-fit, shape-at}
-use Rattle.capi.specs.Reply.{bytesReply}
+use Rattle.capi.specs.Reply.{innerReply, bytesReply}
 use Rattle.capi.specs.Parts.{partOf, partNodes, partReading, PartReply}
 use Rattle.capi.specs.declared.Reply.{Reply}
 use Rattle.capi.specs.declared.part.Part.{Part}
@@ -51,11 +53,11 @@ module _ {w nodes deep n : ℕ} {s xs : List ℕ} (o : Opened w nodes deep n s x
     pub part-within : m ≤ n
     part-within = omega (arith, part-found .kinds .within, length-kinds (o .parts .tree), o .tree-size)
 
-    pub part-none : (out : List ℕ) → m ≡ 0 → PartReply w (partReading (partOf p) (decoding w nodes deep s)) out out (record { number = 0; value = 0 })
-    part-none out z = rw (o .reads) (go (partOf p (o .parts .tree)) part-found)
+    pub part-none : (out : List ℕ) {a : Reply} → m ≡ 0 → a ≡ innerReply Inner.Nothing → PartReply w (partReading (partOf p) (decoding w nodes deep s)) out out a
+    part-none out {a} z h = rw (o .reads) (go (partOf p (o .parts .tree)) part-found)
       where
-        go : (u : Option DataType) → Found (o .parts .tree) u m → PartReply w (partReading (λ t. u) (type (o .parts .tree))) out out (record { number = 0; value = 0 })
-        go none f = (refl, refl)
+        go : (u : Option DataType) → Found (o .parts .tree) u m → PartReply w (partReading (λ t. u) (type (o .parts .tree))) out out a
+        go none f = (h, refl)
         go (some u) f = absurd (omega (arith, f .nodes, size-pos u))
 
     pub part-some : {at : ℕ} {out out′ : List ℕ} {d : Encoded} {a : Reply} → (m ≡ 0 → ⊥) → at ≡ n - m → Puts w (from at (take (2 + n - 2) (drop 2 s))) (from at (take n xs)) out out′ d → a ≡ bytesReply d

@@ -4,73 +4,55 @@ use mathlib.Core.Bool.{Bool}
 use mathlib.Core.List.{List}
 use mathlib.Core.Option.{Option}
 use Prim.Native.Nat.{ℕ, _+_, _-_, _≤_, _<_}
+use native.Mathlib.Omega.{arith}
 use lib.ListN.{length, take, drop}
 use lib.Seq.{length-take-le}
-use Rattle.flat.specs.Tree.{DataType, size}
-use Rattle.flat.specs.Reading.{Reading, refused, type, reading, checkedOf}
+use Rattle.flat.specs.Tree.{DataType}
+use Rattle.flat.specs.Reading.{Reading, refused, reading, checkedOf}
 use Rattle.flat.specs.declared.error.Error.{Error}
 use Rattle.flat.specs.declared.Checked.{Checked}
-use Rattle.flat.proofs.Meaning.{check-passed, checked-type, checked-refused}
-use Rattle.encoding.specs.Encoding.{encodedSize, kindsIn, argsIn, decoding}
-use Rattle.encoding.specs.Answer.{fittingBytes, encodedOf, bytesOver, Encodes}
+use Rattle.flat.proofs.Meaning.{check-passed}
+use Rattle.encoding.specs.Encoding.{kindsIn, argsIn, decoding}
+use Rattle.encoding.specs.Answer.{fittingBytes, bytesOver, Encodes}
 use Rattle.flat.specs.declared.Written.{Written}
 use Rattle.flat.specs.Output.{writtenOf, Writes}
 use Rattle.encoding.specs.declared.Encoded.{Encoded}
+use Rattle.encoding.proofs.Laws.{size-parts}
 use Rattle.encoding.proofs.Opening.{Opened, written-refused}
-use Rattle.encoding.proofs.Answers.{kinds-part, decoding-sized, EncodedForm}
+use Rattle.encoding.proofs.Answers.{Sized, kinds-part, decoding-sized, EncodedForm}
 use Rattle.datatypes.specs.Predicates.{predicateOf, toldBy}
 use Rattle.datatypes.specs.Answer.{yesNo, answerOf}
 use Rattle.datatypes.specs.declared.predicate.Predicate.{Predicate}
 use Rattle.datatypes.proofs.Answers.{some-node, answered}
-use Rattle.datatypes.specs.TimeUnit.{unitNumber}
-use Rattle.datatypes.specs.declared.time_unit.TimeUnit.{TimeUnit}
-use Rattle.datatypes.specs.declared.time_unit.Unit.{Unit}
-use Rattle.utils.specs.TimeUnits.{getTimeUnits}
 use Rattle.utils.specs.Join.{Joins}
 use Rattle.utils.specs.declared.join.Joined.{Joined}
 use Rattle.encoding_join.specs.Join.{JoinsBytes}
-use Rattle.capi.specs.Reply.{replyOf, checkReply, answerReply, writtenReply, bytesReply, unitsReply, joinedReply, DecodeReply, EncodeReply, FlatJoinReply, JoinReply}
+use Rattle.capi.specs.Reply.{checkReply, answerReply, writtenReply, bytesReply, joinedReply, DecodeReply, EncodeReply, FlatJoinReply, JoinReply}
 use Rattle.capi.specs.declared.Reply.{Reply}
 
--- a refusal's reply is the same of every call
-of-refusal : (value : DataType → ℕ) {e : Error} {a : Reply} {r : Reading} → a ≡ checkReply (refused e) → r ≡ refused e → a ≡ replyOf value r
-of-refusal value h q = h ∙ ap (replyOf value) (sym q)
+-- ---- an opened type: its kinds stand in the bytes, and there is room for its arguments
+pub kinds-within : {w nodes n : ℕ} {s : List ℕ} → Sized w nodes n s → 2 + n ≤ length s
+kinds-within {w} {nodes} {n} z = omega (arith, z .size, size-parts w n)
 
--- ---- an opened type: bytes as long as their nodes take, and room for the arguments
-pub record Fits (w n : ℕ) (s xs : List ℕ) : Type 0 where
-  pub bytes : length s ≡ encodedSize w n
+pub record Fits (n : ℕ) (s xs : List ℕ) : Type 0 where
+  pub kinds : 2 + n ≤ length s
   pub room : n ≤ length xs
 
-pub fits-of : {w nodes deep n : ℕ} {s xs : List ℕ} → Opened w nodes deep n s xs → Fits w n s xs
-fits-of o = record { bytes = o .sized .size; room = o .room }
+pub fits-of : {w nodes deep n : ℕ} {s xs : List ℕ} → Opened w nodes deep n s xs → Fits n s xs
+fits-of o = record { kinds = kinds-within (o .sized); room = o .room }
 
-pub args-length : {w n : ℕ} {s xs : List ℕ} → Fits w n s xs → length (take n xs) ≡ n
+pub args-length : {n : ℕ} {s xs : List ℕ} → Fits n s xs → length (take n xs) ≡ n
 args-length {n = n} {xs = xs} f = length-take-le n xs (f .room)
-
--- ---- lz_check
-pub check-valid : (r : Reading) → Checked.Valid ≡ checkedOf r → record { number = 0; value = 0 } ≡ checkReply r
-check-valid r q = ap checkReply (sym (checked-type r q .1))
-
-pub check-refused : (r : Reading) (e : Error) {a : Reply} → Checked.Refused e ≡ checkedOf r → a ≡ checkReply (refused e) → a ≡ checkReply r
-check-refused r e q h = of-refusal (λ t. 0) h (checked-refused r e q)
 
 -- ---- the calls that write a flat type
 pub written-reply : {r : Reading} {ks xs ks′ xs′ : List ℕ} {d : Written} {a : Reply} → Writes r ks xs ks′ xs′ d → a ≡ writtenReply d → DecodeReply r ks xs ks′ xs′ a
-written-reply {r} f h = record { replies = h ∙ ap writtenReply (f .answers) ∙ go r; kinds = f .kinds; args = f .args }
-  where
-    go : (r : Reading) → writtenReply (writtenOf r) ≡ replyOf size r
-    go (refused e) = refl
-    go (type t) = refl
+written-reply f h = record { replies = h ∙ ap writtenReply (f .answers); kinds = f .kinds; args = f .args }
 
 -- ---- the calls that encode a type
 pub encode-reply : {w : ℕ} {r : Reading} {out out′ : List ℕ} {d : Encoded} {a : Reply} → Encodes w r out out′ d → a ≡ bytesReply d → EncodeReply w r out out′ a
-encode-reply {w} {r} f h = record { replies = h ∙ ap bytesReply (f .answers) ∙ go r; bytes = f .bytes }
-  where
-    go : (r : Reading) → bytesReply (encodedOf w r) ≡ replyOf (λ t. encodedSize w (size t)) r
-    go (refused e) = refl
-    go (type t) = refl
+encode-reply f h = record { replies = h ∙ ap bytesReply (f .answers); bytes = f .bytes }
 
-pub encode-refused : {w : ℕ} {r : Reading} {out : List ℕ} {e : Error} {a : Reply} → r ≡ refused e → a ≡ checkReply (refused e) → EncodeReply w (fittingBytes w (length out) r) out out a
+pub encode-refused : {w : ℕ} {r : Reading} {out : List ℕ} {e : Error} {a : Reply} → r ≡ refused e → a ≡ checkReply (Checked.Refused e) → EncodeReply w (fittingBytes w (length out) r) out out a
 unfolding fittingBytes bytesOver
 encode-refused q h = rw q (record { replies = h; bytes = refl })
 
@@ -81,22 +63,11 @@ flat-join-reply f h = record { replies = h ∙ ap joinedReply (f .answers); kind
 pub join-reply : {w : ℕ} {found : Option Reading} {out out′ : List ℕ} {d : Joined} {a : Reply} → JoinsBytes w found out out′ d → a ≡ joinedReply d → JoinReply w found out out′ a
 join-reply f h = record { replies = h ∙ ap joinedReply (f .answers); bytes = f .bytes }
 
--- ---- lz_get_time_units
-module _ {x y : Unit} {l : TimeUnit} (p : x ≡ Unit.Of l) where
-  pub unit-reply : {r : TimeUnit} {n : ℕ} → y ≡ Unit.Of r → n ≡ unitNumber (getTimeUnits l r) → record { number = 0; value = n } ≡ unitsReply x y
-  unit-reply q h = rw (p, q, h)
-
-  pub right-refused : {e : Error} {a : Reply} → y ≡ Unit.Refused e → a ≡ checkReply (refused e) → a ≡ unitsReply x y
-  right-refused q h = rw (p, q) h
-
-pub left-refused : {x : Unit} (y : Unit) {e : Error} {a : Reply} → x ≡ Unit.Refused e → a ≡ checkReply (refused e) → a ≡ unitsReply x y
-left-refused y p h = rw p h
-
 -- ---- the predicates
-pub answer-refused : (p : DataType → Bool) {r : Reading} {e : Error} {a : Reply} → r ≡ refused e → a ≡ checkReply (refused e) → a ≡ answerReply (answerOf p r)
+pub answer-refused : (p : DataType → Bool) {r : Reading} {e : Error} {a : Reply} → r ≡ refused e → a ≡ checkReply (Checked.Refused e) → a ≡ answerReply (answerOf p r)
 answer-refused p q h = h ∙ ap (λ (r : Reading). answerReply (answerOf p r)) (sym q)
 
-pub answer-unwritten : (p : DataType → Bool) (r : Reading) {e : Error} {d : Written} {a : Reply} → d ≡ Written.Refused e → d ≡ writtenOf r → a ≡ checkReply (refused e) → a ≡ answerReply (answerOf p r)
+pub answer-unwritten : (p : DataType → Bool) (r : Reading) {e : Error} {d : Written} {a : Reply} → d ≡ Written.Refused e → d ≡ writtenOf r → a ≡ checkReply (Checked.Refused e) → a ≡ answerReply (answerOf p r)
 answer-unwritten p r q f h = answer-refused p (written-refused r (sym q ∙ f)) h
 
 -- by the kinds that stand in the bytes

@@ -10,7 +10,8 @@ use Rattle.flat.specs.Reader.{mapO}
 use Rattle.encoding.specs.Answer.{fittingBytes}
 use Rattle.datatypes.specs.Inner.{innerDtype, leafDtype, arrayLeafDtype}
 use Rattle.datatypes_inner.specs.Nodes.{innerNodes, leafNodes, arrayLeafNodes}
-use Rattle.capi.specs.Reply.{EncodeReply}
+use Rattle.datatypes_inner.specs.declared.Inner.{Inner}
+use Rattle.capi.specs.Reply.{innerReply, EncodeReply}
 use Rattle.capi.specs.declared.Reply.{Reply}
 use Rattle.capi.specs.declared.part.Part.{Part}
 
@@ -33,5 +34,5 @@ partReading part (type t) = mapO type (part t)
 
 -- What the call comes to: None has number 0 and value 0 and writes nothing.
 abbrev pub PartReply : ℕ → Option Reading → (out out′ : List ℕ) → Reply → Type 0
-PartReply w none out out′ reply = (reply ≡ record { number = 0; value = 0 }) × (out′ ≡ out)
+PartReply w none out out′ reply = (reply ≡ innerReply Inner.Nothing) × (out′ ≡ out)
 PartReply w (some r) out out′ reply = EncodeReply w (fittingBytes w (length out) r) out out′ reply

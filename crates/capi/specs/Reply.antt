@@ -3,21 +3,21 @@ use mathlib.Core.Path.{_≡_}
 use mathlib.Core.List.{List}
 use mathlib.Core.Option.{Option}
 use Prim.Native.Nat.{ℕ}
-use Rattle.flat.specs.Refusal.{numberOf}
-use Rattle.flat.specs.Tree.{DataType, size}
-use Rattle.flat.specs.Reading.{Reading, refused, type}
-use Rattle.flat.specs.Output.{kindsOver, argsOver}
-use Rattle.encoding.specs.Encoding.{encodedSize}
-use Rattle.encoding.specs.Answer.{bytesOver}
+use Rattle.flat.specs.Reading.{Reading, checkedNumber, checkedValue}
+use Rattle.flat.specs.Output.{kindsOver, argsOver, writtenOf, writtenNumber, writtenValue}
+use Rattle.flat.specs.declared.Checked.{Checked}
+use Rattle.flat.specs.declared.Written.{Written}
+use Rattle.encoding.specs.Answer.{encodedOf, encodedNumber, encodedValue, bytesOver}
 use Rattle.encoding.specs.declared.Encoded.{Encoded}
 use Rattle.datatypes.specs.Answer.{answerNumber, answerValue}
 use Rattle.datatypes.specs.declared.answer.Answer.{Answer}
-use Rattle.datatypes.specs.TimeUnit.{unitNumber}
+use Rattle.datatypes.specs.TimeUnit.{unitAnswerNumber, unitAnswerValue}
 use Rattle.datatypes.specs.declared.time_unit.Unit.{Unit}
+use Rattle.datatypes_inner.specs.Part.{innerNumber, innerValue}
+use Rattle.datatypes_inner.specs.declared.Inner.{Inner}
 use Rattle.datatypes_cast.specs.Verdict.{verdictNumber, verdictValue}
 use Rattle.datatypes_cast.specs.declared.Verdict.{Verdict}
 use Rattle.datatypes_cast.specs.declared.dtype.Cast.{Cast}
-use Rattle.utils.specs.TimeUnits.{getTimeUnits}
 use Rattle.utils.specs.Join.{joinedOf, joinedNumber, joinedValue, kindsFound, argsFound}
 use Rattle.utils.specs.declared.join.Joined.{Joined}
 use Rattle.utils_report.specs.Report.{reportNumber, reportValue}
@@ -26,18 +26,12 @@ use Rattle.channels.specs.Merge.{mergedNumber, mergedValue}
 use Rattle.channels.specs.declared.Merged.{Merged}
 use Rattle.channels.specs.declared.Outcome.{Outcome}
 use Rattle.encoding_join.specs.Join.{joinedBytes, bytesFound}
-use Rattle.flat.specs.declared.Written.{Written}
 use Rattle.capi.specs.declared.Reply.{Reply}
 use Rattle.capi.specs.declared.channel.TypesReply.{TypesReply}
 
--- a refusal's number with value 0, or 0 with what the call says of the type
-abbrev pub replyOf : (DataType → ℕ) → Reading → Reply
-replyOf value (refused e) = record { number = numberOf e; value = 0 }
-replyOf value (type t) = record { number = 0; value = value t }
-
--- `lz_check` says no more than that there is a type
-abbrev pub checkReply : Reading → Reply
-checkReply = replyOf (λ t. 0)
+-- no more than that there is a type
+abbrev pub checkReply : Checked → Reply
+checkReply c = record { number = checkedNumber c; value = checkedValue c }
 
 -- yes or no
 abbrev pub answerReply : Answer → Reply
@@ -47,6 +41,10 @@ answerReply a = record { number = answerNumber a; value = answerValue a }
 abbrev pub verdictReply : Verdict → Reply
 verdictReply v = record { number = verdictNumber v; value = verdictValue v }
 
+-- the number of nodes of a part, 0 for None
+abbrev pub innerReply : Inner → Reply
+innerReply a = record { number = innerNumber a; value = innerValue a }
+
 -- the verdict of a cast whose types were checked before
 abbrev pub verdictOf : Cast → Verdict
 verdictOf Cast.No = Verdict.No
@@ -55,19 +53,15 @@ verdictOf Cast.NoVerdict = Verdict.NoVerdict
 
 -- the number of bytes written
 abbrev pub bytesReply : Encoded → Reply
-bytesReply (Encoded.Bytes n) = record { number = 0; value = n }
-bytesReply (Encoded.Refused e) = record { number = numberOf e; value = 0 }
+bytesReply a = record { number = encodedNumber a; value = encodedValue a }
 
--- the coarser of two units, where both are units
-abbrev pub unitsReply : Unit → Unit → Reply
-unitsReply (Unit.Refused e) right = record { number = numberOf e; value = 0 }
-unitsReply (Unit.Of l) (Unit.Refused e) = record { number = numberOf e; value = 0 }
-unitsReply (Unit.Of l) (Unit.Of r) = record { number = 0; value = unitNumber (getTimeUnits l r) }
+-- the number of a unit
+abbrev pub unitReply : Unit → Reply
+unitReply a = record { number = unitAnswerNumber a; value = unitAnswerValue a }
 
 -- the number of nodes written
 abbrev pub writtenReply : Written → Reply
-writtenReply (Written.Nodes n) = record { number = 0; value = n }
-writtenReply (Written.Refused e) = record { number = numberOf e; value = 0 }
+writtenReply a = record { number = writtenNumber a; value = writtenValue a }
 
 -- what a call answers that joins two types: the number of nodes or of bytes, 0 for None
 abbrev pub joinedReply : Joined → Reply
@@ -97,11 +91,11 @@ outcomeReply o = record { reply = mergedReply (o .answer); types = o .types }
 
 -- What a call comes to that writes a flat type: the number of nodes, and the two lent arrays, ks and xs before the call and ks′ and xs′ after it.
 pub record DecodeReply (r : Reading) (ks xs ks′ xs′ : List ℕ) (reply : Reply) : Type 0 where
-  pub replies : reply ≡ replyOf size r
+  pub replies : reply ≡ writtenReply (writtenOf r)
   pub kinds : ks′ ≡ kindsOver r ks
   pub args : xs′ ≡ argsOver r xs
 
 -- What a call comes to that encodes a type: the number of bytes, and the lent bytes, out before the call and out′ after it.
 pub record EncodeReply (w : ℕ) (r : Reading) (out out′ : List ℕ) (reply : Reply) : Type 0 where
-  pub replies : reply ≡ replyOf (λ t. encodedSize w (size t)) r
+  pub replies : reply ≡ bytesReply (encodedOf w r)
   pub bytes : out′ ≡ bytesOver w r out

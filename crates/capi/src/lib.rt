@@ -10,12 +10,17 @@ mod time_unit;
 
 ghost use mathlib.Core.Path.{_≡_};
 ghost use lib.ListN.{length};
-ghost use Rattle.flat.specs.Reading.{reading, refused};
+ghost use Rattle.flat.specs.Reading.{reading, checkedOf};
 ghost use Rattle.flat.specs.Output.{fitting};
+ghost use Rattle.flat.specs.declared.Checked.{Checked};
 ghost use Rattle.encoding.specs.Encoding.{decoding};
 ghost use Rattle.encoding.specs.Answer.{fittingBytes};
 ghost use Rattle.datatypes.specs.Answer.{yesNo};
-ghost use Rattle.capi.specs.Reply.{checkReply, answerReply, writtenReply, bytesReply, DecodeReply, EncodeReply};
+ghost use Rattle.capi.specs.Reply.{checkReply, answerReply, verdictReply, innerReply, writtenReply, bytesReply, DecodeReply, EncodeReply};
+use datatypes::answer;
+use datatypes::answer::Answer;
+use datatypes_cast::Verdict;
+use datatypes_inner::Inner;
 use encoding::Encoded;
 use encoding::Encoding;
 use flat::Checked;
@@ -30,32 +35,62 @@ pub struct Reply {
     pub value: u64,
 }
 
-fn refusal(e: Error) -> Reply
-    ensures { λ r. ⌜ r ≡ checkReply (refused e) ⌝ }
+fn check_reply(c: Checked) -> Reply
+    ensures { λ r. ⌜ r ≡ checkReply c ⌝ }
 {
     Reply {
-        number: e.number(),
-        value: 0,
+        number: c.number(),
+        value: c.value(),
+    }
+}
+
+fn refusal(e: Error) -> Reply
+    ensures { λ r. ⌜ r ≡ checkReply (Checked.Refused e) ⌝ }
+{
+    check_reply(Checked::Refused(e))
+}
+
+fn answer_reply(a: Answer) -> Reply
+    ensures { λ r. ⌜ r ≡ answerReply a ⌝ }
+{
+    Reply {
+        number: a.number(),
+        value: a.value(),
     }
 }
 
 fn yes_no(b: bool) -> Reply
     ensures { λ r. ⌜ r ≡ answerReply (yesNo b) ⌝ }
 {
-    let value = if b { 1 } else { 0 };
-    Reply { number: 0, value }
+    answer_reply(answer::yes_no(b))
+}
+
+fn verdict_reply(v: Verdict) -> Reply
+    ensures { λ r. ⌜ r ≡ verdictReply v ⌝ }
+{
+    Reply {
+        number: v.number(),
+        value: v.value(),
+    }
+}
+
+// The number of nodes of a part.
+fn inner_reply(inner: Inner) -> Reply
+    ensures { λ r. ⌜ r ≡ innerReply inner ⌝ }
+{
+    Reply {
+        number: inner.number(),
+        value: inner.value(),
+    }
 }
 
 // The number of nodes written.
 fn written(w: Written) -> Reply
     ensures { λ r. ⌜ r ≡ writtenReply w ⌝ }
 {
-    match w {
-        Written::Nodes(n) => Reply {
-            number: 0,
-            value: n as u64,
-        },
-        Written::Refused(e) => refusal(e),
+    Reply {
+        number: w.number(),
+        value: w.value(),
     }
 }
 
@@ -63,12 +98,9 @@ fn written(w: Written) -> Reply
 fn bytes(e: Encoded) -> Reply
     ensures { λ r. ⌜ r ≡ bytesReply e ⌝ }
 {
-    match e {
-        Encoded::Bytes(n) => Reply {
-            number: 0,
-            value: n as u64,
-        },
-        Encoded::Refused(e) => refusal(e),
+    Reply {
+        number: e.number(),
+        value: e.value(),
     }
 }
 
@@ -79,15 +111,9 @@ pub extern "C" fn lz_check(encoded: &[u8]) -> Reply
       nodes ← ⟦Flat::MAX_NODES⟧ .entry
       deep ← ⟦Flat::MAX_DEPTH⟧ .entry
       w ← ⟦Encoding::ARGUMENT_BYTES⟧ .entry
-      ⌜ r ≡ checkReply (decoding w nodes deep (now (encoded .entry))) ⌝ }
+      ⌜ r ≡ checkReply (checkedOf (decoding w nodes deep (now (encoded .entry)))) ⌝ }
 {
-    match encoding::check(encoded) {
-        Checked::Valid => Reply {
-            number: 0,
-            value: 0,
-        },
-        Checked::Refused(e) => refusal(e),
-    }
+    check_reply(encoding::check(encoded))
 }
 
 // Decodes a type to the front of kinds and args, and gives its number of nodes.

@@ -14,7 +14,9 @@ ghost use Rattle.capi.specs.Reply.{answerReply, verdictOf, verdictReply}
 ghost use Rattle.capi.specs.Lent.{OpensBoth, PairReply};
 use crate::Reply;
 use crate::refusal;
+use crate::verdict_reply;
 use crate::yes_no;
+use datatypes_cast::Verdict;
 use datatypes_cast::dtype::Cast;
 use datatypes_cast::dtype::node_cast;
 use datatypes_eq::nodes;
@@ -152,16 +154,14 @@ pub extern "C" fn lz_contains_dtype_recursive(left: &[u8], right: &[u8]) -> Repl
     contains_dtype_recursive_in(left, right, &mut left_args, &mut right_args)
 }
 
-// 0 no, 1 yes, 2 no verdict.
-fn verdict(c: Cast) -> Reply
-    ensures { λ r. ⌜ r ≡ verdictReply (verdictOf c) ⌝ }
+fn verdict(c: Cast) -> Verdict
+    ensures { λ r. ⌜ r ≡ verdictOf c ⌝ }
 {
-    let value = match c {
-        Cast::No => 0,
-        Cast::Yes(_, _) => 1,
-        Cast::NoVerdict => 2,
-    };
-    Reply { number: 0, value }
+    match c {
+        Cast::No => Verdict::No,
+        Cast::Yes(_, _) => Verdict::Yes,
+        Cast::NoVerdict => Verdict::NoVerdict,
+    }
 }
 
 fn can_cast_to_in(left: &[u8], right: &[u8], left_args: &mut [u64], right_args: &mut [u64]) -> Reply
@@ -176,12 +176,12 @@ fn can_cast_to_in(left: &[u8], right: &[u8], left_args: &mut [u64], right_args: 
       ⌜ PairReply w nodes (now (left .entry)) (now (right .entry)) (now («left_args» .entry)) (now («right_args» .entry)) (now («left_args» .exit)) (now («right_args» .exit)) (verdictReply (castOf (decoding w nodes deep (now (left .entry))) (decoding w nodes deep (now (right .entry))))) r ⌝ }
 {
     match open_both(left, right, left_args, right_args) {
-        Pair::Nodes(n, m) => verdict(node_cast(
+        Pair::Nodes(n, m) => verdict_reply(verdict(node_cast(
             &left[2..2 + n],
             &left_args[..n],
             &right[2..2 + m],
             &right_args[..m],
-        )),
+        ))),
         Pair::Refused(e) => refusal(e),
     }
 }

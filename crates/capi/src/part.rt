@@ -10,7 +10,9 @@ ghost use Rattle.datatypes_inner.specs.Shape.{shapeOf};
 ghost use Rattle.capi.specs.Parts.{partOf, partNodes, partReading, PartReply};
 use crate::Reply;
 use crate::bytes;
+use crate::inner_reply;
 use crate::refusal;
+use datatypes_inner::Inner;
 use datatypes_inner::Shape;
 use encoding::Encoding;
 use flat::Flat;
@@ -52,10 +54,7 @@ fn part_in(part: Part, encoded: &[u8], args: &mut [u64], out: &mut [u8]) -> Repl
             let values = &args[..n];
             let m = part_nodes(part, kinds);
             if m == 0 {
-                return Reply {
-                    number: 0,
-                    value: 0,
-                };
+                return inner_reply(Inner::Nothing);
             }
             let at = n - m;
             bytes(encoding::put(&kinds[at..], &values[at..], out))

@@ -2,6 +2,7 @@
 use mathlib.Core.Bool.{cond}
 use Prim.Native.Nat.{ℕ}
 use lib.Dec.{eqb}
+use Rattle.flat.specs.Refusal.{numberOf}
 use Rattle.flat.specs.declared.error.Error.the-variants.{Argument}
 use Rattle.datatypes.specs.declared.time_unit.TimeUnit.{TimeUnit}
 use Rattle.datatypes.specs.declared.time_unit.TimeUnit.the-variants.{Nanoseconds, Microseconds, Milliseconds}
@@ -21,3 +22,12 @@ unitOf n =
     (cond (eqb n (unitNumber Microseconds)) (Of Microseconds)
     (cond (eqb n (unitNumber Milliseconds)) (Of Milliseconds)
     (Refused Argument)))
+
+-- document 01's number of an answer, and the value beside it: the number of the unit
+abbrev pub unitAnswerNumber : Unit → ℕ
+unitAnswerNumber (Of u) = 0
+unitAnswerNumber (Refused e) = numberOf e
+
+abbrev pub unitAnswerValue : Unit → ℕ
+unitAnswerValue (Of u) = unitNumber u
+unitAnswerValue (Refused e) = 0

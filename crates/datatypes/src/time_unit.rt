@@ -1,6 +1,6 @@
 // Units of time, and their numbers in an argument.
 ghost use mathlib.Core.Path.{_≡_};
-ghost use Rattle.datatypes.specs.TimeUnit.{unitNumber, unitOf};
+ghost use Rattle.datatypes.specs.TimeUnit.{unitNumber, unitOf, unitAnswerNumber, unitAnswerValue};
 use flat::error::Error;
 
 pub enum TimeUnit {
@@ -23,6 +23,28 @@ impl TimeUnit {
             TimeUnit::Nanoseconds => 0,
             TimeUnit::Microseconds => 1,
             TimeUnit::Milliseconds => 2,
+        }
+    }
+}
+
+impl Unit {
+    // Document 01's number.
+    pub fn number(self) -> u64
+        ensures { λ r. ⌜ r ≡ unitAnswerNumber self ⌝ }
+    {
+        match self {
+            Unit::Of(_) => 0,
+            Unit::Refused(e) => e.number(),
+        }
+    }
+
+    // The value beside the number.
+    pub fn value(self) -> u64
+        ensures { λ r. ⌜ r ≡ unitAnswerValue self ⌝ }
+    {
+        match self {
+            Unit::Of(unit) => unit.number() as u64,
+            Unit::Refused(_) => 0,
         }
     }
 }

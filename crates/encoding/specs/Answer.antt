@@ -5,6 +5,7 @@ use mathlib.Core.List.{List}
 use Prim.Native.Nat.{ℕ}
 use lib.Dec.{leb}
 use lib.ListN.{length}
+use Rattle.flat.specs.Refusal.{numberOf}
 use Rattle.flat.specs.Tree.{size, kindsOf, argsOf}
 use Rattle.flat.specs.Reading.{Reading, refused, type, unless, reading}
 use Rattle.flat.specs.Output.{over, fitting, writtenOf, Writes}
@@ -35,6 +36,15 @@ fittingBytes w m (type t) = unless (leb (encodedSize w (size t)) m) OutputTooSho
 abbrev pub encodedOf : ℕ → Reading → Encoded
 encodedOf w (refused e) = Encoded.Refused e
 encodedOf w (type t) = Encoded.Bytes (encodedSize w (size t))
+
+-- its number, and the value beside it
+abbrev pub encodedNumber : Encoded → ℕ
+encodedNumber (Encoded.Bytes n) = 0
+encodedNumber (Encoded.Refused e) = numberOf e
+
+abbrev pub encodedValue : Encoded → ℕ
+encodedValue (Encoded.Bytes n) = n
+encodedValue (Encoded.Refused e) = 0
 
 -- the lent bytes after the call: the type's bytes over what they held, or all as they were where the call was refused
 unfoldable pub bytesOver : ℕ → Reading → List ℕ → List ℕ

@@ -8,7 +8,7 @@ ghost use lib.ListN.{length};
 ghost use Rattle.flat.specs.Reading.{checkedOf, rootOf, RootFits};
 ghost use Rattle.flat.specs.Output.{over};
 ghost use Rattle.encoding.specs.Encoding.{argsIn, decoding};
-ghost use Rattle.encoding.specs.Answer.{nodesIn, Opens, EncodeEnsures, DecodeEnsures, Puts};
+ghost use Rattle.encoding.specs.Answer.{nodesIn, encodedNumber, encodedValue, Opens, EncodeEnsures, DecodeEnsures, Puts};
 use flat::Checked;
 use flat::Flat;
 use flat::Root;
@@ -30,6 +30,28 @@ impl Encoding {
 pub enum Encoded {
     Bytes(usize),
     Refused(Error),
+}
+
+impl Encoded {
+    // Document 01's number.
+    pub fn number(self) -> u64
+        ensures { λ r. ⌜ r ≡ encodedNumber self ⌝ }
+    {
+        match self {
+            Encoded::Bytes(_) => 0,
+            Encoded::Refused(e) => e.number(),
+        }
+    }
+
+    // The value beside the number.
+    pub fn value(self) -> u64
+        ensures { λ r. ⌜ r ≡ encodedValue self ⌝ }
+    {
+        match self {
+            Encoded::Bytes(n) => n as u64,
+            Encoded::Refused(_) => 0,
+        }
+    }
 }
 
 // How many nodes an encoded type has; 0 where its length is not that of any.

@@ -10,7 +10,8 @@ ghost use mathlib.Core.List.{_∷_, []};
 ghost use Prim.Native.Nat.{_<_};
 ghost use lib.ListN.{length};
 ghost use Rattle.flat.specs.Reader.{nodeAt};
-ghost use Rattle.flat.specs.Reading.{kindsFit, argumentsFit, shaped, reading, checkedOf, rootOf, RootFits};
+ghost use Rattle.flat.specs.Reading.{kindsFit, argumentsFit, shaped, reading, checkedOf, checkedNumber, checkedValue, rootOf, rootNumber, rootKind, rootArg, RootFits};
+ghost use Rattle.flat.specs.Output.{writtenNumber, writtenValue};
 use argument::argument_fits;
 use error::Error;
 use kind::Kind;
@@ -33,16 +34,91 @@ pub enum Checked {
     Refused(Error),
 }
 
+impl Checked {
+    // Document 01's number.
+    pub fn number(self) -> u64
+        ensures { λ r. ⌜ r ≡ checkedNumber self ⌝ }
+    {
+        match self {
+            Checked::Valid => 0,
+            Checked::Refused(e) => e.number(),
+        }
+    }
+
+    // The value beside the number.
+    pub fn value(self) -> u64
+        ensures { λ r. ⌜ r ≡ checkedValue self ⌝ }
+    {
+        match self {
+            Checked::Valid => 0,
+            Checked::Refused(_) => 0,
+        }
+    }
+}
+
 // What a call answers that writes a type to two lent arrays: the number of nodes written.
 pub enum Written {
     Nodes(usize),
     Refused(Error),
 }
 
+impl Written {
+    // Document 01's number.
+    pub fn number(self) -> u64
+        ensures { λ r. ⌜ r ≡ writtenNumber self ⌝ }
+    {
+        match self {
+            Written::Nodes(_) => 0,
+            Written::Refused(e) => e.number(),
+        }
+    }
+
+    // The value beside the number.
+    pub fn value(self) -> u64
+        ensures { λ r. ⌜ r ≡ writtenValue self ⌝ }
+    {
+        match self {
+            Written::Nodes(n) => n as u64,
+            Written::Refused(_) => 0,
+        }
+    }
+}
+
 // The kind and the argument at the root of a type, which are all of it where it has no children.
 pub enum Root {
     Node(u8, u64),
     Refused(Error),
+}
+
+impl Root {
+    // Document 01's number.
+    pub fn number(self) -> u64
+        ensures { λ r. ⌜ r ≡ rootNumber self ⌝ }
+    {
+        match self {
+            Root::Node(_, _) => 0,
+            Root::Refused(e) => e.number(),
+        }
+    }
+
+    // The two values beside the number.
+    pub fn kind(self) -> u8
+        ensures { λ r. ⌜ r ≡ rootKind self ⌝ }
+    {
+        match self {
+            Root::Node(kind, _) => kind,
+            Root::Refused(_) => 0,
+        }
+    }
+
+    pub fn argument(self) -> u64
+        ensures { λ r. ⌜ r ≡ rootArg self ⌝ }
+    {
+        match self {
+            Root::Node(_, arg) => arg,
+            Root::Refused(_) => 0,
+        }
+    }
 }
 
 // Refusal 2 is not given.

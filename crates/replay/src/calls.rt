@@ -18,23 +18,17 @@ use crate::reader::to_bytes;
 use channels::ChannelTypes;
 use datatypes::answer::Answer;
 use datatypes::dtype;
-use datatypes::time_unit::TimeUnit;
-use datatypes::time_unit::Unit;
-use datatypes::time_unit::unit_of;
 use datatypes_cast::can_cast_to;
 use datatypes_eq::contains_dtype_recursive;
 use datatypes_eq::equal;
 use datatypes_inner::Inner;
-use flat::Checked;
 use flat::Flat;
 use flat::error::Error;
 use utils_report::join_report;
 
 fn is_checked(kinds: &[u8], args: &[u64], recorded: &[u64]) -> bool {
-    match flat::check(kinds, args) {
-        Checked::Valid => is_reply(recorded, 0, 0),
-        Checked::Refused(e) => is_reply(recorded, e.number(), 0),
-    }
+    let checked = flat::check(kinds, args);
+    is_reply(recorded, checked.number(), checked.value())
 }
 
 fn predicate(entry: u64, kinds: &[u8], args: &[u64]) -> Answer {
@@ -63,17 +57,11 @@ fn is_part(inner: Inner, kinds: &[u8], args: &[u64], recorded: &[u64]) -> bool {
     }
     let room = recorded[0];
     let answer = &recorded[1..];
-    match inner {
-        Inner::Nodes(n) => {
-            let nodes = n as u64;
-            if nodes > room {
-                return is_reply(answer, Error::OutputTooShort.number(), 0);
-            }
-            is_answer(answer, 0, nodes, kinds, args)
-        }
-        Inner::Nothing => is_answer(answer, 0, 0, kinds, args),
-        Inner::Refused(e) => is_answer(answer, e.number(), 0, kinds, args),
+    let nodes = inner.value();
+    if nodes > room {
+        return is_reply(answer, Error::OutputTooShort.number(), 0);
     }
+    is_answer(answer, inner.number(), nodes, kinds, args)
 }
 
 fn is_inner(entry: u64, kinds: &[u8], args: &[u64], recorded: &[u64]) -> bool {
@@ -273,10 +261,6 @@ fn two_types(entry: u64, line: &[u64]) -> bool {
     }
 }
 
-fn unit_number(unit: TimeUnit) -> u64 {
-    unit.number() as u64
-}
-
 fn two_units(line: &[u64]) -> bool {
     if line.len() < 2 {
         return false;
@@ -289,14 +273,8 @@ fn two_units(line: &[u64]) -> bool {
     if right > 255 {
         return false;
     }
-    let recorded = &line[2..];
-    match unit_of(left as u8) {
-        Unit::Of(l) => match unit_of(right as u8) {
-            Unit::Of(r) => is_reply(recorded, 0, unit_number(utils::get_time_units(l, r))),
-            Unit::Refused(e) => is_reply(recorded, e.number(), 0),
-        },
-        Unit::Refused(e) => is_reply(recorded, e.number(), 0),
-    }
+    let unit = utils::coarser_unit(left as u8, right as u8);
+    is_reply(&line[2..], unit.number(), unit.value())
 }
 
 // Whether the port answers a call as a line has it, of which this is what follows the entry point's number.

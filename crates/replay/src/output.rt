@@ -76,20 +76,6 @@ fn join(
     }
 }
 
-fn number(written: Written) -> u64 {
-    match written {
-        Written::Nodes(_) => 0,
-        Written::Refused(e) => e.number(),
-    }
-}
-
-fn nodes(written: Written) -> usize {
-    match written {
-        Written::Nodes(n) => n,
-        Written::Refused(_) => 0,
-    }
-}
-
 // Whether the answer and the result, of so many nodes, are the recorded ones, and past the result nothing is changed.
 fn is_written(
     number: u64,
@@ -139,8 +125,8 @@ pub fn is_built(form: Form, kinds: &[u8], args: &[u64], recorded: &[u64]) -> boo
         &mut out_args[0..room],
     );
     is_written(
-        number(written),
-        nodes(written),
+        written.number(),
+        written.value() as usize,
         &out_kinds,
         &out_args,
         from(recorded, 1),

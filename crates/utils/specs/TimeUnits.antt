@@ -4,6 +4,7 @@ use lib.Dec.{eqb}
 use Rattle.datatypes.specs.TimeUnit.{unitNumber}
 use Rattle.datatypes.specs.declared.time_unit.TimeUnit.{TimeUnit}
 use Rattle.datatypes.specs.declared.time_unit.TimeUnit.the-variants.{Nanoseconds, Microseconds, Milliseconds}
+use Rattle.datatypes.specs.declared.time_unit.Unit.{Unit}
 
 -- the source's pattern of one unit
 abbrev pub isUnit : TimeUnit → TimeUnit → Bool
@@ -15,3 +16,9 @@ getTimeUnits l r =
     cond (isUnit Nanoseconds l && isUnit Microseconds r) Microseconds
     (cond (isUnit Milliseconds r) Milliseconds
     l)
+
+-- the coarser of two units, where both are units; the left is looked at first
+abbrev pub coarserOf : Unit → Unit → Unit
+coarserOf (Unit.Refused e) right = Unit.Refused e
+coarserOf (Unit.Of l) (Unit.Refused e) = Unit.Refused e
+coarserOf (Unit.Of l) (Unit.Of r) = Unit.Of (getTimeUnits l r)

@@ -12,21 +12,21 @@ returns : tie.Need-returns
 returns c = rw (c .enum-told .given .1) (record { answers = refl; bytes = refl })
 
 returns-2 : tie.Need-returns-2
-returns-2 c = joins-refused 8 _ (ap resultOf (c .before .found .given .1))
+returns-2 c = joins-refused _ _ (ap resultOf (c .before .found .given .1))
 
 returns-3 : tie.Need-returns-3
 unfolding kindsOf argsOf
 returns-3 c =
     let at = c .before .before .before .before .before in
     let found = at .before .before .before .before .before .found2 in
-    rw (found .given .1) (joins-bytes 8 (puts-type (leaf (found .given .0 .0) (found .given .0 .1 .0)) refl refl (at .put .ensures)) (c .before .size .given .1))
+    rw (found .given .1) (joins-bytes _ (puts-type (leaf (found .given .0 .0) (found .given .0 .1 .0)) refl refl (at .put .ensures)) (c .before .size .given .1))
 
 returns-4 : tie.Need-returns-4
 unfolding kindsOf argsOf
 returns-4 c =
     let at = c .before .before .before .before .before in
     let found = at .before .before .before .before .before .found2 in
-    rw (found .given .1) (joins-refusal 8 (puts-type (leaf (found .given .0 .0) (found .given .0 .1 .0)) refl refl (at .put .ensures)) (c .before .e .given .1))
+    rw (found .given .1) (joins-refusal _ (puts-type (leaf (found .given .0 .0) (found .given .0 .1 .0)) refl refl (at .put .ensures)) (c .before .e .given .1))
 
 pub put-spec : {M : Type 1} → statement M
 put-spec =

@@ -8,8 +8,8 @@ use Rattle.capi.proofs.Builds.{build-refused, physical-refused, form-pr
 use Rattle.capi.proofs.build.physical_in.Statement.{statement}
 use Rattle.capi.proofs.build.physical_in.Tie as tie
 
--- the bytes are as long as their nodes take, and there is room for the arguments
-fits : (c : tie.After-known-told) → Fits 8 (c .before .n .given .0 .0) (c .before .before .before .before .before .before .before .before .before .before .before .before .args .encoded .now) (c .before .before .before .before .before .«open» .last .1 .0)
+-- the kinds stand in the bytes, and there is room for the arguments
+fits : (c : tie.After-known-told) → Fits (c .before .n .given .0 .0) (c .before .before .before .before .before .before .before .before .before .before .before .before .args .encoded .now) (c .before .before .before .before .before .«open» .last .1 .0)
 fits c = fits-of (opened (c .before .before .before .before .before .«open» .ensures) (c .before .n .given .1))
 
 put-form-requires : tie.Need-put-form-requires

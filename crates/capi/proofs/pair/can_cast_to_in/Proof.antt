@@ -1,7 +1,7 @@
 -- `capi::pair::can_cast_to_in` meets its contract. Assumes nothing.
 use borrow.Author.Needs.{needs}
 use native.Mathlib.Omega.{arith}
-use mathlib.Core.Path.{refl, sym}
+use mathlib.Core.Path.{refl, sym, ap, _∙_}
 use Rattle.capi.proofs.Replies.{Fits, fits-of, args-length}
 use Rattle.datatypes_cast.specs.Verdict.{castOf}
 use Rattle.capi.specs.Reply.{verdictReply}
@@ -9,18 +9,18 @@ use Rattle.capi.proofs.Pairs.{left-opened, right-opened, cast-reply, pa
 use Rattle.capi.proofs.pair.can_cast_to_in.Statement.{statement}
 use Rattle.capi.proofs.pair.can_cast_to_in.Tie as tie
 
--- both as long as their nodes take, with room for their arguments
-left-fits : (c : tie.After-known-told) → Fits 8 (c .before .n .given .0 .0) (c .before .before .before .before .before .before .before .before .before .before .before .before .before .before .args .left .now) (c .before .before .before .before .before .before .before .open-both .last .1 .1 .0)
+-- the kinds of both stand in the bytes, and there is room for their arguments
+left-fits : (c : tie.After-known-told) → Fits (c .before .n .given .0 .0) (c .before .before .before .before .before .before .before .before .before .before .before .before .before .before .args .left .now) (c .before .before .before .before .before .before .before .open-both .last .1 .1 .0)
 left-fits c = fits-of (left-opened (c .before .before .before .before .before .before .before .open-both .ensures) (c .before .n .given .1))
 
-right-fits : (c : tie.After-known-told) → Fits 8 (c .before .n .given .0 .1 .0) (c .before .before .before .before .before .before .before .before .before .before .before .before .before .before .args .right .now) (c .before .before .before .before .before .before .before .open-both .last .1 .1 .1 .0)
+right-fits : (c : tie.After-known-told) → Fits (c .before .n .given .0 .1 .0) (c .before .before .before .before .before .before .before .before .before .before .before .before .before .before .args .right .now) (c .before .before .before .before .before .before .before .open-both .last .1 .1 .1 .0)
 right-fits c = fits-of (right-opened (c .before .before .before .before .before .before .before .open-both .ensures) (c .before .n .given .1))
 
 node-cast-requires : tie.Need-node-cast-requires
 node-cast-requires c κs = let o = c .before .before .before .before .before .before .before .before .before .before .before .open-both .ensures in let q = c .before .before .before .before .before .n .given .1 in (left-opened o q .parts .valid, right-opened o q .parts .valid)
 
 returns : tie.Need-returns
-returns c = let o = c .before .before .before .before .before .before .before .before .before .before .before .before .before .open-both .ensures in let q = c .before .before .before .before .before .before .before .n .given .1 in cast-reply o q _ (c .before .node-cast .ensures) (c .verdict .ensures)
+returns c = let o = c .before .before .before .before .before .before .before .before .before .before .before .before .before .before .open-both .ensures in let q = c .before .before .before .before .before .before .before .before .n .given .1 in cast-reply o q _ (c .before .before .node-cast .ensures) (c .verdict-reply .ensures ∙ ap verdictReply (c .before .verdict .ensures))
 
 returns-2 : tie.Need-returns-2
 returns-2 c = pair-refused (c .before .before .before .before .before .before .before .before .open-both .ensures) (λ r q. verdictReply (castOf r q)) (λ e q. refl) (λ t e. refl) (c .before .before .e .given .1) (c .refusal .ensures)
@@ -34,7 +34,7 @@ can-cast-to-in-spec =
     (λ c. search needs) (λ c. omega (arith, right-fits (c .before .before))) (λ c. right-fits (c .before .before .before) .room)
     (λ c. sym (args-length (right-fits (c .before .before .before .before))))
     node-cast-requires
-    (λ c κs. search needs) (λ c. search needs) (λ c κs. search needs) (λ c. search needs) (λ c. search needs)
+    (λ c κs. search needs) (λ c κs. search needs) (λ c. search needs) (λ c κs. search needs) (λ c. search needs) (λ c. search needs)
     returns
     (λ c. search needs) (λ c. search needs)
     returns-2)

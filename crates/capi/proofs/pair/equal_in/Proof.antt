@@ -10,11 +10,11 @@ use Rattle.capi.proofs.Pairs.{left-opened, right-opened, equal-reply, p
 use Rattle.capi.proofs.pair.equal_in.Statement.{statement}
 use Rattle.capi.proofs.pair.equal_in.Tie as tie
 
--- both as long as their nodes take, with room for their arguments
-left-fits : (c : tie.After-known-told) → Fits 8 (c .before .n .given .0 .0) (c .before .before .before .before .before .before .before .before .before .before .before .before .before .before .args .left .now) (c .before .before .before .before .before .before .before .open-both .last .1 .1 .0)
+-- the kinds of both stand in the bytes, and there is room for their arguments
+left-fits : (c : tie.After-known-told) → Fits (c .before .n .given .0 .0) (c .before .before .before .before .before .before .before .before .before .before .before .before .before .before .args .left .now) (c .before .before .before .before .before .before .before .open-both .last .1 .1 .0)
 left-fits c = fits-of (left-opened (c .before .before .before .before .before .before .before .open-both .ensures) (c .before .n .given .1))
 
-right-fits : (c : tie.After-known-told) → Fits 8 (c .before .n .given .0 .1 .0) (c .before .before .before .before .before .before .before .before .before .before .before .before .before .before .args .right .now) (c .before .before .before .before .before .before .before .open-both .last .1 .1 .1 .0)
+right-fits : (c : tie.After-known-told) → Fits (c .before .n .given .0 .1 .0) (c .before .before .before .before .before .before .before .before .before .before .before .before .before .before .args .right .now) (c .before .before .before .before .before .before .before .open-both .last .1 .1 .1 .0)
 right-fits c = fits-of (right-opened (c .before .before .before .before .before .before .before .open-both .ensures) (c .before .n .given .1))
 
 starts-with-requires : tie.Need-starts-with-requires

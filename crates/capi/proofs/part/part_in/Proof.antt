@@ -8,12 +8,12 @@ use Rattle.capi.proofs.Parts.{part-within, part-puts, part-none, part-s
 use Rattle.capi.proofs.part.part_in.Statement.{statement}
 use Rattle.capi.proofs.part.part_in.Tie as tie
 
--- the bytes are as long as their nodes take, and there is room for the arguments
-fits : (c : tie.After-known-told) → Fits 8 (c .before .n .given .0 .0) (c .before .before .before .before .before .before .before .before .before .before .args .encoded .now) (c .before .before .before .before .before .«open» .last .1 .0)
+-- the kinds stand in the bytes, and there is room for the arguments
+fits : (c : tie.After-known-told) → Fits (c .before .n .given .0 .0) (c .before .before .before .before .before .before .before .before .before .before .args .encoded .now) (c .before .before .before .before .before .«open» .last .1 .0)
 fits c = fits-of (opened (c .before .before .before .before .before .«open» .ensures) (c .before .n .given .1))
 
 returns : tie.Need-returns
-returns c = let o = opened (c .before .before .before .before .before .before .before .before .before .«open» .ensures) (c .before .before .before .before .before .n .given .1) in (part-none o (c .before .before .before .before .before .before .before .before .before .before .before .before .before .before .args .part) (c .before .part-nodes .ensures) (c .before .before .before .before .before .before .before .before .before .before .before .before .before .before .args .out .now) (c .if1 .taken), c .before .before .before .before .before .before .before .before .before .«open» .ensures .args)
+returns c = let o = opened (c .before .before .before .before .before .before .before .before .before .before .«open» .ensures) (c .before .before .before .before .before .before .n .given .1) in (part-none o (c .before .before .before .before .before .before .before .before .before .before .before .before .before .before .before .args .part) (c .before .before .part-nodes .ensures) (c .before .before .before .before .before .before .before .before .before .before .before .before .before .before .before .args .out .now) (c .before .if1 .taken) (c .inner-reply .ensures), c .before .before .before .before .before .before .before .before .before .before .«open» .ensures .args)
 
 put-requires : tie.Need-put-requires
 put-requires c κs = let o = opened (c .before .before .before .before .before .before .before .before .before .before .before .before .«open» .ensures) (c .before .before .before .before .before .before .before .before .n .given .1) in part-puts o _
@@ -29,7 +29,7 @@ part-in-spec =
     tie.close
     (tie.spec
     (λ c κs. search needs) (λ c. search needs) (λ c. omega (arith, fits c)) (λ c. search needs) (λ c. search needs) (λ c. omega (arith, fits c)) (λ c. fits (c .before) .room)
-    (λ c. sym (args-length (fits (c .before .before)))) (λ c κs. search needs) (λ c. search needs)
+    (λ c. sym (args-length (fits (c .before .before)))) (λ c κs. search needs) (λ c κs. search needs) (λ c. search needs)
     returns
     (λ c. let o = opened (c .before .before .before .before .before .before .before .before .before .«open» .ensures) (c .before .before .before .before .before .n .given .1) in part-within o (c .before .before .before .before .before .before .before .before .before .before .before .before .before .before .args .part) (c .before .part-nodes .ensures))
     (λ c. search needs) (λ c. search needs) (λ c. search needs) (λ c. omega (arith, fits (c .before .before .before .before .before)))

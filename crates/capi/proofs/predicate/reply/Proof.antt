@@ -1,17 +1,17 @@
 -- `capi::predicate::reply` meets its contract. Assumes nothing.
 use borrow.Author.Needs.{needs}
 use native.Mathlib.Omega.{arith}
-use mathlib.Core.Path.{_≡_}
+use Prim.Native.Nat.{_+_, _≤_}
 use lib.ListN.{length}
 use Rattle.datatypes.specs.Predicates.{predicateOf}
-use Rattle.encoding.specs.Encoding.{encodedSize, decoding}
+use Rattle.encoding.specs.Encoding.{decoding}
 use Rattle.encoding.proofs.Opening.{written-form}
-use Rattle.capi.proofs.Replies.{some-kind, predicate-reply, answer-unwritten}
+use Rattle.capi.proofs.Replies.{kinds-within, some-kind, predicate-reply, answer-unwritten}
 use Rattle.capi.proofs.predicate.reply.Statement.{statement}
 use Rattle.capi.proofs.predicate.reply.Tie as tie
 
-right-size : (c : tie.After-known-told) → length (c .before .before .before .before .before .args .encoded .now) ≡ encodedSize 8 (c .before .n .given .0 .0)
-right-size c = written-form (c .before .n .given .1) (c .before .before .before .nodes .ensures) .sized .size
+within : (c : tie.After-known-told) → 2 + c .before .n .given .0 .0 ≤ length (c .before .before .before .before .before .args .encoded .now)
+within c = kinds-within (written-form (c .before .n .given .1) (c .before .before .before .nodes .ensures) .sized)
 
 told-by-requires : tie.Need-told-by-requires
 told-by-requires c κs = some-kind (written-form (c .before .before .n .given .1) (c .before .before .before .before .nodes .ensures))
@@ -27,7 +27,7 @@ reply-spec =
     tie.close
     (tie.spec
     (λ c κs. search needs) (λ c. search needs)
-    (λ c. omega (arith, right-size c)) (λ c. search needs) (λ c. search needs) (λ c. omega (arith, right-size c))
+    (λ c. omega (arith, within c)) (λ c. search needs) (λ c. search needs) (λ c. omega (arith, within c))
     told-by-requires (λ c κs. search needs) (λ c. search needs) (λ c κs. search needs)
     returns
     returns-2)

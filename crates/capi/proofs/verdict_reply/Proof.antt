@@ -1,7 +1,7 @@
--- `capi::flat_type::verdict_reply` meets its contract. Assumes nothing.
+-- `capi::verdict_reply` meets its contract. Assumes nothing.
 use borrow.Author.Needs.{needs}
-use Rattle.capi.proofs.flat_type.verdict_reply.Statement.{statement}
-use Rattle.capi.proofs.flat_type.verdict_reply.Tie as tie
+use Rattle.capi.proofs.verdict_reply.Statement.{statement}
+use Rattle.capi.proofs.verdict_reply.Tie as tie
 
 returns : tie.Need-returns
 returns c = λ i. record { number = c .before .number .ensures i; value = c .value .ensures i }
