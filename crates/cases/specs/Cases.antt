@@ -11,7 +11,7 @@ use lib.ListN.{replicate}
 use Rattle.flat.specs.Kind
 use Rattle.flat.specs.Tree.{DataType, leaf, list, array, struct, Fields, empty, field, kindsOf, argsOf}
 use Rattle.flat.specs.Reading.{type}
-use Rattle.cases.specs.Question.{Limits, Call, check, check-encoded, get-supertype, materialize-unknown, merge, Asked, supertype, lossless, smallest-dyn-int, can-cast, materialize, merge-all, number-of, encoded, codes, Answered, joined, kind, verdict, result, merged, number, numbers, answer}
+use Rattle.cases.specs.Question.{Limits, Call, check, check-encoded, get-supertype, materialize-unknown, merge, Asked, supertype, lossless, smallest-dyn-int, can-cast, materialize, merge-all, number-of, root, encoded, decoded, codes, Answered, joined, kind, verdict, result, merged, number, numbers, answer}
 
 -- a place in document 01: the corner of that number, "Why a call is turned down", or "Flat types and stored sheets"
 pub data Place : Type 0 where
@@ -33,8 +33,8 @@ refusal n call = record { place = refusals; asked = number-of call; answered = n
 abbrev pub passes : Call → Case
 passes = refusal 0
 
-abbrev pub stored : Asked → List ℕ → Case
-stored q ns = record { place = flat-types; asked = q; answered = numbers ns }
+abbrev pub stored : Asked → Answered → Case
+stored q a = record { place = flat-types; asked = q; answered = a }
 
 abbrev pub joins : DataType → Answered
 joins t = joined (some (type t))
@@ -298,11 +298,18 @@ kinds =
     ∷ Kind.Field
     ∷ []
 
--- the codes of the kinds, and the stored sheet of List(Int16)
+-- the stored sheet of List(Int16)
+abbrev pub sheet : List ℕ
+sheet = 0x02 ∷ 0x00 ∷ 0x1C ∷ 0x08 ∷ replicate 16 0
+
+-- the codes of the kinds; a root by its number, kind and argument, and one that is refused; the stored sheet both ways
 abbrev pub sheets : List Case
 sheets =
-    stored (codes kinds) (0 ∷ 1 ∷ 2 ∷ 3 ∷ 4 ∷ 5 ∷ 6 ∷ 7 ∷ 8 ∷ 9 ∷ 10 ∷ 11 ∷ 12 ∷ 13 ∷ 14 ∷ 15 ∷ 16 ∷ 17 ∷ 18 ∷ 19 ∷ 20 ∷ 21 ∷ 22 ∷ 23 ∷ 24 ∷ 25 ∷ 26 ∷ 27 ∷ 28 ∷ 29 ∷ 30 ∷ 31 ∷ [])
-    ∷ stored (encoded (list (of Kind.Int16))) (0x02 ∷ 0x00 ∷ 0x1C ∷ 0x08 ∷ replicate 16 0)
+    stored (codes kinds) (numbers (0 ∷ 1 ∷ 2 ∷ 3 ∷ 4 ∷ 5 ∷ 6 ∷ 7 ∷ 8 ∷ 9 ∷ 10 ∷ 11 ∷ 12 ∷ 13 ∷ 14 ∷ 15 ∷ 16 ∷ 17 ∷ 18 ∷ 19 ∷ 20 ∷ 21 ∷ 22 ∷ 23 ∷ 24 ∷ 25 ∷ 26 ∷ 27 ∷ 28 ∷ 29 ∷ 30 ∷ 31 ∷ []))
+    ∷ stored (root (array (2 ^ 64 - 1) (of Kind.Int8))) (numbers (0 ∷ 29 ∷ (2 ^ 64 - 1) ∷ []))
+    ∷ stored (root (of Kind.Array)) (numbers (4 ∷ 0 ∷ 0 ∷ []))
+    ∷ stored (encoded (list (of Kind.Int16))) (numbers sheet)
+    ∷ stored (decoded sheet) (gives (list (of Kind.Int16)))
     ∷ []
 
 -- the table, for any flags and any fields

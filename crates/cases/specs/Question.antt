@@ -6,7 +6,7 @@ use Prim.Native.Nat.{ℕ}
 use lib.IntN.{ℤ}
 use lib.ListN.{getD, replicate}
 use Rattle.flat.specs.Tree.{DataType, kindsOf, argsOf}
-use Rattle.flat.specs.Reading.{Reading, refused, type, reading, checkedOf, checkedNumber}
+use Rattle.flat.specs.Reading.{Reading, refused, type, reading, checkedOf, checkedNumber, rootOf, rootNumber, rootKind, rootArg}
 use Rattle.flat.specs.Output.{fitting, writtenOf, writtenNumber}
 use Rattle.encoding.specs.Encoding.{encoding, decoding}
 use Rattle.datatypes.specs.Cast.{canCastTo}
@@ -61,8 +61,11 @@ pub data Asked : Type 0 where
   merge-all : List DataType → Asked
   -- the number of a call
   number-of : Call → Asked
-  -- the bytes of a type
+  -- the root that is read from the arrays of a tree
+  root : DataType → Asked
+  -- the bytes of a type, and what bytes are
   encoded : DataType → Asked
+  decoded : List ℕ → Asked
   -- the codes of these kinds
   codes : List ℕ → Asked
 
@@ -85,6 +88,10 @@ abbrev pub typeIn : Reading → Option DataType
 typeIn (refused e) = none
 typeIn (type t) = some t
 
+-- what a call comes to that writes a type
+abbrev pub resultOf : Reading → Answered
+resultOf r = result (writtenNumber (writtenOf r)) (typeIn r)
+
 -- what `merge-all` answers, from these codes
 abbrev pub mergeAll : Limits → List ℕ → List DataType → List (ℕ × ℕ) × ℕ
 mergeAll l cs [] = ([], getD cs 0 0)
@@ -98,8 +105,10 @@ answer l (supertype implode toString t u) = joined (supertypeOf implode toString
 answer l (lossless t u) = joined (losslessOf t u)
 answer l (smallest-dyn-int v) = kind (materializeSmallestDynInt v)
 answer l (can-cast from to) = verdict (canCastTo from to)
-answer l (materialize allow t) = let r = materialized allow (type t) in result (writtenNumber (writtenOf r)) (typeIn r)
+answer l (materialize allow t) = resultOf (materialized allow (type t))
 answer l (merge-all ts) = let a = mergeAll l (replicate (l .channels) 0) ts in merged (a .0) (a .1)
 answer l (number-of call) = number (callNumber l call)
+answer l (root t) = let r = rootOf (readingOf l t) in numbers (rootNumber r ∷ rootKind r ∷ rootArg r ∷ [])
 answer l (encoded t) = numbers (encoding (l .width) (kindsOf t) (argsOf t))
+answer l (decoded s) = resultOf (decoding (l .width) (l .nodes) (l .deep) s)
 answer l (codes ks) = numbers ks

@@ -21,7 +21,7 @@ pub record CastLaws : Type 0 where
   pub no-field : (gs : Fields) → canCastTo (struct empty) (struct gs) ≡ some true
   -- corner 11: otherwise unequal numbers of fields are a no, whatever the fields are
   pub other-count : (fs gs : Fields) → (count fs ≡ 0 → ⊥) → (count fs ≡ count gs → ⊥) → canCastTo (struct fs) (struct gs) ≡ some false
-  -- corner 12: of as many fields on both sides, the first pair of types that is not a yes decides, whatever stands after it
+  -- corner 12: of as many fields on both sides, the first pair of types whose cast is not a yes decides, whatever comes after it
   pub first-decides : {before before′ : Fields} → AllCast before before′ → (name other : ℕ) (t u : DataType) (after after′ : Fields) → count after ≡ count after′ → (canCastTo t u ≡ some true → ⊥) → canCastTo (struct (append before (field name t after))) (struct (append before′ (field other u after′))) ≡ canCastTo t u
-  -- corner 12: where none is, the answer is yes
+  -- corner 12: where the cast of every pair is a yes, so is the answer
   pub all-cast : {fs gs : Fields} → AllCast fs gs → canCastTo (struct fs) (struct gs) ≡ some true
