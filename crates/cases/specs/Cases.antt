@@ -5,12 +5,13 @@ use mathlib.Core.Path.{_≡_}
 use mathlib.Core.Bool.{Bool, true, false}
 use mathlib.Core.List.{List, [], _∷_, _++_, map}
 use mathlib.Core.Option.{Option, none, some}
-use Prim.Native.Nat.{ℕ, zero, suc, _+_, _-_, _*_, _^_}
+use Prim.Native.Nat.{ℕ, _+_, _-_, _*_, _^_}
 use lib.IntN.{ℤ, pos, negsuc, negℤ}
 use lib.ListN.{replicate}
 use Rattle.flat.specs.Kind
 use Rattle.flat.specs.Tree.{DataType, leaf, list, array, struct, Fields, empty, field, kindsOf, argsOf}
 use Rattle.flat.specs.Reading.{type}
+use Rattle.flat.specs.Limits.{lists, fieldsOf}
 use Rattle.cases.specs.Question.{Limits, Call, check, check-encoded, get-supertype, materialize-unknown, merge, Asked, supertype, lossless, smallest-dyn-int, can-cast, materialize, merge-all, number-of, root, encoded, decoded, codes, Answered, joined, kind, verdict, result, merged, number, numbers, answer}
 
 -- a place in document 01: the corner of that number, "Why a call is turned down", or "Flat types and stored sheets"
@@ -80,15 +81,6 @@ one n t = struct (field n t empty)
 abbrev pub two : ℕ → DataType → DataType → DataType
 two n t u = struct (field n t (field (n + 1) u empty))
 
--- so many fields of Int8, and so many Lists over a type
-abbrev pub int8s : ℕ → Fields
-int8s zero = empty
-int8s (suc n) = field 0 (of Kind.Int8) (int8s n)
-
-abbrev pub lists : ℕ → DataType → DataType
-lists zero t = t
-lists (suc n) t = list (lists n t)
-
 -- the check of the arrays of a tree
 abbrev pub check-type : DataType → Call
 check-type t = check (kindsOf t) (argsOf t)
@@ -153,8 +145,8 @@ abbrev pub causes : Bool → Bool → List Case
 causes i s =
     -- 1: no node; one List over a Struct of 255 fields, and two; lengths that differ
     refusal 1 (check [] [])
-    ∷ passes (check-type (lists 1 (struct (int8s 255))))
-    ∷ refusal 1 (check-type (lists 2 (struct (int8s 255))))
+    ∷ passes (check-type (lists 1 (struct (fieldsOf 255 (of Kind.Int8)))))
+    ∷ refusal 1 (check-type (lists 2 (struct (fieldsOf 255 (of Kind.Int8)))))
     ∷ refusal 1 (check (Kind.Int8 ∷ []) [])
     ∷ refusal 1 (check (Kind.Int8 ∷ []) (0 ∷ 0 ∷ []))
     -- 1: a stored length under 2; no node; one byte less than 2 + 9 × n, as many, and one more

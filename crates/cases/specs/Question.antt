@@ -7,6 +7,7 @@ use lib.IntN.{ℤ}
 use lib.ListN.{getD, replicate}
 use Rattle.flat.specs.Tree.{DataType, kindsOf, argsOf}
 use Rattle.flat.specs.Reading.{Reading, refused, type, reading, checkedOf, checkedNumber, rootOf, rootNumber, rootKind, rootArg}
+use Rattle.flat.specs.Refusals.{numberGiven}
 use Rattle.flat.specs.Output.{fitting, writtenOf, writtenNumber}
 use Rattle.encoding.specs.Encoding.{encoding, decoding}
 use Rattle.datatypes.specs.Cast.{canCastTo}
@@ -43,7 +44,7 @@ readingOf l t = reading (l .nodes) (l .deep) (kindsOf t) (argsOf t)
 
 -- the number of a call's answer, by the definitions that its contract cites
 abbrev pub callNumber : Limits → Call → ℕ
-callNumber l (check ks xs) = checkedNumber (checkedOf (reading (l .nodes) (l .deep) ks xs))
+callNumber l (check ks xs) = numberGiven (l .nodes) (l .deep) ks xs
 callNumber l (check-encoded s) = checkedNumber (checkedOf (decoding (l .width) (l .nodes) (l .deep) s))
 callNumber l (get-supertype implode toString t u room) = joinedNumber (joinedOf (fittingFound room room (joining (supertypeOf implode toString) (readingOf l t) (readingOf l u))))
 callNumber l (materialize-unknown allow t room) = writtenNumber (writtenOf (fitting room room (materialized allow (readingOf l t))))

@@ -5,6 +5,7 @@ use Rattle.flat.specs.Argument.{argumentFits, ruleOf}
 use Rattle.flat.specs.Tree.{empty, field, count, headKind, headArg, size, depth, kindsOf, argsOf}
 use Rattle.flat.specs.Reader.{children, nodeAt, nodeIn}
 use Rattle.flat.specs.Reading.{lengthFits, kindsFit, argumentsFit, reading}
+use Rattle.flat.specs.Limits.{lists, fieldsOf}
 use Rattle.flat.specs.Output.{fitting}
 use Rattle.encoding.specs.Encoding.{littleEndian, number, argBytes, argsFrom, encoding, countIn, kindsIn, argsIn, sizeFits, decoding}
 use Rattle.datatypes.specs.Match.{among}
@@ -25,7 +26,7 @@ use Rattle.cases.proofs.cases_hold.Statement.{statement}
 use Rattle.cases.proofs.cases_hold.Tie as tie
 
 returns : tie.Need-returns
-unfolding argumentFits ruleOf count headKind headArg size depth kindsOf argsOf children nodeAt nodeIn lengthFits kindsFit argumentsFit reading fitting littleEndian number argBytes argsFrom encoding countIn kindsIn argsIn sizeFits decoding among isFloat isUnknownInt isSignedInteger isUnsignedInteger isInteger isPrimitiveNumeric isPrimitive isNested isString isUnknown equalNode equal castsWithBoolean beforeNested canCastTo valueOf materializeDynInt materializeDynIntPos materializeSmallestDynInt materialize materializeUnknown physicalLeaf physicalKind materialized joining choose floats signed unsigned mixed upcastWhere upcastOf lossless losslessOf unknownArms arms planOf smallestFitting dynNumber run inner supertypeWith knownSupertype supertype isListed decimalWithInteger pairChecked rootSupertype supertypeOf mergedWith mergedOf
+unfolding lists fieldsOf argumentFits ruleOf count headKind headArg size depth kindsOf argsOf children nodeAt nodeIn lengthFits kindsFit argumentsFit reading fitting littleEndian number argBytes argsFrom encoding countIn kindsIn argsIn sizeFits decoding among isFloat isUnknownInt isSignedInteger isUnsignedInteger isInteger isPrimitiveNumeric isPrimitive isNested isString isUnknown equalNode equal castsWithBoolean beforeNested canCastTo valueOf materializeDynInt materializeDynIntPos materializeSmallestDynInt materialize materializeUnknown physicalLeaf physicalKind materialized joining choose floats signed unsigned mixed upcastWhere upcastOf lossless losslessOf unknownArms arms planOf smallestFitting dynNumber run inner supertypeWith knownSupertype supertype isListed decimalWithInteger pairChecked rootSupertype supertypeOf mergedWith mergedOf
 returns c i true empty = refl
 returns c i false empty = refl
 returns c i true (field name t fs) = refl
