@@ -1,5 +1,6 @@
 -- Units of time (time_unit.rs) and their numbers in an argument. Assumes nothing: these are definitions.
 use mathlib.Core.Bool.{cond}
+use mathlib.Core.List.{List, [], _∷_}
 use Prim.Native.Nat.{ℕ}
 use lib.Dec.{eqb}
 use Rattle.flat.specs.declared.error.Error.the-variants.{Argument}
@@ -21,3 +22,9 @@ unitOf n =
     (cond (eqb n (unitNumber Microseconds)) (Of Microseconds)
     (cond (eqb n (unitNumber Milliseconds)) (Of Milliseconds)
     (Refused Argument)))
+
+-- `to_ascii`: "ns", "us" and "ms", each letter by its number in ASCII
+abbrev pub toAscii : TimeUnit → List ℕ
+toAscii Nanoseconds = 110 ∷ 115 ∷ []
+toAscii Microseconds = 117 ∷ 115 ∷ []
+toAscii Milliseconds = 109 ∷ 115 ∷ []
