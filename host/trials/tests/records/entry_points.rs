@@ -1,29 +1,14 @@
 //! docs/ENTRY_POINTS.md and the sources: every function that a caller may use stands there once, and nothing else does.
 
-use std::fs;
+use crate::{entries, read, ROOT};
 use std::path::{Path, PathBuf};
 
-const ROOT: &str = concat!(env!("CARGO_MANIFEST_DIR"), "/../..");
-const PAGE: &str = include_str!("../../../docs/ENTRY_POINTS.md");
+const PAGE: &str = include_str!("../../../../docs/ENTRY_POINTS.md");
 
 /// A public function by its path, and whether its contract asks something of the caller.
 struct Function {
     path: String,
     asks: bool,
-}
-
-fn read(file: &Path) -> String {
-    fs::read_to_string(file).unwrap_or_else(|error| panic!("{}: {error}", file.display()))
-}
-
-/// What a folder of the repository holds, in order.
-fn entries(folder: &str) -> Vec<PathBuf> {
-    let mut paths: Vec<PathBuf> = fs::read_dir(format!("{ROOT}/{folder}"))
-        .unwrap_or_else(|error| panic!("{folder}: {error}"))
-        .map(|entry| entry.expect("an entry of a folder").path())
-        .collect();
-    paths.sort();
-    paths
 }
 
 /// The names in the first column of a part's tables. Those of functions have brackets after them.
@@ -160,15 +145,4 @@ fn no_entry_point_asks_anything() {
     assert!(!asking.is_empty());
     let entries: Vec<_> = asking.iter().filter(|path| page.contains(path)).collect();
     assert!(entries.is_empty(), "they have a `requires`: {entries:?}");
-}
-
-/// Tables aside.
-#[test]
-fn prose_is_at_most_120_columns_wide() {
-    let pages = ["README.md", "NOTICE"].map(|name| PathBuf::from(format!("{ROOT}/{name}")));
-    for file in pages.into_iter().chain(entries("docs")) {
-        let text = read(&file);
-        let wide = text.lines().find(|line| !line.starts_with('|') && line.chars().count() > 120);
-        assert_eq!(wide, None, "{}", file.display());
-    }
 }
