@@ -18,7 +18,8 @@ fn names(text: &str) -> impl Iterator<Item = &str> {
 
 /// Every name in the Rattle crates and in the host's, those of files among them.
 fn known() -> HashSet<String> {
-    let crates = entries("crates").into_iter().flat_map(|path| ["src", "specs", "proofs"].map(|part| path.join(part)));
+    let parts = ["src", "specs", "proofs", "must-fail"];
+    let crates = entries("crates").into_iter().flat_map(|path| parts.map(|part| path.join(part)));
     let hosts = entries("host").into_iter().flat_map(|path| ["src", "tests"].map(|part| path.join(part)));
     let folders = crates.chain(hosts).filter(|folder| folder.is_dir());
     let texts = folders.flat_map(|folder| files(&folder)).map(|file| format!("{} {}", file.display(), read(&file)));
@@ -87,7 +88,7 @@ fn mistakes(edit: &Path) -> Vec<String> {
 fn listed_mistakes() -> HashSet<String> {
     let page = read(&Path::new(ROOT).join("docs/WRONG_FUNCTIONS.md"));
     let last = page.lines().filter_map(|line| line.strip_suffix(" |")?.rsplit(" | ").next());
-    last.flat_map(|cell| quoted(cell)).filter(|name| !name.contains('/')).map(String::from).collect()
+    last.flat_map(quoted).filter(|name| !name.contains('/')).map(String::from).collect()
 }
 
 #[test]
