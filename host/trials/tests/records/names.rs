@@ -62,6 +62,24 @@ fn the_names_are_in_the_sources() {
     }
 }
 
+/// The names that files of `specs/` declare for others.
+fn declared() -> HashSet<String> {
+    let folders = entries("crates").into_iter().map(|path| path.join("specs")).filter(|path| path.is_dir());
+    let text: String = folders.flat_map(entries).map(|file| read(&file)).collect();
+    let declarations = text.lines().filter_map(|line| line.split_once("pub ")).map(|(_, rest)| rest);
+    let named = declarations.map(|rest| rest.trim_start_matches("record ").trim_start_matches("data "));
+    named.filter_map(|rest| names(rest).next()).map(String::from).collect()
+}
+
+#[test]
+fn the_definitions_of_the_entry_points_are_in_specs() {
+    let page = read(&Path::new(ROOT).join("docs/ENTRY_POINTS.md"));
+    let column = page.lines().filter(|line| line.starts_with("| `")).filter_map(|line| line.split(" | ").nth(3));
+    let declared = declared();
+    let unknown: Vec<&str> = column.flat_map(quoted).flat_map(names).filter(|name| !declared.contains(*name)).collect();
+    assert!(unknown.is_empty(), "{unknown:?}");
+}
+
 #[test]
 fn the_files_are_there() {
     for page in entries("docs").into_iter().chain([Path::new(ROOT).join("README.md")]) {
