@@ -1,5 +1,6 @@
 -- Units of time (time_unit.rs) and their numbers in an argument. Assumes nothing: these are definitions.
 use mathlib.Core.Bool.{cond}
+use mathlib.Core.List.{List, [], _∷_}
 use Prim.Native.Nat.{ℕ}
 use lib.Dec.{eqb}
 use Rattle.flat.specs.Refusal.{numberOf}
@@ -31,3 +32,9 @@ unitAnswerNumber (Refused e) = numberOf e
 abbrev pub unitAnswerValue : Unit → ℕ
 unitAnswerValue (Of u) = unitNumber u
 unitAnswerValue (Refused e) = 0
+
+-- `to_ascii`: "ns", "us" and "ms", each letter by its number in ASCII
+abbrev pub toAscii : TimeUnit → List ℕ
+toAscii Nanoseconds = 110 ∷ 115 ∷ []
+toAscii Microseconds = 117 ∷ 115 ∷ []
+toAscii Milliseconds = 109 ∷ 115 ∷ []

@@ -1,6 +1,6 @@
 // Units of time, and their numbers in an argument.
 ghost use mathlib.Core.Path.{_≡_};
-ghost use Rattle.datatypes.specs.TimeUnit.{unitNumber, unitOf, unitAnswerNumber, unitAnswerValue};
+ghost use Rattle.datatypes.specs.TimeUnit.{unitNumber, unitOf, toAscii, unitAnswerNumber, unitAnswerValue};
 use flat::error::Error;
 
 pub enum TimeUnit {
@@ -23,6 +23,17 @@ impl TimeUnit {
             TimeUnit::Nanoseconds => 0,
             TimeUnit::Microseconds => 1,
             TimeUnit::Milliseconds => 2,
+        }
+    }
+
+    // Its name in two bytes.
+    pub fn to_ascii(self) -> [u8; 2]
+        ensures { λ r. ⌜ r ≡ toAscii self ⌝ }
+    {
+        match self {
+            TimeUnit::Nanoseconds => [b'n', b's'],
+            TimeUnit::Microseconds => [b'u', b's'],
+            TimeUnit::Milliseconds => [b'm', b's'],
         }
     }
 }

@@ -208,3 +208,12 @@ impl Type {
 pub fn get_time_units(l: u8, r: u8) -> u8 {
     need!(convert::unit_number(utils::get_time_units(&convert::unit(l.into()), &convert::unit(r.into()))))
 }
+
+/// The crate's `TimeUnit::to_ascii`, of a unit by its number.
+///
+/// # Panics
+///
+/// Where it is no unit.
+pub fn to_ascii(unit: u8) -> &'static str {
+    need!(convert::unit(unit.into()).to_ascii())
+}

@@ -1,0 +1,36 @@
+//! What is written in README.md and docs/ beside the sources: the list of entry points, the names of definitions, laws and
+//! tests, and the width of lines.
+
+mod entry_points;
+mod names;
+
+use std::fs;
+use std::path::{Path, PathBuf};
+
+const ROOT: &str = concat!(env!("CARGO_MANIFEST_DIR"), "/../..");
+
+fn read(file: &Path) -> String {
+    fs::read_to_string(file).unwrap_or_else(|error| panic!("{}: {error}", file.display()))
+}
+
+/// What a folder of the repository holds, in order.
+fn entries(folder: impl AsRef<Path>) -> Vec<PathBuf> {
+    let folder = Path::new(ROOT).join(folder);
+    let mut paths: Vec<PathBuf> = fs::read_dir(&folder)
+        .unwrap_or_else(|error| panic!("{}: {error}", folder.display()))
+        .map(|entry| entry.expect("an entry of a folder").path())
+        .collect();
+    paths.sort();
+    paths
+}
+
+/// Tables aside.
+#[test]
+fn prose_is_at_most_120_columns_wide() {
+    let pages = ["README.md", "NOTICE"].map(|name| Path::new(ROOT).join(name));
+    for file in pages.into_iter().chain(entries("docs")) {
+        let text = read(&file);
+        let wide = text.lines().find(|line| !line.starts_with('|') && line.chars().count() > 120);
+        assert_eq!(wide, None, "{}", file.display());
+    }
+}
