@@ -12,16 +12,8 @@ use lomzegash::supertype::JoinReport;
 use lomzegash::Error;
 use std::fmt::{Debug, Display};
 
-/// What is said where there is nothing to compare with; `./test` looks for these words.
+/// What is said where there is nothing to compare with.
 pub const NO_ORACLE: &str = "no source of polars-core at hand: the port was not compared with the crate";
-
-/// Whether there is an oracle; where there is none it says so.
-pub fn has_oracle() -> bool {
-    if !oracle::AVAILABLE {
-        println!("{NO_ORACLE}");
-    }
-    oracle::AVAILABLE
-}
 
 /// How many comparisons came to each number from 0, success, to 13.
 pub type Numbers = [u64; 14];

@@ -43,7 +43,8 @@ impl Differential {
             Err(number) => Outcome::Refused(*number),
         };
         let n = nodes.kinds.len();
-        for rooms in [(n, n), (n + 2, n + 1), (n - 1, n), (n, n - 1), (0, 0)] {
+        let fewer = n.saturating_sub(1);
+        for rooms in [(n, n), (n + 2, n + 1), (fewer, n), (n, fewer), (0, 0)] {
             self.write_nodes(format_args!("flat {}", writer.name), &outcome, rooms, |out| {
                 call(nodes.parts(), out).map(Some)
             });
