@@ -257,6 +257,19 @@ lz_reply lz_flat_get_supertype_with_options(const uint8_t *left_kinds, size_t le
                                             uint64_t *out_args, size_t out_args_len);
 
 /*
+ * The type inside a List or an Array, the type inside all Lists and Arrays at the front, and
+ * the type inside all Arrays at the front, where it stands in the caller's own arrays. The
+ * value k is its number of nodes: the last k elements of kinds are its kinds, and the last k
+ * of args its arguments. It is 0 where there is no such type. Nothing is written.
+ */
+lz_reply lz_flat_inner_dtype(const uint8_t *kinds, size_t kinds_len,
+                             const uint64_t *args, size_t args_len);
+lz_reply lz_flat_leaf_dtype(const uint8_t *kinds, size_t kinds_len,
+                            const uint64_t *args, size_t args_len);
+lz_reply lz_flat_array_leaf_dtype(const uint8_t *kinds, size_t kinds_len,
+                                  const uint64_t *args, size_t args_len);
+
+/*
  * The merge of a flat type. In the first the channels' types are lent, and changed as
  * lz_channel_merge changes its codes. In the second they come and go by value, and a refused call
  * gives them back as they were.

@@ -15,8 +15,9 @@ use Rattle.encoding.specs.Answer.{Puts}
 use Rattle.encoding.specs.declared.Encoded.{Encoded}
 use Rattle.encoding.proofs.Answers.{puts-type}
 use Rattle.encoding.proofs.Opening.{Opened}
+use Rattle.datatypes_inner.specs.Part.{Last}
 use Rattle.datatypes_inner.specs.Shape.{shape, shapeOf, arraysAt, widthsAt}
-use Rattle.datatypes_inner.proofs.Endings.{Last, Found, Finds, finds-inner, finds-leaf, finds-array-leaf}
+use Rattle.datatypes_inner.proofs.Endings.{Found, Finds, finds-inner, finds-leaf, finds-array-leaf}
 use Rattle.datatypes_inner.proofs.Shapes.{arrays-fit, shape-at}
 use Rattle.capi.specs.Reply.{bytesReply}
 use Rattle.capi.specs.Parts.{partOf, partNodes, partReading, PartReply}

@@ -14,6 +14,8 @@ use Rattle.datatypes.specs.Answer.{answerNumber, answerValue}
 use Rattle.datatypes.specs.declared.answer.Answer.{Answer}
 use Rattle.datatypes.specs.TimeUnit.{unitNumber}
 use Rattle.datatypes.specs.declared.time_unit.Unit.{Unit}
+use Rattle.datatypes_inner.specs.Part.{innerNumber, innerValue}
+use Rattle.datatypes_inner.specs.declared.Inner.{Inner}
 use Rattle.datatypes_cast.specs.Verdict.{verdictNumber, verdictValue}
 use Rattle.datatypes_cast.specs.declared.Verdict.{Verdict}
 use Rattle.datatypes_cast.specs.declared.dtype.Cast.{Cast}
@@ -44,6 +46,10 @@ answerReply a = record { number = answerNumber a; value = answerValue a }
 -- yes, no or no verdict
 abbrev pub verdictReply : Verdict → Reply
 verdictReply v = record { number = verdictNumber v; value = verdictValue v }
+
+-- the number of nodes of a part, 0 for None
+abbrev pub innerReply : Inner → Reply
+innerReply a = record { number = innerNumber a; value = innerValue a }
 
 -- the verdict of a cast whose types were checked before
 abbrev pub verdictOf : Cast → Verdict

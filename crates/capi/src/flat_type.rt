@@ -1,20 +1,24 @@
 // The rules on flat types, for callers that keep types in two arrays.
 ghost use mathlib.Core.Path.{_≡_};
 ghost use mathlib.Core.Bool.{not};
+ghost use mathlib.Core.Option.{some};
 ghost use lib.Dec.{eqb};
 ghost use lib.ListN.{length};
 ghost use Rattle.flat.specs.Reading.{reading};
 ghost use Rattle.flat.specs.Output.{fitting};
 ghost use Rattle.datatypes.specs.Equality.{equal};
 ghost use Rattle.datatypes.specs.Recursive.{isKnown};
+ghost use Rattle.datatypes.specs.Inner.{innerDtype, leafDtype, arrayLeafDtype};
 ghost use Rattle.datatypes.specs.Answer.{answerOf, answersOf};
+ghost use Rattle.datatypes_inner.specs.Part.{innerOf};
 ghost use Rattle.datatypes_cast.specs.Verdict.{castOf};
 ghost use Rattle.datatypes_build.specs.Build.{materialized, physical};
-ghost use Rattle.capi.specs.Reply.{answerReply, verdictReply, DecodeReply};
+ghost use Rattle.capi.specs.Reply.{answerReply, verdictReply, innerReply, DecodeReply};
 use crate::Reply;
 use crate::written;
 use datatypes::answer::Answer;
 use datatypes_cast::Verdict;
+use datatypes_inner::Inner;
 use flat::Flat;
 
 fn answer_reply(a: Answer) -> Reply
@@ -32,6 +36,15 @@ fn verdict_reply(v: Verdict) -> Reply
     Reply {
         number: v.number(),
         value: v.value(),
+    }
+}
+
+fn inner_reply(inner: Inner) -> Reply
+    ensures { λ r. ⌜ r ≡ innerReply inner ⌝ }
+{
+    Reply {
+        number: inner.number(),
+        value: inner.value(),
     }
 }
 
@@ -76,6 +89,39 @@ pub extern "C" fn lz_flat_can_cast_to(
       ⌜ r ≡ verdictReply (castOf (reading nodes deep (now («from_kinds» .entry)) (now («from_args» .entry))) (reading nodes deep (now («to_kinds» .entry)) (now («to_args» .entry)))) ⌝ }
 {
     verdict_reply(datatypes_cast::can_cast_to(from_kinds, from_args, to_kinds, to_args))
+}
+
+// The type under a List or an Array: how many nodes it has, which stand at the end of kinds and args; 0 for None.
+#[no_mangle]
+pub extern "C" fn lz_flat_inner_dtype(kinds: &[u8], args: &[u64]) -> Reply
+    ensures { λ r. do
+      nodes ← ⟦Flat::MAX_NODES⟧ .entry
+      deep ← ⟦Flat::MAX_DEPTH⟧ .entry
+      ⌜ r ≡ innerReply (innerOf innerDtype (reading nodes deep (now (kinds .entry)) (now (args .entry)))) ⌝ }
+{
+    inner_reply(datatypes_inner::inner_dtype(kinds, args))
+}
+
+// The type under all Lists and Arrays, likewise.
+#[no_mangle]
+pub extern "C" fn lz_flat_leaf_dtype(kinds: &[u8], args: &[u64]) -> Reply
+    ensures { λ r. do
+      nodes ← ⟦Flat::MAX_NODES⟧ .entry
+      deep ← ⟦Flat::MAX_DEPTH⟧ .entry
+      ⌜ r ≡ innerReply (innerOf (λ t. some (leafDtype t)) (reading nodes deep (now (kinds .entry)) (now (args .entry)))) ⌝ }
+{
+    inner_reply(datatypes_inner::leaf_dtype(kinds, args))
+}
+
+// The type under an Array's consecutive Arrays, likewise.
+#[no_mangle]
+pub extern "C" fn lz_flat_array_leaf_dtype(kinds: &[u8], args: &[u64]) -> Reply
+    ensures { λ r. do
+      nodes ← ⟦Flat::MAX_NODES⟧ .entry
+      deep ← ⟦Flat::MAX_DEPTH⟧ .entry
+      ⌜ r ≡ innerReply (innerOf arrayLeafDtype (reading nodes deep (now (kinds .entry)) (now (args .entry)))) ⌝ }
+{
+    inner_reply(datatypes_inner::array_leaf_dtype(kinds, args))
 }
 
 // The type with each unknown type made known, to the front of out_kinds and out_args; any is allowed unless allow_unknown is 0. Gives its number of nodes.

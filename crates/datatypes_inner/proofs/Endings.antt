@@ -13,7 +13,7 @@ use Rattle.flat.proofs.Sizes.{length-kinds, length-args}
 use Rattle.datatypes.specs.Inner.{innerDtype, leafDtype, pastArrays, arrayLeafDtype}
 use Rattle.datatypes.specs.Scan.{between}
 use Rattle.datatypes_inner.specs.Nodes.{leading, innerNodes, leafNodes, arrayLeafNodes}
-use Rattle.datatypes_inner.specs.Part.{nodesFound, kindsFound, argsFound}
+use Rattle.datatypes_inner.specs.Part.{nodesFound, kindsFound, argsFound, Last}
 use Rattle.datatypes_inner.proofs.Fronts.{below}
 
 -- u is t without its first j nodes
@@ -49,12 +49,6 @@ past-ends (leaf k a) r = rw (below Kind.Array Kind.Array k (omega (arith, r .0))
 past-ends (list t) r = all
 past-ends (array w t) r = under-array (past-ends t r)
 past-ends (struct fs) r = all
-
--- the last n elements of l are these
-pub record Last (n : ℕ) (l these : List ℕ) : Type 0 where
-  pub within : n ≤ length l
-  pub size : length these ≡ n
-  pub shows : drop (length l - n) l ≡ these
 
 -- What is found in t, if something is, has n nodes and stands at the end of the kinds and of the arguments.
 pub record Found (t : DataType) (o : Option DataType) (n : ℕ) : Type 0 where

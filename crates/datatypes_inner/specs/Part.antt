@@ -3,10 +3,11 @@ use mathlib.Core.Path.{_≡_}
 use mathlib.Core.Bool.{cond}
 use mathlib.Core.List.{List, []}
 use mathlib.Core.Option.{Option, none, some}
-use Prim.Native.Nat.{ℕ, _+_, _-_, _*_}
+use Prim.Native.Nat.{ℕ, _+_, _-_, _*_, _≤_}
 use lib.Dec.{eqb}
-use lib.ListN.{length}
+use lib.ListN.{length, drop}
 use denote.Ref.{RefT, ptr, now}
+use Rattle.flat.specs.Refusal.{numberOf}
 use Rattle.flat.specs.Tree.{DataType, size, kindsOf, argsOf}
 use Rattle.flat.specs.Reading.{Reading, refused, type}
 use Rattle.flat.specs.declared.Checked.{Checked}
@@ -39,6 +40,12 @@ abbrev pub argsFound : Option DataType → List ℕ
 argsFound none = []
 argsFound (some t) = argsOf t
 
+-- the last n elements of l are these
+pub record Last (n : ℕ) (l these : List ℕ) : Type 0 where
+  pub within : n ≤ length l
+  pub size : length these ≡ n
+  pub shows : drop (length l - n) l ≡ these
+
 -- r is the caller's own: the end of the slice whole, of elements of so many bytes, and it shows these
 pub record EndOf (bytes : ℕ) (shown : List ℕ) (whole r : RefT (List ℕ)) : Type 0 where
   pub block : ptr r .0 ≡ ptr whole .0
@@ -50,8 +57,13 @@ abbrev pub answerOf : Checked → ℕ → Inner
 answerOf (Checked.Refused e) n = Inner.Refused e
 answerOf Checked.Valid n = cond (eqb n 0) Inner.Nothing (Inner.Nodes n)
 
--- the number of nodes of an answer
-abbrev pub nodesIn : Inner → ℕ
-nodesIn (Inner.Nodes n) = n
-nodesIn Inner.Nothing = 0
-nodesIn (Inner.Refused e) = 0
+-- document 01's number of an answer, and the value beside it: the number of nodes, 0 for None
+abbrev pub innerNumber : Inner → ℕ
+innerNumber (Inner.Nodes n) = 0
+innerNumber Inner.Nothing = 0
+innerNumber (Inner.Refused e) = numberOf e
+
+abbrev pub innerValue : Inner → ℕ
+innerValue (Inner.Nodes n) = n
+innerValue Inner.Nothing = 0
+innerValue (Inner.Refused e) = 0

@@ -6,7 +6,7 @@ ghost use lib.ListN.{length};
 ghost use Rattle.flat.specs.Reading.{reading, refused};
 ghost use Rattle.datatypes.specs.Inner.{innerDtype, leafDtype, arrayLeafDtype};
 ghost use Rattle.datatypes_inner.specs.Nodes.{leading, innerNodes, leafNodes, arrayLeafNodes};
-ghost use Rattle.datatypes_inner.specs.Part.{found, innerOf, kindsFound, argsFound, EndOf, answerOf, nodesIn};
+ghost use Rattle.datatypes_inner.specs.Part.{found, innerOf, kindsFound, argsFound, EndOf, answerOf, innerNumber, innerValue};
 ghost use Rattle.datatypes_inner.specs.Shape.{shape, shapeOf, arraysAt, widthsAt};
 use flat::Checked;
 use flat::Flat;
@@ -18,6 +18,30 @@ pub enum Inner {
     Nodes(usize),
     Nothing,
     Refused(Error),
+}
+
+impl Inner {
+    // Document 01's number.
+    pub fn number(self) -> u64
+        ensures { λ r. ⌜ r ≡ innerNumber self ⌝ }
+    {
+        match self {
+            Inner::Nodes(_) => 0,
+            Inner::Nothing => 0,
+            Inner::Refused(e) => e.number(),
+        }
+    }
+
+    // The value beside the number: how many nodes the part has.
+    pub fn value(self) -> u64
+        ensures { λ r. ⌜ r ≡ innerValue self ⌝ }
+    {
+        match self {
+            Inner::Nodes(n) => n as u64,
+            Inner::Nothing => 0,
+            Inner::Refused(_) => 0,
+        }
+    }
 }
 
 // The widths down an Array's consecutive Arrays; the number is 0 or a refusal's.
@@ -107,17 +131,6 @@ fn answer(checked: Checked, n: usize) -> Inner
     }
 }
 
-// How many nodes the part has that goes with an answer.
-fn nodes(inner: Inner) -> usize
-    ensures { λ r. ⌜ r ≡ nodesIn inner ⌝ }
-{
-    match inner {
-        Inner::Nodes(n) => n,
-        Inner::Nothing => 0,
-        Inner::Refused(_) => 0,
-    }
-}
-
 // The type under a List or an Array.
 pub fn inner_dtype(kinds: &[u8], args: &[u64]) -> Inner
     ensures { λ r. do
@@ -135,7 +148,7 @@ pub fn inner_dtype_kinds<'a>(kinds: &'a [u8], args: &[u64]) -> &'a [u8]
       deep ← ⟦Flat::MAX_DEPTH⟧ .entry
       ⌜ EndOf 1 (kindsFound (found innerDtype (reading nodes deep (now (kinds .entry)) (now (args .entry))))) (kinds .entry) r ⌝ }
 {
-    let at = kinds.len() - nodes(inner_dtype(kinds, args));
+    let at = kinds.len() - inner_dtype(kinds, args).value() as usize;
     &kinds[at..]
 }
 
@@ -146,7 +159,7 @@ pub fn inner_dtype_args<'a>(kinds: &[u8], args: &'a [u64]) -> &'a [u64]
       deep ← ⟦Flat::MAX_DEPTH⟧ .entry
       ⌜ EndOf 8 (argsFound (found innerDtype (reading nodes deep (now (kinds .entry)) (now (args .entry))))) (args .entry) r ⌝ }
 {
-    let at = args.len() - nodes(inner_dtype(kinds, args));
+    let at = args.len() - inner_dtype(kinds, args).value() as usize;
     &args[at..]
 }
 
@@ -167,7 +180,7 @@ pub fn leaf_dtype_kinds<'a>(kinds: &'a [u8], args: &[u64]) -> &'a [u8]
       deep ← ⟦Flat::MAX_DEPTH⟧ .entry
       ⌜ EndOf 1 (kindsFound (found (λ t. some (leafDtype t)) (reading nodes deep (now (kinds .entry)) (now (args .entry))))) (kinds .entry) r ⌝ }
 {
-    let at = kinds.len() - nodes(leaf_dtype(kinds, args));
+    let at = kinds.len() - leaf_dtype(kinds, args).value() as usize;
     &kinds[at..]
 }
 
@@ -178,7 +191,7 @@ pub fn leaf_dtype_args<'a>(kinds: &[u8], args: &'a [u64]) -> &'a [u64]
       deep ← ⟦Flat::MAX_DEPTH⟧ .entry
       ⌜ EndOf 8 (argsFound (found (λ t. some (leafDtype t)) (reading nodes deep (now (kinds .entry)) (now (args .entry))))) (args .entry) r ⌝ }
 {
-    let at = args.len() - nodes(leaf_dtype(kinds, args));
+    let at = args.len() - leaf_dtype(kinds, args).value() as usize;
     &args[at..]
 }
 
@@ -199,7 +212,7 @@ pub fn array_leaf_dtype_kinds<'a>(kinds: &'a [u8], args: &[u64]) -> &'a [u8]
       deep ← ⟦Flat::MAX_DEPTH⟧ .entry
       ⌜ EndOf 1 (kindsFound (found arrayLeafDtype (reading nodes deep (now (kinds .entry)) (now (args .entry))))) (kinds .entry) r ⌝ }
 {
-    let at = kinds.len() - nodes(array_leaf_dtype(kinds, args));
+    let at = kinds.len() - array_leaf_dtype(kinds, args).value() as usize;
     &kinds[at..]
 }
 
@@ -210,7 +223,7 @@ pub fn array_leaf_dtype_args<'a>(kinds: &[u8], args: &'a [u64]) -> &'a [u64]
       deep ← ⟦Flat::MAX_DEPTH⟧ .entry
       ⌜ EndOf 8 (argsFound (found arrayLeafDtype (reading nodes deep (now (kinds .entry)) (now (args .entry))))) (args .entry) r ⌝ }
 {
-    let at = args.len() - nodes(array_leaf_dtype(kinds, args));
+    let at = args.len() - array_leaf_dtype(kinds, args).value() as usize;
     &args[at..]
 }
 

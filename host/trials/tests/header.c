@@ -138,6 +138,21 @@ static int flat_merges(void) {
     return 0;
 }
 
+/* The parts of Array(3, List(Date)), which has two nodes under its root, and of Date, which has none. */
+static int flat_parts(void) {
+    const uint8_t kinds[3] = {29, 28, 19};
+    const uint64_t args[3] = {3, 0, 0};
+
+    if (!is(lz_flat_inner_dtype(kinds, 3, args, 3), LZ_OK, 2)) return 67;
+    if (!is(lz_flat_leaf_dtype(kinds, 3, args, 3), LZ_OK, 1)) return 68;
+    if (!is(lz_flat_array_leaf_dtype(kinds, 3, args, 3), LZ_OK, 2)) return 69;
+    if (!is(lz_flat_inner_dtype(kinds + 2, 1, args + 2, 1), LZ_OK, 0)) return 70;
+    if (!is(lz_flat_leaf_dtype(kinds + 2, 1, args + 2, 1), LZ_OK, 1)) return 71;
+    if (!is(lz_flat_array_leaf_dtype(kinds + 1, 2, args + 1, 2), LZ_OK, 0)) return 72;
+    if (!is(lz_flat_leaf_dtype(kinds, 2, args, 2), LZ_SHAPE, 0)) return 73;
+    return 0;
+}
+
 int main(void) {
     const uint8_t list_of_int16[20] = {0x02, 0x00, 0x1C, 0x08};
     uint8_t kinds[3] = {9, 9, 9}, out[21];
@@ -160,5 +175,6 @@ int main(void) {
     if (wrong == 0) wrong = flat_joins();
     if (wrong == 0) wrong = merges();
     if (wrong == 0) wrong = flat_merges();
+    if (wrong == 0) wrong = flat_parts();
     return wrong;
 }
