@@ -1,4 +1,4 @@
-//! Document 01's rules for flat types, stored sheets and the season record, in plain Rust.
+//! Document 01's rules for flat types, stored sheets, inner types and the season record, in plain Rust.
 //!
 //! Written from the document alone, with limits, codes and refusals of its own: the tests compare the proved code with
 //! it, and the benchmark times the two side by side.
@@ -7,6 +7,7 @@
 #![deny(missing_docs)]
 
 pub mod channels;
+pub mod inner;
 pub mod sheet;
 
 use sheet::{Argument, StoredArgument};

@@ -6,7 +6,7 @@
 //! oracle says, and where the input isn't a type to the refusal that document 01 gives. A difference is a panic that
 //! shows the input.
 
-use crate::entries::{Outcome, Predicate, Relation, Writer, PREDICATES, RELATIONS, WRITERS};
+use crate::entries::{Predicate, Relation, Writer, PREDICATES, RELATIONS, WRITERS};
 use crate::input::{types, Input, Shown};
 use lomzegash::supertype::JoinReport;
 use lomzegash::Error;
@@ -111,10 +111,7 @@ impl Differential {
     /// An output of length 0, one too short, just long enough and longer; lengths near the input's where nothing is
     /// to be written.
     fn writer(&mut self, writer: &Writer, input: &Input) {
-        let outcome = match &input.dtype {
-            Ok(dtype) => (writer.oracle)(input, dtype),
-            Err(number) => Outcome::Refused(*number),
-        };
+        let outcome = writer.outcome(input);
         let len = outcome.len().unwrap_or(input.bytes.len() + 1);
         for room in [0, len - 1, len, len + 7] {
             self.write_bytes(writer.name, &outcome, room, |out| (writer.port)(&input.bytes, out));
