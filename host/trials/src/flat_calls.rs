@@ -27,8 +27,8 @@ impl Differential {
         for (writer, part) in WRITERS.iter().zip(&PARTS) {
             self.flat_part(writer, part, input, &nodes);
         }
-        for (place, call) in FLAT_WRITERS {
-            self.flat_writer(&WRITERS[place], call, input, &nodes);
+        for (at, call) in FLAT_WRITERS {
+            self.flat_writer(&WRITERS[at], call, input, &nodes);
         }
     }
 
@@ -43,12 +43,15 @@ impl Differential {
 
     /// The part is what the oracle's type is laid out as, and it is the end of the caller's own slices.
     fn flat_part(&mut self, writer: &Writer, part: &Part, input: &Input, nodes: &Flat) {
-        let (name, outcome) = (format_args!("flat {}", writer.name), writer.outcome(input));
-        let answer = (part.port)(nodes.parts());
+        let (name, outcome, answer) = (writer.name, writer.outcome(input), (part.port)(nodes.parts()));
         let laid_out = answer.map(|part| part.map(|(kinds, args)| sheet::lay_out(kinds, args)));
-        self.settle(name, laid_out, outcome.with_room(|_| true).map(|bytes| bytes.map(<[u8]>::to_vec)));
+        self.settle(
+            format_args!("flat {name}"),
+            laid_out,
+            outcome.with_room(|_| true).map(|bytes| bytes.map(<[u8]>::to_vec)),
+        );
         if let Ok(Some(part)) = answer {
-            assert_eq!(place(part), place(nodes.end(part.0.len())), "{name}: where it stands");
+            assert_eq!(place(part), place(nodes.end(part.0.len())), "flat {name}: where it stands");
         }
     }
 

@@ -3,8 +3,8 @@
 use crate::answers::{Answers, Line, CHECK, MERGE};
 use std::collections::BTreeSet;
 
-/// Of each entry, every damage of its longest answer and another number for a refused one; the last of such lines is meant.
-/// Behind them the line is repeated as it is.
+/// Of each entry, every damage of its longest answer and another number for a refused one, of several such lines the last.
+/// Behind its damages each line is repeated as it is.
 pub fn all(answers: &mut Answers) {
     for entry in CHECK..=MERGE {
         let lines = || answers.lines.iter().filter(|line| line.entry() == entry && !line.is_damaged);
