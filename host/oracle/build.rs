@@ -1,6 +1,7 @@
 //! Finds the crate's text, checks it and hands it to the compiler, with the features that document 01 asks for.
 //!
-//! Sets the cfg `polars_src` where there is a text. Nothing is written but OUT_DIR.
+//! Sets the cfg `polars_src` where there is a text, and tells the build scripts of the crates that use the oracle
+//! (`build/dependent.rs`). Nothing is written but OUT_DIR.
 
 #[path = "build/sources.rs"]
 mod sources;
@@ -63,6 +64,7 @@ fn compile(folder: Option<Folder>) -> Result<(), String> {
     }
     set_features();
     println!("cargo::rustc-cfg=polars_src");
+    println!("cargo::metadata=FOUND=1");
     Ok(())
 }
 

@@ -1,7 +1,8 @@
 // Replays recorded answers of the oracle, which is the crate's own text, and of the plain Rust to merges, which the crate doesn't have, so that the port is
 // held to them where there is no Rust. A line of the input is a call and its recorded answer; the last line is 0.
 // `cargo run --release -p differential -- --record 7500` in host/ wrote the input (crates/replay/stdin); host/differential/src/answers.rs has the format.
-// A call that is answered otherwise here, and a line that can't be read, is told by the number of its line.
+// A call that is answered otherwise here, and a line that can't be read, is told by the number of its line. Some recorded answers were damaged on purpose, of each
+// entry point some: crates/replay/stdout names them all (`--expect 7500` wrote it), so that a replay that agrees with everything fails.
 mod answer;
 mod calls;
 mod output;

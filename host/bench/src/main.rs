@@ -17,7 +17,7 @@ use rules::Row;
 use std::env;
 use std::hint::black_box;
 use timing::best;
-use trials::differential::has_oracle;
+use trials::differential::NO_ORACLE;
 use trials::flat::Flat;
 
 fn main() {
@@ -27,8 +27,10 @@ fn main() {
     }
     beside_plain(&inputs);
     merges();
-    if has_oracle() {
+    if oracle::AVAILABLE {
         beside_the_crate(&inputs);
+    } else {
+        println!("{NO_ORACLE}");
     }
 }
 

@@ -59,11 +59,19 @@ mod tests {
     use super::*;
 
     #[test]
-    fn the_question_has_its_answer() {
-        let lines = lines();
-        assert!(lines[1].ends_with(" Float64") && lines[2].ends_with(" Int128"), "{lines:?}");
-        assert!(lines[3].ends_with(words(JoinReport::Avoidable)), "{lines:?}");
-        assert!(lines[5].ends_with(" 9007199254740992 becomes 9007199254740992"), "{lines:?}");
-        assert!(lines[6].contains(" 9007199254740993 becomes 9007199254740992:"), "{lines:?}");
+    fn each_report_has_its_words() {
+        let expected = [
+            "the supertype keeps every number of both",
+            "the supertype loses numbers, and needlessly: an integer type holds all of both",
+            "the supertype loses numbers, and no integer type holds all of both",
+            "these aren't two integer types",
+        ];
+        assert_eq!(JoinReport::ALL.map(words), expected);
+    }
+
+    #[test]
+    fn a_join_reads_as_its_type_or_its_refusal() {
+        assert_eq!(joined(|_| Ok(None)), "no such type");
+        assert_eq!(joined(|_| Err(Error::Nested)), "refused by 6: nested type in a supertype call");
     }
 }

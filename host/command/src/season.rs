@@ -48,30 +48,3 @@ fn words(merged: Result<u8, Error>) -> String {
 fn name(code: u8) -> &'static str {
     kind::name(code).expect("a code is a kind")
 }
-
-#[cfg(test)]
-mod tests {
-    use super::*;
-
-    #[test]
-    fn the_season_has_its_answers() {
-        let lines = lines();
-        let ends = [
-            "holds Int32",
-            "holds Int128",
-            "holds Int128",
-            &words(Err(Error::NoUpcast)),
-            "holds UInt8",
-            "holds UInt16",
-            "holds Int32",
-            &words(Err(Error::NotAnInteger)),
-            "holds Int16",
-            &words(Err(Error::Channel)),
-            "At its end: channel 0 Int128, channel 1 Int32, channel 2 Int16; the other channels are empty.",
-        ];
-        assert_eq!(lines.len(), ends.len() + 1);
-        for (line, end) in lines[1..].iter().zip(ends) {
-            assert!(line.ends_with(end), "{line} has another answer than {end}");
-        }
-    }
-}

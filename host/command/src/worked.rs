@@ -39,19 +39,3 @@ fn shortened(bytes: &[u8]) -> String {
         format!("{}... ({} bytes)", hex::text(&bytes[..SHOWN]), bytes.len())
     }
 }
-
-#[cfg(test)]
-mod tests {
-    use super::*;
-
-    #[test]
-    fn each_worked_type_has_its_answer() {
-        let answers: Vec<String> = cases().iter().map(|(_, text)| answer(&hex::bytes(text).unwrap())).collect();
-        assert_eq!(answers[0], "List(Int16)");
-        assert_eq!(answers[1], "Struct{7: Boolean, 9: Array(3, Date)}");
-        for (answer, number) in answers[2..].iter().zip([5, 1, 3]) {
-            assert!(answer.starts_with(&format!("refused by {number}: ")), "{answer}");
-        }
-        assert_eq!(answers.len(), 5);
-    }
-}

@@ -21,7 +21,8 @@
 //! A type is the number of its kinds, the kinds, the number of its arguments, the arguments; the two numbers differ only
 //! where the call is refused for it. Room is how many nodes an output can hold. The codes are the bytes of all 32 channels.
 //! Number is 0 or the refusal's; beside a refusal the value is 0 and there is no result, but for merges: a refused one
-//! leaves the codes as they were, and has them as its result. A line of the single number 0 is the last.
+//! leaves the codes as they were, and has them as its result. A line of the single number 0 is the last. Some lines have a
+//! damaged answer, which nobody gave, see [`crate::record`].
 //!
 //! The predicates: is_nested 2, is_known 3, is_logical 4, is_primitive 5, is_primitive_numeric 6, is_temporal 7, is_float
 //! 8, is_integer 9, is_signed_integer 10, is_unsigned_integer 11, is_string 12, is_unknown 13, contains_unknown 14,
@@ -34,6 +35,7 @@
 
 use lomzegash::Error;
 use oracle::Type;
+use std::fmt;
 use trials::channels::Judge;
 use trials::entries::{Outcome, PREDICATES, RELATIONS, WRITERS};
 use trials::flat::Flat;
@@ -62,10 +64,36 @@ pub const ONE_TYPE_CALLS: usize = ONE_TYPE_WRITERS + WRITERS.len();
 /// The room of an output where the result has so many nodes, 1 where there is no result.
 pub type Room = fn(usize) -> usize;
 
+/// A call, its entry first, and its answer: the number, the value and the result.
+#[derive(Clone, Debug, PartialEq, Eq)]
+pub struct Line {
+    pub call: Vec<u64>,
+    pub answer: Vec<u64>,
+    pub is_damaged: bool,
+}
+
+impl Line {
+    pub fn entry(&self) -> u64 {
+        self.call[0]
+    }
+
+    /// 0, or the refusal's number.
+    pub fn number(&self) -> u64 {
+        self.answer[0]
+    }
+}
+
+impl fmt::Display for Line {
+    fn fmt(&self, f: &mut fmt::Formatter<'_>) -> fmt::Result {
+        let words: Vec<String> = self.call.iter().chain(&self.answer).map(u64::to_string).collect();
+        f.write_str(&words.join(" "))
+    }
+}
+
 /// The lines so far.
 #[derive(Default)]
 pub struct Answers {
-    pub lines: Vec<String>,
+    pub lines: Vec<Line>,
 }
 
 impl Answers {
@@ -81,19 +109,19 @@ impl Answers {
 
     pub fn check(&mut self, flat: &Flat) {
         let reply = answer(read(flat).map(|_| 0));
-        self.line(&[&[CHECK], &words(flat), &reply]);
+        self.line(&[&[CHECK], &words(flat)], reply);
     }
 
     fn predicate(&mut self, at: usize, flat: &Flat) {
         let reply = answer(read(flat).map(|(_, dtype)| (PREDICATES[at].oracle)(&dtype).into()));
-        self.line(&[&[FIRST_PREDICATE + at as u64], &words(flat), &reply]);
+        self.line(&[&[FIRST_PREDICATE + at as u64], &words(flat)], reply);
     }
 
     pub fn relation(&mut self, at: usize, left: &Flat, right: &Flat) {
         let types = read(left).and_then(|(_, left)| Ok((left, read(right)?.1)));
         let verdict = types.map(|(left, right)| (RELATIONS[at].oracle)(&left, &right));
         let reply = answer(verdict.map(|verdict| verdict.map_or(2, u64::from)));
-        self.line(&[&[FIRST_RELATION + at as u64], &words(left), &words(right), &reply]);
+        self.line(&[&[FIRST_RELATION + at as u64], &words(left), &words(right)], reply);
     }
 
     pub fn writer(&mut self, at: usize, flat: &Flat, room: Room) {
@@ -103,8 +131,8 @@ impl Answers {
         };
         let (room, reply) = written(&outcome, room);
         match at.checked_sub(MATERIALIZERS) {
-            None => self.line(&[&[FIRST_WRITER + at as u64], &words(flat), &[room], &reply]),
-            Some(off) => self.line(&[&[MATERIALIZE], &words(flat), &[1 - off as u64, room], &reply]),
+            None => self.line(&[&[FIRST_WRITER + at as u64], &words(flat), &[room]], reply),
+            Some(off) => self.line(&[&[MATERIALIZE], &words(flat), &[1 - off as u64, room]], reply),
         }
     }
 
@@ -116,20 +144,20 @@ impl Answers {
                 (SUPERTYPE, vec![options.allow_implode_list.into(), options.allow_primitive_to_string.into()])
             }
         };
-        self.line(&[&[entry], &words(left), &words(right), &flags, &[room], &reply]);
+        self.line(&[&[entry], &words(left), &words(right), &flags, &[room]], reply);
     }
 
     pub fn report(&mut self, left: &Flat, right: &Flat) {
         let reply = answer(joins::report(&input(left), &input(right)).map(|report| report as u64));
-        self.line(&[&[REPORT], &words(left), &words(right), &reply]);
+        self.line(&[&[REPORT], &words(left), &words(right)], reply);
     }
 
     /// A merge into a channel of those that the judge has, who then has what the merge leaves.
     pub fn merge(&mut self, judge: &mut impl Judge, channel: usize, column: &Flat) {
         let before = judge.codes();
         let code = judge.merge(channel, column).map_err(|refusal| refusal as u64);
-        let (reply, after) = (answer(code.map(u64::from)), judge.codes());
-        self.line(&[&[MERGE], &words(column), &[channel as u64], &numbers(&before), &reply, &numbers(&after)]);
+        let reply = [answer(code.map(u64::from)), numbers(&judge.codes())].concat();
+        self.line(&[&[MERGE], &words(column), &[channel as u64], &numbers(&before)], reply);
     }
 
     fn shape(&mut self, flat: &Flat) {
@@ -138,23 +166,17 @@ impl Answers {
             Ok(widths) => [&[0, widths.len() as u64], &widths[..]].concat(),
             Err(number) => vec![number, 0],
         };
-        self.line(&[&[SHAPE], &words(flat), &reply]);
+        self.line(&[&[SHAPE], &words(flat)], reply);
     }
 
     pub fn time_units(&mut self, left: u8, right: u8) {
         let unit =
             if left.max(right) > 2 { Err(Error::Argument.number()) } else { Ok(oracle::get_time_units(left, right)) };
-        self.line(&[&[TIME_UNITS, left.into(), right.into()], &answer(unit.map(u64::from))]);
+        self.line(&[&[TIME_UNITS, left.into(), right.into()]], answer(unit.map(u64::from)));
     }
 
-    /// The line that ends the lines.
-    pub fn end(&mut self) {
-        self.line(&[&[0]]);
-    }
-
-    fn line(&mut self, parts: &[&[u64]]) {
-        let words: Vec<String> = parts.concat().iter().map(u64::to_string).collect();
-        self.lines.push(words.join(" "));
+    fn line(&mut self, call: &[&[u64]], answer: Vec<u64>) {
+        self.lines.push(Line { call: call.concat(), answer, is_damaged: false });
     }
 }
 

@@ -6,7 +6,8 @@
 //! `differential [--seed S] --joins N`: the same on N pairs of types, nearly all of one node, and with the entry points
 //! alone that join two types: both rules, encoded and flat, with some flags and lengths of output, and the report.
 //!
-//! `differential --record N`: prints N or somewhat more of the oracle's answers, then those to some merges, see [`answers`].
+//! `differential --record N`: prints N or somewhat more of the oracle's answers, then those to some merges and damaged ones,
+//! see [`answers`]: the input of crates/replay. `differential --expect N` prints what crates/replay must say of them.
 
 #![forbid(unsafe_code)]
 
@@ -27,7 +28,7 @@ const STEP: u64 = 1_000_000;
 
 fn main() -> ExitCode {
     let Some(Options { task, seed }) = Options::read(std::env::args().skip(1)) else {
-        eprintln!("usage: differential [--seed S] [--count N | --joins N] | --record N");
+        eprintln!("usage: differential [--seed S] [--count N | --joins N] | --record N | --expect N");
         return ExitCode::from(2);
     };
     if !oracle::AVAILABLE {
@@ -37,11 +38,14 @@ fn main() -> ExitCode {
     match task {
         Task::Compare { count } => reported(seed, |differential| compare(differential, seed, count)),
         Task::Join { pairs } => reported(seed, |differential| join(differential, seed, pairs)),
-        Task::Record { count } => {
-            record::lines(count).iter().for_each(|line| println!("{line}"));
-            ExitCode::SUCCESS
-        }
+        Task::Record { count } => print(&record::recorded(count)),
+        Task::Expect { count } => print(&record::expected(count)),
     }
+}
+
+fn print(lines: &[String]) -> ExitCode {
+    lines.iter().for_each(|line| println!("{line}"));
+    ExitCode::SUCCESS
 }
 
 /// Runs, says how many comparisons there were, and whether one showed a difference.

@@ -19,6 +19,8 @@ pub enum Task {
     Join { pairs: u64 },
     /// So many lines of recorded answers.
     Record { count: usize },
+    /// What the replay must say of these.
+    Expect { count: usize },
 }
 
 impl Options {
@@ -32,6 +34,7 @@ impl Options {
                 "--count" => options.task = Task::Compare { count: number },
                 "--joins" => options.task = Task::Join { pairs: number },
                 "--record" => options.task = Task::Record { count: number as usize },
+                "--expect" => options.task = Task::Expect { count: number as usize },
                 _ => return None,
             }
         }
@@ -53,6 +56,7 @@ mod tests {
         assert_eq!(read("--seed 7 --count 9"), Some(Options { task: Task::Compare { count: 9 }, seed: 7 }));
         assert_eq!(read("--joins 9 --seed 7"), Some(Options { task: Task::Join { pairs: 9 }, seed: 7 }));
         assert_eq!(read("--record 50"), Some(Options { task: Task::Record { count: 50 }, seed: 1 }));
+        assert_eq!(read("--expect 50"), Some(Options { task: Task::Expect { count: 50 }, seed: 1 }));
         assert_eq!(["--seed", "--seed x", "--help", "--more 1"].map(read), [None, None, None, None]);
     }
 }

@@ -1,9 +1,10 @@
 //! Which answers are recorded. [`crate::answers`] has the format.
 
+mod damaged;
 mod joins;
 mod merges;
 
-use crate::answers::{Answers, Room, MATERIALIZERS, ONE_TYPE_CALLS};
+use crate::answers::{Answers, Line, Room, MATERIALIZERS, ONE_TYPE_CALLS};
 use lomzegash::kind::*;
 use trials::damage;
 use trials::draw;
@@ -18,8 +19,8 @@ const ROOMS: [Room; 4] = [|_| 0, |nodes| nodes - 1, |nodes| nodes, |nodes| nodes
 const SIZES: [usize; 9] = [1, 1, 2, 3, 4, 5, 6, 8, 12];
 
 /// At least so many lines, the same ones every time: first each limit, refusal, kind of leaf and join of two kinds, then
-/// random calls of each entry point in turn; and after them the merges and the last line.
-pub fn lines(count: usize) -> Vec<String> {
+/// random calls of each entry point in turn; and after them the merges and the damaged lines.
+fn lines(count: usize) -> Vec<Line> {
     let mut answers = Answers::default();
     limits(&mut answers);
     refusals(&mut answers);
@@ -31,8 +32,22 @@ pub fn lines(count: usize) -> Vec<String> {
         one_of_each(&mut answers, &mut random);
     }
     merges::all(&mut answers);
-    answers.end();
+    damaged::all(&mut answers);
     answers.lines
+}
+
+/// What is recorded for the replay: the lines, and the last one.
+pub fn recorded(count: usize) -> Vec<String> {
+    lines(count).iter().map(Line::to_string).chain(["0".into()]).collect()
+}
+
+/// What the replay must say of it: each damaged line by its number, and how many there are.
+pub fn expected(count: usize) -> Vec<String> {
+    let lines = lines(count);
+    let differ = lines.iter().zip(1..).filter(|(line, _)| line.is_damaged);
+    let mut said: Vec<String> = differ.map(|(_, number)| format!("line {number} differs")).collect();
+    said.push(format!("{} answers replayed, {} differ", lines.len(), said.len()));
+    said
 }
 
 /// The largest type, and one of a node more.
@@ -144,46 +159,42 @@ fn damaged_at_times(mut flat: Flat, random: &mut Random) -> Flat {
 mod tests {
     use super::*;
     use crate::answers::{CHECK, MERGE};
-    use lomzegash::ChannelTypes;
-    use trials::differential::has_oracle;
 
     /// How many lines crates/replay was asked for.
     const LINES: usize = 7500;
 
     #[test]
+    #[cfg_attr(not(polars_src), ignore = "no text of polars-core 0.55.2")]
     fn the_replayed_lines_are_the_recorded_ones() {
-        if has_oracle() {
-            let replayed = include_str!("../../../crates/replay/stdin");
-            assert!(lines(LINES).iter().eq(replayed.lines()), "record again: --record {LINES} > crates/replay/stdin");
-        }
+        let [stdin, stdout] =
+            [include_str!("../../../crates/replay/stdin"), include_str!("../../../crates/replay/stdout")];
+        assert!(recorded(LINES).iter().eq(stdin.lines()), "record again: --record {LINES} > crates/replay/stdin");
+        assert!(expected(LINES).iter().eq(stdout.lines()), "expect again: --expect {LINES} > crates/replay/stdout");
     }
 
     #[test]
+    #[cfg_attr(not(polars_src), ignore = "no text of polars-core 0.55.2")]
     fn the_recorded_lines_are_short_and_reach_everything() {
-        if !has_oracle() {
-            return;
-        }
-        let recorded = lines(LINES);
-        assert!(recorded.len() > LINES && recorded == lines(LINES));
-        assert!(recorded.iter().filter(|line| line.len() > 400).count() <= 2);
-        let (last, rest) = recorded.split_last().unwrap();
-        assert_eq!(last, "0");
-        let numbers = |line: &String| line.split(' ').map(|word| word.parse().unwrap()).collect::<Vec<u64>>();
-        let rest: Vec<Vec<u64>> = rest.iter().map(numbers).collect();
+        let lines = lines(LINES);
+        assert!(lines.len() > LINES && lines == super::lines(LINES));
+        assert!(lines.iter().filter(|line| line.to_string().len() > 400).count() <= 2);
         for entry in CHECK..=MERGE {
-            assert!(rest.iter().filter(|line| line[0] == entry).count() >= 50, "entry {entry}");
+            assert!(lines.iter().filter(|line| line.entry() == entry).count() >= 50, "entry {entry}");
+            let is_damaged = |line: &&Line| line.entry() == entry && line.is_damaged;
+            assert!(lines.iter().filter(is_damaged).count() >= 5, "damaged lines of entry {entry}");
         }
-        let (merges, others): (Vec<_>, Vec<_>) = rest.into_iter().partition(|line| line[0] == MERGE);
+        let sound = lines.into_iter().filter(|line| !line.is_damaged);
+        let (merges, others): (Vec<_>, Vec<_>) = sound.partition(|line| line.entry() == MERGE);
         for number in [1, 2, 3, 4, 5, 6, 7, 8, 13] {
-            assert!(refused(&others, number, 0) >= 10, "refusal {number}");
+            assert!(refused(&others, number) >= 9, "refusal {number}");
         }
         for number in [1, 2, 3, 4, 5, 9, 10, 11, 12] {
-            assert!(refused(&merges, number, ChannelTypes::CHANNELS) >= 3, "refusal {number} of a merge");
+            assert!(refused(&merges, number) >= 3, "refusal {number} of a merge");
         }
     }
 
-    /// How many lines have this refusal, which so many numbers of a result follow.
-    fn refused(lines: &[Vec<u64>], number: u64, result: usize) -> usize {
-        lines.iter().filter(|line| line[..line.len() - result].ends_with(&[number, 0])).count()
+    /// How many lines have this refusal.
+    fn refused(lines: &[Line], number: u64) -> usize {
+        lines.iter().filter(|line| line.number() == number).count()
     }
 }

@@ -91,18 +91,3 @@ impl fmt::Display for Error {
 }
 
 impl std::error::Error for Error {}
-
-#[cfg(test)]
-mod tests {
-    use super::*;
-
-    #[test]
-    fn numbers_run_from_1_to_13() {
-        let numbers: Vec<u64> = Error::ALL.map(Error::number).to_vec();
-        assert_eq!(numbers, (1..=13).collect::<Vec<u64>>());
-        for error in Error::ALL {
-            assert_eq!(Error::from_number(error.number()), Some(error));
-        }
-        assert_eq!([0, 14, u64::MAX].map(Error::from_number), [None; 3]);
-    }
-}

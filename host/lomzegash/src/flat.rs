@@ -40,6 +40,43 @@ pub fn can_cast_to(from: Nodes, to: Nodes) -> Result<Option<bool>, Error> {
     ffi::flat::can_cast_to(from, to)
 }
 
+/// The type inside a List or an Array: that part of the slices themselves, not a copy. None of any other type.
+///
+/// Refused by numbers 1 to 5.
+///
+/// ```
+/// use lomzegash::flat::inner_dtype;
+/// use lomzegash::kind::{INT16, LIST};
+///
+/// let (kinds, args) = ([LIST, LIST, INT16], [0, 0, 0]);
+/// let inner = inner_dtype((&kinds, &args))?;
+/// assert_eq!(inner, Some((&kinds[1..], &args[1..])));
+/// assert_eq!(inner_dtype((&kinds[2..], &args[2..])), Ok(None));
+/// assert_eq!(inner_dtype((&kinds[..2], &args[..2])), Err(lomzegash::Error::Shape));
+/// # Ok::<(), lomzegash::Error>(())
+/// ```
+#[inline]
+pub fn inner_dtype(dtype: Nodes<'_>) -> Result<Option<Nodes<'_>>, Error> {
+    ffi::flat::inner_dtype(dtype)
+}
+
+/// The type inside all Lists and Arrays at the front, the type itself where there are none: that part of the slices
+/// themselves, not a copy.
+///
+/// Refused by numbers 1 to 5.
+#[inline]
+pub fn leaf_dtype(dtype: Nodes<'_>) -> Result<Nodes<'_>, Error> {
+    ffi::flat::leaf_dtype(dtype)
+}
+
+/// The type inside all Arrays at the front: that part of the slices themselves, not a copy. None where there are none.
+///
+/// Refused by numbers 1 to 5.
+#[inline]
+pub fn array_leaf_dtype(dtype: Nodes<'_>) -> Result<Option<Nodes<'_>>, Error> {
+    ffi::flat::array_leaf_dtype(dtype)
+}
+
 /// Writes the type with each unknown type made known, and gives its number of nodes.
 ///
 /// Refused by numbers 1 to 5, by [`Error::Unknown`] where `any` is a part of it and isn't allowed, then by

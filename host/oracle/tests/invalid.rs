@@ -1,6 +1,7 @@
 //! What isn't a valid type is refused by a panic. One test alone, since it silences all panics meanwhile.
 
-use oracle::{Type, AVAILABLE};
+use oracle::Type;
+use plain::sheet;
 use std::panic;
 
 /// Nodes of which document 01 refuses every list, with the number.
@@ -46,18 +47,14 @@ fn panics(call: impl FnOnce() -> Type + panic::UnwindSafe) -> bool {
 }
 
 #[test]
+#[cfg_attr(not(polars_src), ignore = "no text of polars-core 0.55.2")]
 fn invalid_types_are_refused() {
-    if !AVAILABLE {
-        return println!("no source of polars-core 0.55.2 is there: nothing was tried");
-    }
     let hook = panic::take_hook();
     panic::set_hook(Box::new(|_| ()));
     let mut taken = vec![];
     for (refusal, nodes) in refused() {
         let (kinds, args): (Vec<u8>, Vec<u64>) = nodes.iter().copied().unzip();
-        let mut bytes = (kinds.len() as u16).to_le_bytes().to_vec();
-        bytes.extend(&kinds);
-        bytes.extend(args.iter().flat_map(|arg| arg.to_le_bytes()));
+        let bytes = sheet::lay_out(&kinds, &args);
         let refused = plain::check(&kinds, &args) == Err(refusal);
         if !(refused && panics(|| Type::from_flat(&kinds, &args)) && panics(|| Type::decode(&bytes))) {
             taken.push(nodes);

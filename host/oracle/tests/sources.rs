@@ -7,14 +7,14 @@ use sources::{hash, Cut, Folder, Source, DEFAULT, SOURCES, VARIABLE};
 use std::path::{Path, PathBuf};
 use std::{env, fs};
 
-/// The folder from which the oracle was built, if there is one.
-fn folder() -> Option<Folder> {
-    let folder = Folder::locate(env::var_os(VARIABLE)).expect("the oracle was built from it");
-    assert_eq!(folder.is_some(), oracle::AVAILABLE);
-    if folder.is_none() {
-        println!("no source of polars-core 0.55.2 is there: nothing was tried");
-    }
-    folder
+/// The folder that is named or the default one, if there is one.
+fn located() -> Option<Folder> {
+    Folder::locate(env::var_os(VARIABLE)).expect("the oracle was built from it")
+}
+
+/// The folder from which the oracle was built.
+fn folder() -> Folder {
+    located().expect("there is a text")
 }
 
 /// Each source with its file's text.
@@ -31,8 +31,9 @@ fn extent(source: &Source, file: &str) -> (usize, usize) {
 }
 
 #[test]
+#[cfg_attr(not(polars_src), ignore = "no text of polars-core 0.55.2")]
 fn the_text_is_taken_as_it_is() {
-    let Some(folder) = folder() else { return };
+    let folder = folder();
     for (source, file) in texts(&folder) {
         let (start, end) = extent(source, &file);
         let close = source.cut.as_ref().map_or("", |cut| cut.close);
@@ -48,8 +49,9 @@ fn the_text_is_taken_as_it_is() {
 }
 
 #[test]
+#[cfg_attr(not(polars_src), ignore = "no text of polars-core 0.55.2")]
 fn an_edited_text_is_refused() {
-    let Some(folder) = folder() else { return };
+    let folder = folder();
     for (source, file) in texts(&folder) {
         let (start, end) = extent(source, &file);
         // The last byte ends the last line; so might the end of the file.
@@ -70,8 +72,9 @@ fn an_edited_text_is_refused() {
 }
 
 #[test]
+#[cfg_attr(not(polars_src), ignore = "no text of polars-core 0.55.2")]
 fn an_edit_is_named_with_its_file() {
-    let Some(folder) = folder() else { return };
+    let folder = folder();
     let path = Path::new(env!("CARGO_TARGET_TMPDIR")).join("edited.rs");
     for (source, file) in texts(&folder) {
         fs::write(&path, file.to_uppercase()).unwrap();
@@ -81,8 +84,9 @@ fn an_edit_is_named_with_its_file() {
 }
 
 #[test]
+#[cfg_attr(not(polars_src), ignore = "no text of polars-core 0.55.2")]
 fn the_published_layout_is_found() {
-    let Some(folder) = folder() else { return };
+    let folder = folder();
     let published = Folder(PathBuf::from(env!("CARGO_TARGET_TMPDIR")).join("polars-core"));
     for (source, file) in texts(&folder) {
         let path = published.0.join(source.path);
@@ -91,6 +95,11 @@ fn the_published_layout_is_found() {
         assert_eq!(published.find(source.path), Ok(path.clone()));
         assert!(source.read(&path).is_ok());
     }
+}
+
+#[test]
+fn there_is_an_oracle_where_there_is_a_text() {
+    assert_eq!(oracle::AVAILABLE, located().is_some());
 }
 
 #[test]

@@ -1,4 +1,4 @@
-//! Document 01's rules for flat types, stored sheets and the season record, in plain Rust.
+//! Document 01's rules for flat types, stored sheets, inner types and the season record, in plain Rust.
 //!
 //! Written from the document alone, with limits, codes and refusals of its own: the tests compare the proved code with
 //! it, and the benchmark times the two side by side.
@@ -7,6 +7,10 @@
 #![deny(missing_docs)]
 
 pub mod channels;
+pub mod inner;
+pub mod sheet;
+
+use sheet::{Argument, StoredArgument};
 
 const MAX_NODES: usize = 512;
 const MAX_DEPTH: usize = 32;
@@ -78,45 +82,14 @@ pub fn decode(encoded: &[u8], kinds: &mut [u8], args: &mut [u64]) -> Result<usiz
 /// Writes a flat type as a stored sheet and gives its length.
 pub fn encode(kinds: &[u8], args: &[u64], out: &mut [u8]) -> Result<usize, Refusal> {
     check(kinds, args)?;
-    let nodes = kinds.len();
-    let len = 2 + 9 * nodes;
-    let out = out.get_mut(..len).ok_or(Refusal::Output)?;
-    let (count, out) = out.split_at_mut(2);
-    let (out_kinds, out_args) = out.split_at_mut(nodes);
-    count.copy_from_slice(&(nodes as u16).to_le_bytes());
-    out_kinds.copy_from_slice(kinds);
-    for (bytes, arg) in out_args.as_chunks_mut().0.iter_mut().zip(args) {
-        *bytes = arg.to_le_bytes();
-    }
+    let len = sheet::len(kinds, args);
+    sheet::write(kinds, args, out.get_mut(..len).ok_or(Refusal::Output)?);
     Ok(len)
 }
 
 /// The kinds and arguments of a stored sheet whose length is right.
-fn split(encoded: &[u8]) -> Option<(&[u8], &[[u8; 8]])> {
-    let (count, nodes) = encoded.split_first_chunk()?;
-    let count = usize::from(u16::from_le_bytes(*count));
-    if !(1..=MAX_NODES).contains(&count) || nodes.len() != 9 * count {
-        return None;
-    }
-    let (kinds, args) = nodes.split_at(count);
-    Some((kinds, args.as_chunks().0))
-}
-
-/// An argument, as a number or as it is stored.
-trait Argument: Copy {
-    fn value(self) -> u64;
-}
-
-impl Argument for u64 {
-    fn value(self) -> u64 {
-        self
-    }
-}
-
-impl Argument for [u8; 8] {
-    fn value(self) -> u64 {
-        u64::from_le_bytes(self)
-    }
+fn split(encoded: &[u8]) -> Option<(&[u8], &[StoredArgument])> {
+    sheet::split(encoded).filter(|(kinds, _)| (1..=MAX_NODES).contains(&kinds.len()))
 }
 
 /// Refusals 2 to 5 of as many kinds as arguments. Each looks at all nodes before the next.

@@ -2,6 +2,7 @@
 //! element of the outputs must be the same, and be what the rules say of outputs.
 
 use crate::flat::Flat;
+use crate::parts::{place, Part, PARTS};
 use std::fmt::Debug;
 
 /// Elements behind each output that no call is given.
@@ -32,13 +33,14 @@ impl Comparison {
         number
     }
 
-    /// Compares encoding a flat type into outputs of several lengths, and gives its number.
+    /// Compares encoding a flat type into outputs of several lengths, and its inner and leaf types; gives its number.
     pub fn flat(&mut self, flat: &Flat) -> u64 {
         let number = refusal(plain::check(&flat.kinds, &flat.args));
         let len = lomzegash::encoded_len(flat.kinds.len());
         for room in [0, len - 1, len + 7, len] {
             self.encode(flat, number, room);
         }
+        PARTS.iter().for_each(|part| compare_part(part, flat));
         if number == 0 {
             let decoded = lomzegash::decode_to_vec(&self.bytes.port[..len]);
             assert!(decoded.is_ok_and(|(kinds, args)| kinds == flat.kinds && args == flat.args), "{flat:?} and back");
@@ -103,6 +105,14 @@ impl Comparison {
         self.kinds.compare(answer.1, sentinel);
         self.args.compare(answer.1, wide);
     }
+}
+
+/// A part is as many of the last nodes as the plain Rust says, in the caller's own slices.
+fn compare_part(part: &Part, flat: &Flat) {
+    let port = (part.port)(flat.parts()).map_err(lomzegash::Error::number);
+    let plain = (part.plain)(&flat.kinds, &flat.args).map_err(|refusal| refusal as u64);
+    let expected = plain.map(|nodes| nodes.map(|nodes| flat.end(nodes)));
+    assert_eq!(port.map(|part| part.map(place)), expected.map(|part| part.map(place)), "a part of {flat:?}");
 }
 
 /// What a call with an output answers: the type's own refusal, then 8, then the length of the result.

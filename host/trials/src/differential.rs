@@ -6,22 +6,14 @@
 //! oracle says, and where the input isn't a type to the refusal that document 01 gives. A difference is a panic that
 //! shows the input.
 
-use crate::entries::{Outcome, Predicate, Relation, Writer, PREDICATES, RELATIONS, WRITERS};
+use crate::entries::{Predicate, Relation, Writer, PREDICATES, RELATIONS, WRITERS};
 use crate::input::{types, Input, Shown};
 use lomzegash::supertype::JoinReport;
 use lomzegash::Error;
 use std::fmt::{Debug, Display};
 
-/// What is said where there is nothing to compare with; `./test` looks for these words.
+/// What is said where there is nothing to compare with.
 pub const NO_ORACLE: &str = "no source of polars-core at hand: the port was not compared with the crate";
-
-/// Whether there is an oracle; where there is none it says so.
-pub fn has_oracle() -> bool {
-    if !oracle::AVAILABLE {
-        println!("{NO_ORACLE}");
-    }
-    oracle::AVAILABLE
-}
 
 /// How many comparisons came to each number from 0, success, to 13.
 pub type Numbers = [u64; 14];
@@ -119,10 +111,7 @@ impl Differential {
     /// An output of length 0, one too short, just long enough and longer; lengths near the input's where nothing is
     /// to be written.
     fn writer(&mut self, writer: &Writer, input: &Input) {
-        let outcome = match &input.dtype {
-            Ok(dtype) => (writer.oracle)(input, dtype),
-            Err(number) => Outcome::Refused(*number),
-        };
+        let outcome = writer.outcome(input);
         let len = outcome.len().unwrap_or(input.bytes.len() + 1);
         for room in [0, len - 1, len, len + 7] {
             self.write_bytes(writer.name, &outcome, room, |out| (writer.port)(&input.bytes, out));

@@ -95,6 +95,16 @@ pub struct Writer {
     pub oracle: fn(&Input, &Type) -> Outcome,
 }
 
+impl Writer {
+    /// What the call comes to, with room enough: by document 01 where the input is no type, else by the oracle.
+    pub fn outcome(&self, input: &Input) -> Outcome {
+        match &input.dtype {
+            Ok(dtype) => (self.oracle)(input, dtype),
+            Err(number) => Outcome::Refused(*number),
+        }
+    }
+}
+
 /// Every entry point that writes a type; materialising once for each state of its flag.
 pub const WRITERS: [Writer; 6] = [
     Writer { name: "inner_dtype", port: dtype::inner_dtype, oracle: |_, dtype| written_or_none(dtype.inner_dtype()) },

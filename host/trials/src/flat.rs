@@ -1,6 +1,7 @@
 //! Flat types as the trials build them, valid or not.
 
 use lomzegash::kind::{FIELD, INT8, LIST, STRUCT};
+use plain::sheet::{self, Argument};
 
 /// Kinds and arguments, which may be anything at all.
 #[derive(Clone, Debug, Default)]
@@ -70,18 +71,14 @@ impl Flat {
         self.args.extend(&other.args);
     }
 
-    /// The kinds and the arguments in bytes that are laid out as those of some, unchecked.
+    /// The kinds and the arguments of bytes that are laid out as those of some, unchecked.
     pub fn read(bytes: &[u8]) -> Flat {
-        let (kinds, args) = bytes[2..].split_at(bytes.len() / 9);
-        let args = args.chunks_exact(8).map(|arg| u64::from_le_bytes(arg.try_into().expect("8 bytes")));
-        Flat { kinds: kinds.to_vec(), args: args.collect() }
+        let (kinds, args) = sheet::split(bytes).expect("bytes that have the length of their number of nodes");
+        Flat { kinds: kinds.to_vec(), args: args.iter().map(|arg| arg.value()).collect() }
     }
 
     /// The bytes of the encoded type with these kinds and arguments, unchecked.
     pub fn laid_out(&self) -> Vec<u8> {
-        let mut bytes = (self.kinds.len() as u16).to_le_bytes().to_vec();
-        bytes.extend(&self.kinds);
-        bytes.extend(self.args.iter().flat_map(|arg| arg.to_le_bytes()));
-        bytes
+        sheet::lay_out(&self.kinds, &self.args)
     }
 }

@@ -2,8 +2,8 @@
 
 use crate::flat::Flat;
 use lomzegash::kind::UNKNOWN_ANY;
-use lomzegash::Error;
 use oracle::Type;
+use plain::sheet;
 use std::thread;
 
 /// Bytes for the port, and for the oracle what they are.
@@ -24,21 +24,24 @@ impl Input {
         Input { bytes, dtype }
     }
 
-    /// The kinds and the arguments; None where the bytes have the length of none.
+    /// The kinds and the arguments; None where the length isn't that of a number of nodes.
     pub fn nodes(&self) -> Option<Flat> {
-        let no_length = matches!(self.dtype, Err(number) if number == Error::Length.number());
-        (!no_length).then(|| Flat::read(&self.bytes))
+        sheet::split(&self.bytes).is_some().then(|| Flat::read(&self.bytes))
     }
 
     /// The kind of the first node of a type.
     pub(crate) fn root(&self) -> u8 {
-        self.bytes[2]
+        self.kinds()[0]
     }
 
     /// Whether the unknown type `any` is a part of the type.
     pub fn has_any(&self) -> bool {
-        let nodes = self.bytes.len() / 9;
-        self.dtype.is_ok() && self.bytes[2..2 + nodes].contains(&UNKNOWN_ANY)
+        self.dtype.is_ok() && self.kinds().contains(&UNKNOWN_ANY)
+    }
+
+    /// The kinds of a type.
+    fn kinds(&self) -> &[u8] {
+        sheet::split(&self.bytes).expect("a type has the length of its number of nodes").0
     }
 }
 

@@ -20,6 +20,7 @@ pub mod joins;
 pub mod leaves;
 pub mod merges;
 mod outputs;
+mod parts;
 pub mod random;
 mod ranges;
 pub mod relatives;

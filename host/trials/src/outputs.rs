@@ -38,7 +38,7 @@ impl Differential {
         rooms: (usize, usize),
         call: impl FnOnce(Output) -> Result<Option<usize>, Error>,
     ) {
-        let expected = outcome.with_room(|bytes| bytes.len() / 9 <= rooms.0.min(rooms.1));
+        let expected = outcome.with_room(|bytes| bytes.len() <= lomzegash::encoded_len(rooms.0.min(rooms.1)));
         let written = expected.ok().flatten().map(Flat::read);
         let filler = FILLERS[rooms.0 % 2];
         let wide = u64::from_ne_bytes([filler; 8]);

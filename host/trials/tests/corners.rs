@@ -1,4 +1,4 @@
-//! Corners 1 to 18 of document 01, by its own words: of the port, and of the crate's text where there is one.
+//! Corners 1 to 18 of document 01, by its own words: of the port, and of the crate's text where the crate has the rule.
 
 use lomzegash::dtype;
 use lomzegash::kind::*;
@@ -9,6 +9,59 @@ use trials::entries::Outcome;
 use trials::flat::Flat;
 use trials::input::Input;
 use trials::joins::{self, Join};
+
+/// Who is asked: the port, or the crate's own text.
+#[derive(Clone, Copy)]
+enum Who {
+    Port,
+    Crate,
+}
+
+/// Each of these as two tests, one of the port and one of the crate's text, which is ignored where there is none.
+macro_rules! of_both {
+    ($($corner:ident)*) => {
+        mod of_the_port {
+            $(
+                #[test]
+                fn $corner() {
+                    super::$corner(super::Who::Port);
+                }
+            )*
+        }
+
+        mod of_the_crate {
+            $(
+                #[test]
+                #[cfg_attr(not(polars_src), ignore = "no text of polars-core 0.55.2")]
+                fn $corner() {
+                    super::$corner(super::Who::Crate);
+                }
+            )*
+        }
+    };
+}
+
+of_both! {
+    corner_1_the_left_of_two_dyn_ints_returns
+    corner_2_any_with_string_gives_string_and_string_with_any_gives_any
+    corner_3_dyn_int_with_str
+    corner_4_uint64_with_negative_dyn_ints
+    corner_5_uint128_with_int8
+    corner_6_binaries_with_string
+    corner_7_boolean_with_dyn_float_and_date_with_dyn_int_give_any
+    corner_8_floats_with_integers
+    corner_9_integers_with_dyn_ints
+    corner_10_datetimes_of_different_zones_have_no_supertype
+    int32_with_uint64
+    the_lossless_upcast_takes_any_two_types
+    corner_11_an_empty_struct_casts_to_any_struct
+    corner_12_the_first_no_or_no_verdict_decides
+    corner_13_arrays_of_unequal_width_do_not_cast
+    corner_14_boolean_does_not_cast_to_null_but_null_to_boolean
+    corner_15_what_becomes_of_unknown_types
+    corner_16_the_physical_forms
+    corner_17_leaf_types_and_shapes
+}
 
 const YES: Option<bool> = Some(true);
 const NO: Option<bool> = Some(false);
@@ -46,11 +99,12 @@ fn type_of(flat: &Flat) -> Type {
 }
 
 /// Whether `from` casts to `to`.
-fn casts(from: &Flat, to: &Flat, expected: Option<bool>) {
-    assert_eq!(dtype::can_cast_to(&from.laid_out(), &to.laid_out()), Ok(expected), "{from:?} to {to:?}");
-    if oracle::AVAILABLE {
-        assert_eq!(type_of(from).can_cast_to(&type_of(to)), expected, "the crate: {from:?} to {to:?}");
-    }
+fn casts(who: Who, from: &Flat, to: &Flat, expected: Option<bool>) {
+    let verdict = match who {
+        Who::Port => dtype::can_cast_to(&from.laid_out(), &to.laid_out()).expect("two types"),
+        Who::Crate => type_of(from).can_cast_to(&type_of(to)),
+    };
+    assert_eq!(verdict, expected, "{from:?} to {to:?}");
 }
 
 fn dyn_int(value: i128) -> Flat {
@@ -64,32 +118,32 @@ fn datetime(unit: u64, zone: u64) -> Flat {
 }
 
 /// What a join of two types is; None where there is none.
-fn joins(join: Join, left: &Flat, right: &Flat, expected: Option<&Flat>) {
-    let (l, r, expected) = (left.laid_out(), right.laid_out(), expected.map(Flat::laid_out));
-    let mut out = [0; 11];
-    let port = join.on_bytes(&l, &r, &mut out).map(|written| written.map(|len| out[..len].to_vec()));
-    assert_eq!(port, Ok(expected.clone()), "{join:?} of {left:?} and {right:?}");
-    if oracle::AVAILABLE {
-        let crates = match join.outcome(&Input::new(l), &Input::new(r)) {
-            Outcome::Written(bytes) => Some(bytes),
-            Outcome::None => None,
-            Outcome::Refused(number) => panic!("refused by {number}"),
-        };
-        assert_eq!(crates, expected, "the crate: {join:?} of {left:?} and {right:?}");
-    }
+fn joins(who: Who, join: Join, left: &Flat, right: &Flat, expected: Option<&Flat>) {
+    let (l, r, mut out) = (left.laid_out(), right.laid_out(), [0; 11]);
+    let answer = match who {
+        Who::Port => {
+            join.on_bytes(&l, &r, &mut out).map(|written| written.map(|len| out[..len].to_vec())).map_err(Error::number)
+        }
+        Who::Crate => match join.outcome(&Input::new(l), &Input::new(r)) {
+            Outcome::Written(bytes) => Ok(Some(bytes)),
+            Outcome::None => Ok(None),
+            Outcome::Refused(number) => Err(number),
+        },
+    };
+    assert_eq!(answer, Ok(expected.map(Flat::laid_out)), "{join:?} of {left:?} and {right:?}");
 }
 
 /// The supertype with primitive-to-string off or on; the implode flag changes nothing.
-fn supertype_where(to_string: bool, left: &Flat, right: &Flat, expected: Option<&Flat>) {
+fn supertype_where(who: Who, to_string: bool, left: &Flat, right: &Flat, expected: Option<&Flat>) {
     for implode in [false, true] {
-        joins(joins::supertype(implode, to_string), left, right, expected);
+        joins(who, joins::supertype(implode, to_string), left, right, expected);
     }
 }
 
 /// The supertype, whatever the flags.
-fn supertype(left: &Flat, right: &Flat, expected: &Flat) {
+fn supertype(who: Who, left: &Flat, right: &Flat, expected: &Flat) {
     for to_string in [false, true] {
-        supertype_where(to_string, left, right, Some(expected));
+        supertype_where(who, to_string, left, right, Some(expected));
     }
 }
 
@@ -104,41 +158,39 @@ fn written(
 }
 
 /// What becomes of a type in materialising; None where the call is refused by 7.
-fn materializes(of: &Flat, allow_unknown: bool, expected: Option<&Flat>) {
-    let bytes = expected.map(Flat::laid_out);
-    let port = written(|encoded, out| dtype::materialize_unknown(encoded, allow_unknown, out).map(Some), of);
-    assert_eq!(port, bytes.clone().map(Some).ok_or(Error::Unknown), "{of:?}");
-    if oracle::AVAILABLE {
-        let crates = type_of(of).materialize_unknown(allow_unknown).map(|dtype| dtype.encode());
-        assert_eq!(crates, bytes, "the crate: {of:?}");
-    }
+fn materializes(who: Who, of: &Flat, allow_unknown: bool, expected: Option<&Flat>) {
+    let known = match who {
+        Who::Port => written(|encoded, out| dtype::materialize_unknown(encoded, allow_unknown, out).map(Some), of),
+        Who::Crate => {
+            let known = type_of(of).materialize_unknown(allow_unknown);
+            known.map(|dtype| Some(dtype.encode())).ok_or(Error::Unknown)
+        }
+    };
+    assert_eq!(known, expected.map(|flat| Some(flat.laid_out())).ok_or(Error::Unknown), "{of:?}");
 }
 
-fn physical(of: &Flat, expected: &Flat) {
-    let bytes = expected.laid_out();
-    let port = written(|encoded, out| dtype::to_physical(encoded, out).map(Some), of);
-    assert_eq!(port, Ok(Some(bytes.clone())), "{of:?}");
-    if oracle::AVAILABLE {
-        assert_eq!(type_of(of).to_physical().encode(), bytes, "the crate: {of:?}");
-    }
+fn physical(who: Who, of: &Flat, expected: &Flat) {
+    let form = match who {
+        Who::Port => written(|encoded, out| dtype::to_physical(encoded, out).map(Some), of),
+        Who::Crate => Ok(Some(type_of(of).to_physical().encode())),
+    };
+    assert_eq!(form, Ok(Some(expected.laid_out())), "{of:?}");
 }
 
-fn leaf_dtype(of: &Flat, expected: &Flat) {
-    let bytes = expected.laid_out();
-    let port = written(|encoded, out| dtype::leaf_dtype(encoded, out).map(Some), of);
-    assert_eq!(port, Ok(Some(bytes.clone())), "{of:?}");
-    if oracle::AVAILABLE {
-        assert_eq!(type_of(of).leaf_dtype().encode(), bytes, "the crate: {of:?}");
-    }
+fn leaf_dtype(who: Who, of: &Flat, expected: &Flat) {
+    let leaf = match who {
+        Who::Port => written(|encoded, out| dtype::leaf_dtype(encoded, out).map(Some), of),
+        Who::Crate => Ok(Some(type_of(of).leaf_dtype().encode())),
+    };
+    assert_eq!(leaf, Ok(Some(expected.laid_out())), "{of:?}");
 }
 
-fn shape(of: &Flat, expected: Option<&[u64]>) {
-    let port = dtype::get_shape(&of.laid_out()).map(|shape| shape.map(|shape| shape.widths().to_vec()));
-    let expected = expected.map(<[u64]>::to_vec);
-    assert_eq!(port, Ok(expected.clone()), "{of:?}");
-    if oracle::AVAILABLE {
-        assert_eq!(type_of(of).get_shape(), expected, "the crate: {of:?}");
-    }
+fn shape(who: Who, of: &Flat, expected: Option<&[u64]>) {
+    let widths = match who {
+        Who::Port => dtype::get_shape(&of.laid_out()).expect("a type").map(|shape| shape.widths().to_vec()),
+        Who::Crate => type_of(of).get_shape(),
+    };
+    assert_eq!(widths.as_deref(), expected, "{of:?}");
 }
 
 /// What the merge of a column into a channel answers, in each form of the call; gives the types as it leaves them.
@@ -163,70 +215,61 @@ fn holding(channel: usize, byte: u8) -> ChannelTypes {
     ChannelTypes::from_codes(codes)
 }
 
-#[test]
-fn corner_1_the_left_of_two_dyn_ints_returns() {
+fn corner_1_the_left_of_two_dyn_ints_returns(who: Who) {
     let [one, three_hundred, least] = [1, 300, -(1 << 64)].map(dyn_int);
-    supertype(&one, &three_hundred, &one);
-    supertype(&three_hundred, &one, &three_hundred);
-    supertype(&least, &one, &least);
-    supertype(&one, &least, &one);
+    supertype(who, &one, &three_hundred, &one);
+    supertype(who, &three_hundred, &one, &three_hundred);
+    supertype(who, &least, &one, &least);
+    supertype(who, &one, &least, &one);
 }
 
-#[test]
-fn corner_2_any_with_string_gives_string_and_string_with_any_gives_any() {
-    supertype(&leaf(UNKNOWN_ANY), &leaf(STRING), &leaf(STRING));
-    supertype(&leaf(STRING), &leaf(UNKNOWN_ANY), &leaf(UNKNOWN_ANY));
+fn corner_2_any_with_string_gives_string_and_string_with_any_gives_any(who: Who) {
+    supertype(who, &leaf(UNKNOWN_ANY), &leaf(STRING), &leaf(STRING));
+    supertype(who, &leaf(STRING), &leaf(UNKNOWN_ANY), &leaf(UNKNOWN_ANY));
 }
 
-#[test]
-fn corner_3_dyn_int_with_str() {
+fn corner_3_dyn_int_with_str(who: Who) {
     let (five, str, any) = (dyn_int(5), leaf(UNKNOWN_STR), leaf(UNKNOWN_ANY));
-    supertype_where(true, &five, &str, Some(&any));
-    supertype_where(true, &str, &five, Some(&str));
-    supertype_where(false, &five, &str, Some(&any));
-    supertype_where(false, &str, &five, Some(&any));
+    supertype_where(who, true, &five, &str, Some(&any));
+    supertype_where(who, true, &str, &five, Some(&str));
+    supertype_where(who, false, &five, &str, Some(&any));
+    supertype_where(who, false, &str, &five, Some(&any));
 }
 
-#[test]
-fn corner_4_uint64_with_negative_dyn_ints() {
+fn corner_4_uint64_with_negative_dyn_ints(who: Who) {
     let uint64 = leaf(UINT64);
-    supertype(&uint64, &dyn_int(-1), &leaf(INT64));
-    supertype(&uint64, &dyn_int(-(1 << 63)), &leaf(INT64));
-    supertype(&uint64, &dyn_int(-(1 << 63) - 1), &uint64);
-    supertype(&uint64, &dyn_int(-(1 << 64)), &uint64);
+    supertype(who, &uint64, &dyn_int(-1), &leaf(INT64));
+    supertype(who, &uint64, &dyn_int(-(1 << 63)), &leaf(INT64));
+    supertype(who, &uint64, &dyn_int(-(1 << 63) - 1), &uint64);
+    supertype(who, &uint64, &dyn_int(-(1 << 64)), &uint64);
 }
 
-#[test]
-fn corner_5_uint128_with_int8() {
+fn corner_5_uint128_with_int8(who: Who) {
     let (uint128, int8, int128) = (leaf(UINT128), leaf(INT8), leaf(INT128));
-    supertype(&uint128, &int8, &int128);
-    supertype(&int8, &uint128, &int128);
-    joins(Join::Lossless, &uint128, &int8, None);
-    joins(Join::Lossless, &int8, &uint128, None);
+    supertype(who, &uint128, &int8, &int128);
+    supertype(who, &int8, &uint128, &int128);
+    joins(who, Join::Lossless, &uint128, &int8, None);
+    joins(who, Join::Lossless, &int8, &uint128, None);
 }
 
-#[test]
-fn corner_6_binaries_with_string() {
-    supertype_where(false, &leaf(BINARY_OFFSET), &leaf(STRING), Some(&leaf(STRING)));
-    supertype(&leaf(BINARY), &leaf(STRING), &leaf(BINARY));
+fn corner_6_binaries_with_string(who: Who) {
+    supertype_where(who, false, &leaf(BINARY_OFFSET), &leaf(STRING), Some(&leaf(STRING)));
+    supertype(who, &leaf(BINARY), &leaf(STRING), &leaf(BINARY));
 }
 
-#[test]
-fn corner_7_boolean_with_dyn_float_and_date_with_dyn_int_give_any() {
-    supertype(&leaf(BOOLEAN), &leaf(UNKNOWN_FLOAT), &leaf(UNKNOWN_ANY));
-    supertype(&leaf(DATE), &dyn_int(5), &leaf(UNKNOWN_ANY));
+fn corner_7_boolean_with_dyn_float_and_date_with_dyn_int_give_any(who: Who) {
+    supertype(who, &leaf(BOOLEAN), &leaf(UNKNOWN_FLOAT), &leaf(UNKNOWN_ANY));
+    supertype(who, &leaf(DATE), &dyn_int(5), &leaf(UNKNOWN_ANY));
 }
 
-#[test]
-fn corner_8_floats_with_integers() {
+fn corner_8_floats_with_integers(who: Who) {
     for (integer, float) in [(INT8, FLOAT16), (INT16, FLOAT32), (INT32, FLOAT64)] {
-        supertype(&leaf(FLOAT16), &leaf(integer), &leaf(float));
+        supertype(who, &leaf(FLOAT16), &leaf(integer), &leaf(float));
     }
-    supertype(&leaf(INT32), &leaf(FLOAT32), &leaf(FLOAT64));
+    supertype(who, &leaf(INT32), &leaf(FLOAT32), &leaf(FLOAT64));
 }
 
-#[test]
-fn corner_9_integers_with_dyn_ints() {
+fn corner_9_integers_with_dyn_ints(who: Who) {
     let cases = [
         (INT8, 127, INT8),
         (INT8, 128, INT16),
@@ -236,30 +279,28 @@ fn corner_9_integers_with_dyn_ints() {
         (INT64, 1 << 63, FLOAT64),
     ];
     for (integer, value, expected) in cases {
-        supertype(&leaf(integer), &dyn_int(value), &leaf(expected));
+        supertype(who, &leaf(integer), &dyn_int(value), &leaf(expected));
     }
 }
 
-#[test]
-fn corner_10_datetimes_of_different_zones_have_no_supertype() {
+fn corner_10_datetimes_of_different_zones_have_no_supertype(who: Who) {
     for unit in 0..=2 {
         for (left, right) in [(1, 2), (2, 1), (0, 1), (1, 0), (0, (1 << 32) - 1)] {
             for to_string in [false, true] {
-                supertype_where(to_string, &datetime(0, left), &datetime(unit, right), None);
+                supertype_where(who, to_string, &datetime(0, left), &datetime(unit, right), None);
             }
         }
         for zone in [0, 1, (1 << 32) - 1] {
-            supertype(&datetime(0, zone), &datetime(unit, zone), &datetime(unit, zone));
+            supertype(who, &datetime(0, zone), &datetime(unit, zone), &datetime(unit, zone));
         }
     }
 }
 
 /// The probes of tank 7 and tank 9: one rule says Float64, the other Int128.
-#[test]
-fn int32_with_uint64() {
+fn int32_with_uint64(who: Who) {
     let (old, new) = (leaf(INT32), leaf(UINT64));
-    supertype(&old, &new, &leaf(FLOAT64));
-    joins(Join::Lossless, &old, &new, Some(&leaf(INT128)));
+    supertype(who, &old, &new, &leaf(FLOAT64));
+    joins(who, Join::Lossless, &old, &new, Some(&leaf(INT128)));
 }
 
 /// 6 comes before 13, which asks about the two types and not about what stands inside them, and 8 after both.
@@ -285,8 +326,7 @@ fn refusals_6_13_and_8_of_the_supertype() {
 }
 
 /// It isn't a supertype call in the sense of 6 and 13.
-#[test]
-fn the_lossless_upcast_takes_any_two_types() {
+fn the_lossless_upcast_takes_any_two_types(who: Who) {
     let (decimal, int8) = (Flat::new(&[(DECIMAL, 256 * 2 + 10)]), leaf(INT8));
     let without = [
         (&decimal, &int8),
@@ -299,57 +339,60 @@ fn the_lossless_upcast_takes_any_two_types() {
         (&leaf(BOOLEAN), &int8),
     ];
     for (left, right) in without {
-        joins(Join::Lossless, left, right, None);
-        assert_eq!(Join::Lossless.on_bytes(&left.laid_out(), &right.laid_out(), &mut []), Ok(None));
+        joins(who, Join::Lossless, left, right, None);
     }
 }
 
+/// A None has no result that could be too long.
 #[test]
-fn corner_11_an_empty_struct_casts_to_any_struct() {
+fn no_lossless_upcast_needs_no_room() {
+    let [int8, list] = [leaf(INT8), list(&leaf(INT8))].map(|flat| flat.laid_out());
+    for (left, right) in [(&int8, &int8), (&list, &int8), (&int8, &list)] {
+        assert_eq!(Join::Lossless.on_bytes(left, right, &mut []), Ok(None));
+    }
+}
+
+fn corner_11_an_empty_struct_casts_to_any_struct(who: Who) {
     let empty = Flat::wide_struct(0);
     let two = fields(0, &[leaf(BOOLEAN), leaf(DATE)]);
-    casts(&empty, &empty, YES);
-    casts(&empty, &fields(0, &[leaf(DATE)]), YES);
-    casts(&empty, &two, YES);
-    casts(&empty, &Flat::wide_struct(255), YES);
-    casts(&list(&empty), &list(&two), YES);
-    casts(&two, &empty, NO);
-    casts(&two, &fields(0, &[leaf(BOOLEAN)]), NO);
-    casts(&fields(0, &[leaf(DATE)]), &fields(0, &[leaf(TIME), leaf(TIME)]), NO);
+    casts(who, &empty, &empty, YES);
+    casts(who, &empty, &fields(0, &[leaf(DATE)]), YES);
+    casts(who, &empty, &two, YES);
+    casts(who, &empty, &Flat::wide_struct(255), YES);
+    casts(who, &list(&empty), &list(&two), YES);
+    casts(who, &two, &empty, NO);
+    casts(who, &two, &fields(0, &[leaf(BOOLEAN)]), NO);
+    casts(who, &fields(0, &[leaf(DATE)]), &fields(0, &[leaf(TIME), leaf(TIME)]), NO);
 }
 
-#[test]
-fn corner_12_the_first_no_or_no_verdict_decides() {
+fn corner_12_the_first_no_or_no_verdict_decides(who: Who) {
     let from = fields(0, &[leaf(BOOLEAN), leaf(INT8)]);
-    casts(&leaf(INT8), &leaf(STRING), NO_VERDICT);
-    casts(&from, &fields(0, &[leaf(NULL), leaf(STRING)]), NO);
+    casts(who, &leaf(INT8), &leaf(STRING), NO_VERDICT);
+    casts(who, &from, &fields(0, &[leaf(NULL), leaf(STRING)]), NO);
     let turned = fields(0, &[leaf(INT8), leaf(BOOLEAN)]);
-    casts(&turned, &fields(0, &[leaf(STRING), leaf(NULL)]), NO_VERDICT);
-    casts(&from, &fields(0, &[leaf(STRING), leaf(INT64)]), YES);
-    casts(&from, &fields(7, &[leaf(STRING), leaf(INT64)]), YES);
-    casts(&from, &fields(7, &[leaf(STRING), leaf(STRING)]), NO_VERDICT);
+    casts(who, &turned, &fields(0, &[leaf(STRING), leaf(NULL)]), NO_VERDICT);
+    casts(who, &from, &fields(0, &[leaf(STRING), leaf(INT64)]), YES);
+    casts(who, &from, &fields(7, &[leaf(STRING), leaf(INT64)]), YES);
+    casts(who, &from, &fields(7, &[leaf(STRING), leaf(STRING)]), NO_VERDICT);
 }
 
-#[test]
-fn corner_13_arrays_of_unequal_width_do_not_cast() {
-    casts(&array(2, &leaf(INT8)), &array(3, &leaf(STRING)), NO);
-    casts(&array(2, &leaf(INT8)), &array(3, &leaf(INT8)), NO);
-    casts(&array(2, &leaf(INT8)), &array(2, &leaf(INT16)), YES);
-    casts(&array(2, &leaf(INT8)), &array(2, &leaf(STRING)), NO_VERDICT);
-    casts(&list(&leaf(INT8)), &list(&leaf(STRING)), NO_VERDICT);
-    casts(&list(&leaf(INT8)), &array(2, &leaf(INT8)), NO_VERDICT);
+fn corner_13_arrays_of_unequal_width_do_not_cast(who: Who) {
+    casts(who, &array(2, &leaf(INT8)), &array(3, &leaf(STRING)), NO);
+    casts(who, &array(2, &leaf(INT8)), &array(3, &leaf(INT8)), NO);
+    casts(who, &array(2, &leaf(INT8)), &array(2, &leaf(INT16)), YES);
+    casts(who, &array(2, &leaf(INT8)), &array(2, &leaf(STRING)), NO_VERDICT);
+    casts(who, &list(&leaf(INT8)), &list(&leaf(STRING)), NO_VERDICT);
+    casts(who, &list(&leaf(INT8)), &array(2, &leaf(INT8)), NO_VERDICT);
 }
 
-#[test]
-fn corner_14_boolean_does_not_cast_to_null_but_null_to_boolean() {
-    casts(&leaf(BOOLEAN), &leaf(NULL), NO);
-    casts(&leaf(NULL), &leaf(BOOLEAN), YES);
-    casts(&leaf(NULL), &Flat::wide_struct(3), YES);
-    casts(&Flat::wide_struct(3), &leaf(NULL), NO_VERDICT);
+fn corner_14_boolean_does_not_cast_to_null_but_null_to_boolean(who: Who) {
+    casts(who, &leaf(BOOLEAN), &leaf(NULL), NO);
+    casts(who, &leaf(NULL), &leaf(BOOLEAN), YES);
+    casts(who, &leaf(NULL), &Flat::wide_struct(3), YES);
+    casts(who, &Flat::wide_struct(3), &leaf(NULL), NO_VERDICT);
 }
 
-#[test]
-fn corner_15_what_becomes_of_unknown_types() {
+fn corner_15_what_becomes_of_unknown_types(who: Who) {
     let (int31, int63) = (1 << 31, 1 << 63);
     let dyns = [
         (UNKNOWN_INT_POS, 0, INT32),
@@ -369,15 +412,15 @@ fn corner_15_what_becomes_of_unknown_types() {
     ];
     for (kind, arg, known) in dyns {
         for allow_unknown in [false, true] {
-            materializes(&Flat::new(&[(kind, arg)]), allow_unknown, Some(&leaf(known)));
+            materializes(who, &Flat::new(&[(kind, arg)]), allow_unknown, Some(&leaf(known)));
         }
     }
     let any = leaf(UNKNOWN_ANY);
-    materializes(&any, true, Some(&any));
-    materializes(&any, false, None);
+    materializes(who, &any, true, Some(&any));
+    materializes(who, &any, false, None);
     let mixed = fields(4, &[leaf(UNKNOWN_STR), list(&any), leaf(UNKNOWN_FLOAT)]);
-    materializes(&mixed, true, Some(&fields(4, &[leaf(STRING), list(&any), leaf(FLOAT64)])));
-    materializes(&mixed, false, None);
+    materializes(who, &mixed, true, Some(&fields(4, &[leaf(STRING), list(&any), leaf(FLOAT64)])));
+    materializes(who, &mixed, false, None);
 }
 
 /// Where the whole call is refused by 7, there is no result that could be too long.
@@ -388,8 +431,7 @@ fn corner_15_any_is_refused_before_a_short_output() {
     assert_eq!(dtype::materialize_unknown(&any, true, &mut []), Err(Error::OutputTooShort));
 }
 
-#[test]
-fn corner_16_the_physical_forms() {
+fn corner_16_the_physical_forms(who: Who) {
     let forms = [
         ((DATE, 0), INT32),
         ((DATETIME, 0), INT64),
@@ -400,28 +442,27 @@ fn corner_16_the_physical_forms() {
     ];
     for (node, form) in forms {
         let (logical, form) = (Flat::new(&[node]), leaf(form));
-        physical(&logical, &form);
-        physical(&array(5, &list(&logical)), &array(5, &list(&form)));
-        physical(&fields(3, &[leaf(STRING), logical]), &fields(3, &[leaf(STRING), form]));
+        physical(who, &logical, &form);
+        physical(who, &array(5, &list(&logical)), &array(5, &list(&form)));
+        physical(who, &fields(3, &[leaf(STRING), logical]), &fields(3, &[leaf(STRING), form]));
     }
     for kind in (NULL..=FLOAT64).chain(STRING..=BINARY_OFFSET).chain(UNKNOWN_ANY..=UNKNOWN_INT_NEG) {
-        physical(&leaf(kind), &leaf(kind));
+        physical(who, &leaf(kind), &leaf(kind));
     }
 }
 
-#[test]
-fn corner_17_leaf_types_and_shapes() {
+fn corner_17_leaf_types_and_shapes(who: Who) {
     let inner = fields(0, &[list(&leaf(INT8))]);
-    leaf_dtype(&list(&array(3, &list(&leaf(DATE)))), &leaf(DATE));
-    leaf_dtype(&array(3, &list(&inner)), &inner);
-    leaf_dtype(&inner, &inner);
-    shape(&array(3, &array(0, &leaf(INT8))), Some(&[3, 0]));
-    shape(&array(3, &list(&array(4, &leaf(INT8)))), Some(&[3]));
-    shape(&array(u64::MAX, &inner), Some(&[u64::MAX]));
-    shape(&list(&array(3, &leaf(INT8))), None);
-    shape(&leaf(INT8), None);
+    leaf_dtype(who, &list(&array(3, &list(&leaf(DATE)))), &leaf(DATE));
+    leaf_dtype(who, &array(3, &list(&inner)), &inner);
+    leaf_dtype(who, &inner, &inner);
+    shape(who, &array(3, &array(0, &leaf(INT8))), Some(&[3, 0]));
+    shape(who, &array(3, &list(&array(4, &leaf(INT8)))), Some(&[3]));
+    shape(who, &array(u64::MAX, &inner), Some(&[u64::MAX]));
+    shape(who, &list(&array(3, &leaf(INT8))), None);
+    shape(who, &leaf(INT8), None);
     let deepest: Vec<u64> = (1..=32).collect();
-    shape(&deepest.iter().rev().fold(leaf(INT8), |inner, &width| array(width, &inner)), Some(&deepest));
+    shape(who, &deepest.iter().rev().fold(leaf(INT8), |inner, &width| array(width, &inner)), Some(&deepest));
 }
 
 #[test]

@@ -1,180 +1,288 @@
-/* A caller in C: each function is called through the header. The status is 0, or the number of the first call that went wrong. */
+/* A caller in C, which calls each function of the header and holds each constant to its number. A condition that
+ * doesn't hold is told by its line, and then the status is 1. */
 #include "lomzegash.h"
 
+#include <stdio.h>
 #include <string.h>
+
+static int status = 0;
+
+static void went_wrong(int line, const char *condition) {
+    fprintf(stderr, "line %d: %s\n", line, condition);
+    status = 1;
+}
+
+#define MUST(condition) ((condition) ? (void)0 : went_wrong(__LINE__, #condition))
+
+/* Encoded types of one node, and List(Int16), Array(3, Date) and Decimal(10, 2). */
+static const uint8_t null[11] = {0x01, 0x00, 0x00}, boolean[11] = {0x01, 0x00, 0x01}, uint64[11] = {0x01, 0x00, 0x05};
+static const uint8_t uint128[11] = {0x01, 0x00, 0x06}, int8[11] = {0x01, 0x00, 0x07}, int32[11] = {0x01, 0x00, 0x09};
+static const uint8_t float64[11] = {0x01, 0x00, 0x0E}, string[11] = {0x01, 0x00, 0x10}, date[11] = {0x01, 0x00, 0x13};
+static const uint8_t any[11] = {0x01, 0x00, 0x17}, decimal[11] = {0x01, 0x00, 0x0F, 0x0A, 0x02};
+static const uint8_t list[20] = {0x02, 0x00, 0x1C, 0x08}, array[20] = {0x02, 0x00, 0x1D, 0x13, 0x03};
+
+/* An array as a call takes it. */
+#define LENT(array) array, sizeof array / sizeof *array
 
 static int is(lz_reply reply, uint64_t number, uint64_t value) {
     return reply.number == number && reply.value == value;
 }
 
-/* The rules, on List(Int16) and Array(3, Date). */
-static int rules(void) {
-    const uint8_t list[20] = {0x02, 0x00, 0x1C, 0x08};
-    const uint8_t array[20] = {0x02, 0x00, 0x1D, 0x13, 0x03};
-    const uint8_t any[11] = {0x01, 0x00, 0x17};
-    uint8_t out[21];
-    lz_shape_reply shape = lz_get_shape(array, 20);
-    memset(out, 9, sizeof out);
-
-    if (!is(lz_is_nested(list, 20), LZ_OK, 1) || !is(lz_is_known(list, 20), LZ_OK, 1)) return 9;
-    if (!is(lz_is_logical(list, 20), LZ_OK, 0) || !is(lz_is_logical(array, 20), LZ_OK, 1)) return 10;
-    if (!is(lz_is_primitive(list, 20), LZ_OK, 0) || !is(lz_is_primitive_numeric(list, 20), LZ_OK, 0)) return 11;
-    if (!is(lz_is_temporal(list, 20), LZ_OK, 0) || !is(lz_is_float(list, 20), LZ_OK, 0)) return 12;
-    if (!is(lz_is_integer(list, 20), LZ_OK, 0) || !is(lz_is_signed_integer(list, 20), LZ_OK, 0)) return 13;
-    if (!is(lz_is_unsigned_integer(list, 20), LZ_OK, 0) || !is(lz_is_string(list, 20), LZ_OK, 0)) return 14;
-    if (!is(lz_is_unknown(any, 11), LZ_OK, 1) || !is(lz_contains_unknown(any, 11), LZ_OK, 1)) return 15;
-    if (!is(lz_contains_list_recursive(list, 20), LZ_OK, 1)) return 16;
-
-    if (!is(lz_equal(list, 20, list, 20), LZ_OK, 1) || !is(lz_equal(list, 20, array, 20), LZ_OK, 0)) return 17;
-    if (!is(lz_contains_dtype_recursive(list, 20, any, 11), LZ_OK, 0)) return 18;
-    if (!is(lz_can_cast_to(list, 20, array, 20), LZ_OK, 2)) return 19;
-
-    if (!is(lz_inner_dtype(any, 11, out, 21), LZ_OK, 0) || out[0] != 9) return 20;
-    if (!is(lz_leaf_dtype(list, 20, out, 10), LZ_OUTPUT_TOO_SHORT, 0) || out[0] != 9) return 21;
-    if (!is(lz_array_leaf_dtype(array, 20, out, 21), LZ_OK, 11) || out[2] != 0x13 || out[11] != 9) return 22;
-    if (!is(lz_to_physical(array, 20, out, 21), LZ_OK, 20) || out[3] != 0x09 || out[20] != 9) return 23;
-    if (!is(lz_materialize_unknown(any, 11, 0, out, 0), LZ_UNKNOWN, 0)) return 24;
-    if (!is(lz_materialize_unknown(any, 11, 1, out, 21), LZ_OK, 11) || memcmp(out, any, 11) != 0) return 25;
-
-    if (shape.number != LZ_OK || shape.count != 1 || shape.widths[0] != 3 || shape.widths[1] != 0) return 26;
-    if (!is(lz_get_time_units(0, 2), LZ_OK, 2) || !is(lz_get_time_units(3, 0), LZ_ARGUMENT, 0)) return 27;
-    return 0;
+static int yes(lz_reply reply) {
+    return is(reply, 0, 1);
 }
 
-/* The joins, on Int32, UInt64, UInt128, a Decimal and List(Int16). */
-static int joins(void) {
-    const uint8_t int32[11] = {0x01, 0x00, 0x09}, uint64[11] = {0x01, 0x00, 0x05}, uint128[11] = {0x01, 0x00, 0x06};
-    const uint8_t decimal[11] = {0x01, 0x00, 0x0F, 0x0A, 0x02}, list[20] = {0x02, 0x00, 0x1C, 0x08};
+static int no(lz_reply reply) {
+    return is(reply, 0, 0);
+}
+
+static void constants(void) {
+    MUST(LZ_OK == 0);
+    MUST(LZ_LENGTH == 1);
+    MUST(LZ_KIND == 2);
+    MUST(LZ_ARGUMENT == 3);
+    MUST(LZ_SHAPE == 4);
+    MUST(LZ_DEPTH == 5);
+    MUST(LZ_NESTED == 6);
+    MUST(LZ_UNKNOWN == 7);
+    MUST(LZ_OUTPUT_TOO_SHORT == 8);
+    MUST(LZ_CHANNEL == 9);
+    MUST(LZ_CHANNEL_CODE == 10);
+    MUST(LZ_NOT_AN_INTEGER == 11);
+    MUST(LZ_NO_UPCAST == 12);
+    MUST(LZ_DECIMAL_WITH_INTEGER == 13);
+    MUST(LZ_CHANNELS == 32);
+    MUST(LZ_JOIN_KEPT == 0);
+    MUST(LZ_JOIN_AVOIDABLE == 1);
+    MUST(LZ_JOIN_UNAVOIDABLE == 2);
+    MUST(LZ_JOIN_NOT_INTEGERS == 3);
+    MUST(sizeof(lz_reply) == 2 * 8);
+    MUST(sizeof(lz_shape_reply) == (2 + 32) * 8);
+    MUST(sizeof(lz_channel_types) == 32);
+    MUST(sizeof(lz_types_reply) == 2 * 8 + 32);
+}
+
+/* Each refusal of a type. */
+static void checks(void) {
+    const uint8_t kind[11] = {0x01, 0x00, 0x20}, argument[11] = {0x01, 0x00, 0x07, 0x01};
+    uint8_t deep[2 + 9 * 34] = {34, 0};
+    memset(deep + 2, 28, 33);
+
+    MUST(is(lz_check(LENT(list)), LZ_OK, 0));
+    MUST(is(lz_check(list, 19), LZ_LENGTH, 0));
+    MUST(is(lz_check(NULL, 0), LZ_LENGTH, 0));
+    MUST(is(lz_check(LENT(kind)), LZ_KIND, 0));
+    MUST(is(lz_check(LENT(argument)), LZ_ARGUMENT, 0));
+    MUST(is(lz_check(LENT(deep)), LZ_DEPTH, 0));
+    deep[2 + 32] = 7;
+    MUST(is(lz_check(LENT(deep)), LZ_SHAPE, 0));
+}
+
+static void encoding(void) {
+    uint8_t kinds[3] = {9, 9, 9}, out[21];
+    uint64_t args[3] = {9, 9, 9};
+    memset(out, 9, sizeof out);
+
+    MUST(is(lz_decode(LENT(list), LENT(kinds), args, 1), LZ_OUTPUT_TOO_SHORT, 0) && kinds[0] == 9);
+    MUST(is(lz_decode(LENT(list), LENT(kinds), LENT(args)), LZ_OK, 2));
+    MUST(kinds[0] == 28 && kinds[1] == 8 && kinds[2] == 9 && args[0] == 0 && args[1] == 0 && args[2] == 9);
+
+    MUST(is(lz_encode(kinds, 1, args, 1, LENT(out)), LZ_SHAPE, 0) && out[0] == 9);
+    MUST(is(lz_encode(kinds, 2, args, 1, LENT(out)), LZ_LENGTH, 0) && out[0] == 9);
+    MUST(is(lz_encode(kinds, 2, args, 2, out, 19), LZ_OUTPUT_TOO_SHORT, 0) && out[0] == 9);
+    MUST(is(lz_encode(kinds, 2, args, 2, LENT(out)), LZ_OK, 20));
+    MUST(memcmp(out, list, 20) == 0 && out[20] == 9);
+}
+
+static void predicates(void) {
+    MUST(yes(lz_is_nested(LENT(list))) && no(lz_is_nested(LENT(int32))));
+    MUST(yes(lz_is_known(LENT(list))) && no(lz_is_known(LENT(any))));
+    MUST(yes(lz_is_logical(LENT(array))) && no(lz_is_logical(LENT(list))));
+    MUST(yes(lz_is_primitive(LENT(string))) && no(lz_is_primitive(LENT(date))));
+    MUST(yes(lz_is_primitive_numeric(LENT(float64))) && no(lz_is_primitive_numeric(LENT(string))));
+    MUST(yes(lz_is_temporal(LENT(date))) && no(lz_is_temporal(LENT(int32))));
+    MUST(yes(lz_is_float(LENT(float64))) && no(lz_is_float(LENT(int32))));
+    MUST(yes(lz_is_integer(LENT(uint64))) && no(lz_is_integer(LENT(float64))));
+    MUST(yes(lz_is_signed_integer(LENT(int32))) && no(lz_is_signed_integer(LENT(uint64))));
+    MUST(yes(lz_is_unsigned_integer(LENT(uint64))) && no(lz_is_unsigned_integer(LENT(int32))));
+    MUST(yes(lz_is_string(LENT(string))) && no(lz_is_string(LENT(any))));
+    MUST(yes(lz_is_unknown(LENT(any))) && no(lz_is_unknown(LENT(list))));
+    MUST(yes(lz_contains_unknown(LENT(any))) && no(lz_contains_unknown(LENT(list))));
+    MUST(yes(lz_contains_list_recursive(LENT(list))) && no(lz_contains_list_recursive(LENT(array))));
+    MUST(is(lz_is_nested(list, 19), LZ_LENGTH, 0));
+}
+
+static void relations(void) {
+    MUST(yes(lz_equal(LENT(list), LENT(list))) && no(lz_equal(LENT(list), LENT(array))));
+    MUST(yes(lz_contains_dtype_recursive(LENT(array), LENT(date))));
+    MUST(no(lz_contains_dtype_recursive(LENT(array), LENT(int32))));
+    MUST(yes(lz_can_cast_to(LENT(null), LENT(boolean))) && no(lz_can_cast_to(LENT(boolean), LENT(null))));
+    MUST(is(lz_can_cast_to(LENT(list), LENT(array)), LZ_OK, 2));
+}
+
+static void types_from_types(void) {
+    uint8_t out[21];
+    memset(out, 9, sizeof out);
+
+    MUST(is(lz_inner_dtype(LENT(any), LENT(out)), LZ_OK, 0) && out[0] == 9);
+    MUST(is(lz_leaf_dtype(LENT(list), out, 10), LZ_OUTPUT_TOO_SHORT, 0) && out[0] == 9);
+    MUST(is(lz_materialize_unknown(LENT(any), 0, out, 0), LZ_UNKNOWN, 0) && out[0] == 9);
+    MUST(is(lz_inner_dtype(LENT(list), LENT(out)), LZ_OK, 11) && out[2] == 0x08 && out[11] == 9);
+    MUST(is(lz_leaf_dtype(LENT(int32), LENT(out)), LZ_OK, 11) && memcmp(out, int32, 11) == 0 && out[11] == 9);
+    MUST(is(lz_array_leaf_dtype(LENT(array), LENT(out)), LZ_OK, 11) && out[2] == 0x13 && out[11] == 9);
+    MUST(is(lz_array_leaf_dtype(LENT(list), LENT(out)), LZ_OK, 0) && out[2] == 0x13);
+    MUST(is(lz_materialize_unknown(LENT(any), 1, LENT(out)), LZ_OK, 11) && memcmp(out, any, 11) == 0);
+    MUST(is(lz_to_physical(LENT(array), LENT(out)), LZ_OK, 20) && out[3] == 0x09 && out[20] == 9);
+}
+
+static void shapes_and_units(void) {
+    lz_shape_reply shape = lz_get_shape(LENT(array)), none = lz_get_shape(LENT(list));
+    MUST(shape.number == LZ_OK && shape.count == 1 && shape.widths[0] == 3 && shape.widths[1] == 0);
+    MUST(none.number == LZ_OK && none.count == 0 && none.widths[0] == 0);
+    MUST(lz_get_shape(array, 19).number == LZ_LENGTH);
+    MUST(is(lz_get_time_units(0, 1), LZ_OK, 1) && is(lz_get_time_units(2, 0), LZ_OK, 2));
+    MUST(is(lz_get_time_units(3, 0), LZ_ARGUMENT, 0) && is(lz_get_time_units(0, 3), LZ_ARGUMENT, 0));
+}
+
+static void joins(void) {
     uint8_t out[12];
     memset(out, 9, sizeof out);
 
-    if (!is(lz_get_numeric_upcast_supertype_lossless(uint128, 11, int32, 11, out, 12), LZ_OK, 0)) return 28;
-    if (out[0] != 9) return 28;
-    if (!is(lz_get_numeric_upcast_supertype_lossless(list, 20, decimal, 11, out, 0), LZ_OK, 0)) return 29;
-    if (!is(lz_get_numeric_upcast_supertype_lossless(int32, 11, uint64, 11, out, 12), LZ_OK, 11)) return 30;
-    if (out[0] != 1 || out[2] != 0x0B || out[10] != 0 || out[11] != 9) return 31;
+    MUST(is(lz_get_numeric_upcast_supertype_lossless(LENT(uint128), LENT(int32), LENT(out)), LZ_OK, 0) && out[0] == 9);
+    MUST(is(lz_get_numeric_upcast_supertype_lossless(LENT(list), LENT(decimal), out, 0), LZ_OK, 0));
+    MUST(is(lz_get_numeric_upcast_supertype_lossless(LENT(int32), LENT(uint64), LENT(out)), LZ_OK, 11));
+    MUST(out[0] == 1 && out[2] == 0x0B && out[10] == 0 && out[11] == 9);
 
-    if (!is(lz_get_supertype_with_options(decimal, 11, list, 20, 0, 0, out, 12), LZ_NESTED, 0)) return 32;
-    if (!is(lz_get_supertype_with_options(decimal, 11, int32, 11, 0, 0, out, 0), LZ_DECIMAL_WITH_INTEGER, 0)) return 33;
-    if (!is(lz_get_supertype_with_options(int32, 11, uint64, 11, 0, 0, out, 10), LZ_OUTPUT_TOO_SHORT, 0)) return 34;
-    if (out[2] != 0x0B) return 35;
-    if (!is(lz_get_supertype_with_options(int32, 11, uint64, 11, 1, 1, out, 12), LZ_OK, 11) || out[2] != 0x0E) return 36;
+    MUST(is(lz_get_supertype_with_options(LENT(decimal), LENT(list), 0, 0, LENT(out)), LZ_NESTED, 0));
+    MUST(is(lz_get_supertype_with_options(LENT(decimal), LENT(int32), 0, 0, out, 0), LZ_DECIMAL_WITH_INTEGER, 0));
+    MUST(is(lz_get_supertype_with_options(LENT(int32), LENT(uint64), 0, 0, out, 10), LZ_OUTPUT_TOO_SHORT, 0));
+    MUST(out[2] == 0x0B);
+    MUST(is(lz_get_supertype_with_options(LENT(int32), LENT(uint64), 1, 1, LENT(out)), LZ_OK, 11) && out[2] == 0x0E);
 
-    if (!is(lz_join_report(int32, 11, int32, 11), LZ_OK, LZ_JOIN_KEPT)) return 37;
-    if (!is(lz_join_report(int32, 11, uint64, 11), LZ_OK, LZ_JOIN_AVOIDABLE)) return 38;
-    if (!is(lz_join_report(uint128, 11, int32, 11), LZ_OK, LZ_JOIN_UNAVOIDABLE)) return 39;
-    if (!is(lz_join_report(list, 20, int32, 11), LZ_OK, LZ_JOIN_NOT_INTEGERS)) return 40;
-    return 0;
+    MUST(is(lz_join_report(LENT(int32), LENT(int32)), LZ_OK, LZ_JOIN_KEPT));
+    MUST(is(lz_join_report(LENT(int32), LENT(uint64)), LZ_OK, LZ_JOIN_AVOIDABLE));
+    MUST(is(lz_join_report(LENT(uint128), LENT(int32)), LZ_OK, LZ_JOIN_UNAVOIDABLE));
+    MUST(is(lz_join_report(LENT(list), LENT(int32)), LZ_OK, LZ_JOIN_NOT_INTEGERS));
 }
 
-/* The joins on flat types: the unknown string and the unknown integer 5, with primitive-to-string off and on. */
-static int flat_joins(void) {
-    const uint8_t str = 24, dyn = 26, int8 = 7, int16 = 8;
-    const uint64_t zero = 0, five = 5;
+/* The rules on flat types, of List(Unknown(Str)), List(String) and List(Date). */
+static void flat_rules(void) {
+    const uint8_t str[2] = {28, 24}, text[2] = {28, 16}, day[2] = {28, 19};
+    const uint64_t zero[2] = {0, 0};
+    uint8_t kinds[3] = {9, 9, 9};
+    uint64_t args[3] = {9, 9, 9};
+
+    MUST(no(lz_flat_is_known(LENT(str), LENT(zero))) && yes(lz_flat_is_known(LENT(text), LENT(zero))));
+    MUST(is(lz_flat_is_known(str, 1, zero, 1), LZ_SHAPE, 0) && is(lz_flat_is_known(str, 1, zero, 2), LZ_LENGTH, 0));
+    MUST(yes(lz_flat_equal(LENT(str), LENT(zero), LENT(str), LENT(zero))));
+    MUST(no(lz_flat_equal(LENT(str), LENT(zero), LENT(text), LENT(zero))));
+    MUST(yes(lz_flat_can_cast_to(LENT(text), LENT(zero), LENT(text), LENT(zero))));
+    MUST(is(lz_flat_can_cast_to(LENT(day), LENT(zero), LENT(text), LENT(zero)), LZ_OK, 2));
+
+    MUST(is(lz_flat_materialize_unknown(LENT(str), LENT(zero), 0, kinds, 1, LENT(args)), LZ_OUTPUT_TOO_SHORT, 0));
+    MUST(kinds[0] == 9 && args[0] == 9);
+    MUST(is(lz_flat_materialize_unknown(LENT(str), LENT(zero), 0, LENT(kinds), LENT(args)), LZ_OK, 2));
+    MUST(kinds[0] == 28 && kinds[1] == 16 && kinds[2] == 9 && args[1] == 0 && args[2] == 9);
+    MUST(is(lz_flat_to_physical(LENT(day), LENT(zero), LENT(kinds), LENT(args)), LZ_OK, 2));
+    MUST(kinds[0] == 28 && kinds[1] == 9 && kinds[2] == 9 && args[1] == 0 && args[2] == 9);
+}
+
+/* The parts of Array(3, List(Date)), which has two nodes under its root, and of Date, which has none. */
+static void flat_parts(void) {
+    const uint8_t kinds[3] = {29, 28, 19};
+    const uint64_t args[3] = {3, 0, 0};
+
+    MUST(is(lz_flat_inner_dtype(LENT(kinds), LENT(args)), LZ_OK, 2));
+    MUST(is(lz_flat_leaf_dtype(LENT(kinds), LENT(args)), LZ_OK, 1));
+    MUST(is(lz_flat_array_leaf_dtype(LENT(kinds), LENT(args)), LZ_OK, 2));
+    MUST(is(lz_flat_inner_dtype(kinds + 2, 1, args + 2, 1), LZ_OK, 0));
+    MUST(is(lz_flat_leaf_dtype(kinds + 2, 1, args + 2, 1), LZ_OK, 1));
+    MUST(is(lz_flat_array_leaf_dtype(kinds + 1, 2, args + 1, 2), LZ_OK, 0));
+    MUST(is(lz_flat_leaf_dtype(kinds, 2, args, 2), LZ_SHAPE, 0));
+}
+
+/* The unknown string and the unknown integer 5, with primitive-to-string off and on; Int8 and Int16. */
+static void flat_joins(void) {
+    const uint8_t str[1] = {24}, dyn[1] = {26}, byte[1] = {7}, word[1] = {8};
+    const uint64_t zero[1] = {0}, five[1] = {5};
     uint8_t kinds[2] = {9, 9};
     uint64_t args[2] = {9, 9};
     lz_reply reply;
 
-    reply = lz_flat_get_supertype_with_options(&str, 1, &zero, 1, &dyn, 1, &five, 1, 1, 0, kinds, 2, args, 2);
-    if (!is(reply, LZ_OK, 1) || kinds[0] != 23 || kinds[1] != 9 || args[0] != 0 || args[1] != 9) return 41;
-    reply = lz_flat_get_supertype_with_options(&str, 1, &zero, 1, &dyn, 1, &five, 1, 0, 1, kinds, 2, args, 2);
-    if (!is(reply, LZ_OK, 1) || kinds[0] != 24) return 42;
-    reply = lz_flat_get_numeric_upcast_supertype_lossless(&int8, 1, &zero, 1, &int16, 1, &zero, 1, kinds, 2, args, 0);
-    if (!is(reply, LZ_OUTPUT_TOO_SHORT, 0) || kinds[0] != 24) return 43;
-    reply = lz_flat_get_numeric_upcast_supertype_lossless(&int8, 1, &zero, 1, &int16, 1, &zero, 1, kinds, 1, args, 1);
-    if (!is(reply, LZ_OK, 1) || kinds[0] != 8 || args[0] != 0) return 44;
-    return 0;
+    reply = lz_flat_get_supertype_with_options(LENT(str), LENT(zero), LENT(dyn), LENT(five), 1, 0, LENT(kinds),
+                                               LENT(args));
+    MUST(is(reply, LZ_OK, 1) && kinds[0] == 23 && kinds[1] == 9 && args[0] == 0 && args[1] == 9);
+    reply = lz_flat_get_supertype_with_options(LENT(str), LENT(zero), LENT(dyn), LENT(five), 0, 1, LENT(kinds),
+                                               LENT(args));
+    MUST(is(reply, LZ_OK, 1) && kinds[0] == 24);
+    reply = lz_flat_get_numeric_upcast_supertype_lossless(LENT(byte), LENT(zero), LENT(word), LENT(zero), LENT(kinds),
+                                                          args, 0);
+    MUST(is(reply, LZ_OUTPUT_TOO_SHORT, 0) && kinds[0] == 24);
+    reply = lz_flat_get_numeric_upcast_supertype_lossless(LENT(byte), LENT(zero), LENT(word), LENT(zero), kinds, 1,
+                                                          args, 1);
+    MUST(is(reply, LZ_OK, 1) && kinds[0] == 8 && args[0] == 0);
 }
 
-/* The merges of UInt64, Int8, UInt128 and List(Int16), with a byte before the codes and one behind them. */
-static int merges(void) {
-    const uint8_t uint64[11] = {0x01, 0x00, 0x05}, int8[11] = {0x01, 0x00, 0x07}, uint128[11] = {0x01, 0x00, 0x06};
-    const uint8_t list[20] = {0x02, 0x00, 0x1C, 0x08};
+/* With a byte before the codes and one behind them. */
+static void merges(void) {
     uint8_t lent[LZ_CHANNELS + 2] = {9}, expected[LZ_CHANNELS + 2] = {9};
     uint8_t *codes = lent + 1;
     lent[LZ_CHANNELS + 1] = expected[LZ_CHANNELS + 1] = 9;
 
-    if (!is(lz_channel_merge(codes, 31, uint64, 11), LZ_OK, 5)) return 45;
-    if (!is(lz_channel_merge(codes, 31, int8, 11), LZ_OK, 11)) return 46;
-    if (!is(lz_channel_merge(codes, 31, uint128, 11), LZ_NO_UPCAST, 0)) return 47;
-    if (!is(lz_channel_merge(codes, 31, list, 20), LZ_NOT_AN_INTEGER, 0)) return 48;
-    if (!is(lz_channel_merge(codes, LZ_CHANNELS, int8, 11), LZ_CHANNEL, 0)) return 49;
-    if (!is(lz_channel_merge(codes, LZ_CHANNELS, int8, 10), LZ_LENGTH, 0)) return 50;
+    MUST(is(lz_channel_merge(codes, 31, LENT(uint64)), LZ_OK, 5));
+    MUST(is(lz_channel_merge(codes, 31, LENT(int8)), LZ_OK, 11));
+    MUST(is(lz_channel_merge(codes, 31, LENT(uint128)), LZ_NO_UPCAST, 0));
+    MUST(is(lz_channel_merge(codes, 31, LENT(list)), LZ_NOT_AN_INTEGER, 0));
+    MUST(is(lz_channel_merge(codes, 32, LENT(int8)), LZ_CHANNEL, 0));
+    MUST(is(lz_channel_merge(codes, 32, int8, 10), LZ_LENGTH, 0));
     expected[1 + 31] = 11;
-    if (memcmp(lent, expected, sizeof lent) != 0) return 51;
+    MUST(memcmp(lent, expected, sizeof lent) == 0);
     codes[0] = expected[1] = 1;
-    if (!is(lz_channel_merge(codes, 0, int8, 11), LZ_CHANNEL_CODE, 0)) return 52;
-    if (!is(lz_channel_merge(codes, 1, int8, 11), LZ_OK, 7)) return 53;
+    MUST(is(lz_channel_merge(codes, 0, LENT(int8)), LZ_CHANNEL_CODE, 0));
+    MUST(is(lz_channel_merge(codes, 1, LENT(int8)), LZ_OK, 7));
     expected[1 + 1] = 7;
-    if (memcmp(lent, expected, sizeof lent) != 0) return 54;
-    return 0;
+    MUST(memcmp(lent, expected, sizeof lent) == 0);
 }
 
-/* The merges of flat types: Int8, UInt8 and UInt128, and kinds without arguments. */
-static int flat_merges(void) {
-    const uint8_t int8 = 7, uint8 = 2, uint128 = 6;
-    const uint64_t zero = 0;
+/* The merges of flat types, lent and by value: Int8, UInt8 and UInt128, and kinds without arguments. */
+static void flat_merges(void) {
+    const uint8_t byte[1] = {7}, unsigned_byte[1] = {2}, longest[1] = {6};
+    const uint64_t zero[1] = {0};
     lz_channel_types expected = {{0}}, lent = {{0}};
     lz_types_reply next = {{0, 0}, {{0}}};
-
-    next = lz_flat_channel_merged(next.types, 30, &int8, 1, &zero, 1);
-    if (!is(next.reply, LZ_OK, 7)) return 55;
-    next = lz_flat_channel_merged(next.types, 30, &uint8, 1, &zero, 1);
-    if (!is(next.reply, LZ_OK, 8)) return 56;
     expected.codes[30] = 8;
-    if (memcmp(&next.types, &expected, sizeof expected) != 0) return 57;
-    next = lz_flat_channel_merged(next.types, 30, &uint128, 1, &zero, 1);
-    if (!is(next.reply, LZ_NO_UPCAST, 0)) return 58;
-    next = lz_flat_channel_merged(next.types, SIZE_MAX, &int8, 1, &zero, 1);
-    if (!is(next.reply, LZ_CHANNEL, 0)) return 59;
-    next = lz_flat_channel_merged(next.types, SIZE_MAX, &int8, 1, &zero, 0);
-    if (!is(next.reply, LZ_LENGTH, 0)) return 60;
-    if (memcmp(&next.types, &expected, sizeof expected) != 0) return 61;
-    if (!is(lz_flat_channel_merge(&lent, 30, &int8, 1, &zero, 1), LZ_OK, 7)) return 62;
-    if (!is(lz_flat_channel_merge(&lent, 30, &uint8, 1, &zero, 1), LZ_OK, 8)) return 63;
-    if (!is(lz_flat_channel_merge(&lent, 30, &uint128, 1, &zero, 1), LZ_NO_UPCAST, 0)) return 64;
-    if (!is(lz_flat_channel_merge(&lent, SIZE_MAX, &int8, 1, &zero, 1), LZ_CHANNEL, 0)) return 65;
-    if (memcmp(&lent, &expected, sizeof expected) != 0) return 66;
-    return 0;
-}
 
-/* The parts of Array(3, List(Date)), which has two nodes under its root, and of Date, which has none. */
-static int flat_parts(void) {
-    const uint8_t kinds[3] = {29, 28, 19};
-    const uint64_t args[3] = {3, 0, 0};
+    next = lz_flat_channel_merged(next.types, 30, LENT(byte), LENT(zero));
+    MUST(is(next.reply, LZ_OK, 7));
+    next = lz_flat_channel_merged(next.types, 30, LENT(unsigned_byte), LENT(zero));
+    MUST(is(next.reply, LZ_OK, 8) && memcmp(&next.types, &expected, sizeof expected) == 0);
+    next = lz_flat_channel_merged(next.types, 30, LENT(longest), LENT(zero));
+    MUST(is(next.reply, LZ_NO_UPCAST, 0));
+    next = lz_flat_channel_merged(next.types, SIZE_MAX, LENT(byte), LENT(zero));
+    MUST(is(next.reply, LZ_CHANNEL, 0));
+    next = lz_flat_channel_merged(next.types, SIZE_MAX, LENT(byte), zero, 0);
+    MUST(is(next.reply, LZ_LENGTH, 0) && memcmp(&next.types, &expected, sizeof expected) == 0);
 
-    if (!is(lz_flat_inner_dtype(kinds, 3, args, 3), LZ_OK, 2)) return 67;
-    if (!is(lz_flat_leaf_dtype(kinds, 3, args, 3), LZ_OK, 1)) return 68;
-    if (!is(lz_flat_array_leaf_dtype(kinds, 3, args, 3), LZ_OK, 2)) return 69;
-    if (!is(lz_flat_inner_dtype(kinds + 2, 1, args + 2, 1), LZ_OK, 0)) return 70;
-    if (!is(lz_flat_leaf_dtype(kinds + 2, 1, args + 2, 1), LZ_OK, 1)) return 71;
-    if (!is(lz_flat_array_leaf_dtype(kinds + 1, 2, args + 1, 2), LZ_OK, 0)) return 72;
-    if (!is(lz_flat_leaf_dtype(kinds, 2, args, 2), LZ_SHAPE, 0)) return 73;
-    return 0;
+    MUST(is(lz_flat_channel_merge(&lent, 30, LENT(byte), LENT(zero)), LZ_OK, 7));
+    MUST(is(lz_flat_channel_merge(&lent, 30, LENT(unsigned_byte), LENT(zero)), LZ_OK, 8));
+    MUST(is(lz_flat_channel_merge(&lent, 30, LENT(longest), LENT(zero)), LZ_NO_UPCAST, 0));
+    MUST(is(lz_flat_channel_merge(&lent, SIZE_MAX, LENT(byte), LENT(zero)), LZ_CHANNEL, 0));
+    MUST(memcmp(&lent, &expected, sizeof expected) == 0);
 }
 
 int main(void) {
-    const uint8_t list_of_int16[20] = {0x02, 0x00, 0x1C, 0x08};
-    uint8_t kinds[3] = {9, 9, 9}, out[21];
-    uint64_t args[3] = {9, 9, 9};
-    int wrong;
-    memset(out, 9, sizeof out);
-
-    if (!is(lz_check(list_of_int16, 20), LZ_OK, 0)) return 1;
-    if (!is(lz_check(list_of_int16, 19), LZ_LENGTH, 0)) return 2;
-
-    if (!is(lz_decode(list_of_int16, 20, kinds, 3, args, 1), LZ_OUTPUT_TOO_SHORT, 0) || kinds[0] != 9) return 3;
-    if (!is(lz_decode(list_of_int16, 20, kinds, 3, args, 3), LZ_OK, 2)) return 4;
-    if (kinds[0] != 28 || kinds[1] != 8 || kinds[2] != 9 || args[0] != 0 || args[1] != 0 || args[2] != 9) return 5;
-
-    if (!is(lz_encode(kinds, 1, args, 1, out, 21), LZ_SHAPE, 0) || out[0] != 9) return 6;
-    if (!is(lz_encode(kinds, 2, args, 2, out, 21), LZ_OK, 20)) return 7;
-    if (memcmp(out, list_of_int16, 20) != 0 || out[20] != 9) return 8;
-    wrong = rules();
-    if (wrong == 0) wrong = joins();
-    if (wrong == 0) wrong = flat_joins();
-    if (wrong == 0) wrong = merges();
-    if (wrong == 0) wrong = flat_merges();
-    if (wrong == 0) wrong = flat_parts();
-    return wrong;
+    constants();
+    checks();
+    encoding();
+    predicates();
+    relations();
+    types_from_types();
+    shapes_and_units();
+    joins();
+    flat_rules();
+    flat_parts();
+    flat_joins();
+    merges();
+    flat_merges();
+    return status;
 }

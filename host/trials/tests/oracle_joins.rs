@@ -5,7 +5,7 @@ use lomzegash::supertype::JoinReport;
 use lomzegash::Error;
 use std::ops::Range;
 use trials::damage;
-use trials::differential::{has_oracle, Differential, Numbers};
+use trials::differential::{Differential, Numbers};
 use trials::draw;
 use trials::flat::Flat;
 use trials::input::Input;
@@ -36,10 +36,8 @@ fn each_pair(what: &str, flats: &[Flat], places: Range<usize>) -> (Differential,
 }
 
 #[test]
+#[cfg_attr(not(polars_src), ignore = "no text of polars-core 0.55.2")]
 fn every_pair_of_types_of_one_node() {
-    if !has_oracle() {
-        return;
-    }
     let leaves = leaves::every();
     let (differential, of_number) = each_pair("joins of types of one node", &one_node(&leaves), ENOUGH);
     let count = |fits: fn(u8) -> bool| leaves.iter().filter(|(kind, _)| fits(*kind)).count() as u64;
@@ -54,10 +52,8 @@ fn every_pair_of_types_of_one_node() {
 
 /// One of each behaviour, and the arguments on which a rule turns.
 #[test]
+#[cfg_attr(not(polars_src), ignore = "no text of polars-core 0.55.2")]
 fn every_length_of_output() {
-    if !has_oracle() {
-        return;
-    }
     let integers = (UINT8..=INT128).map(|kind| (kind, 0));
     let dyns = [(UNKNOWN_INT_POS, 300), (UNKNOWN_INT_POS, 1 << 63), (UNKNOWN_INT_NEG, 1 << 63)];
     let all: Vec<_> = leaves::FEW.into_iter().chain(integers).chain(dyns).collect();
@@ -68,10 +64,8 @@ fn every_length_of_output() {
 
 /// Nested types with leaves and with each other; what stands inside them counts for nothing.
 #[test]
+#[cfg_attr(not(polars_src), ignore = "no text of polars-core 0.55.2")]
 fn every_pair_of_trees_of_up_to_three_nodes() {
-    if !has_oracle() {
-        return;
-    }
     let leaves = [(NULL, 0), (INT8, 0), (UINT64, 0), (DECIMAL, 10), (STRING, 0), (UNKNOWN_INT_POS, 1), (STRUCT, 0)];
     let trees = Parts { leaves: &leaves, wraps: &WRAPS, names: &[0] }.trees(3);
     let (_, of_number) = each_pair("joins of trees of up to three nodes", &trees, EVERY_LENGTH);
@@ -80,10 +74,8 @@ fn every_pair_of_trees_of_up_to_three_nodes() {
 
 /// Each refusal of a type from 1 to 5 on the left, on the right and on both sides, beside every other.
 #[test]
+#[cfg_attr(not(polars_src), ignore = "no text of polars-core 0.55.2")]
 fn what_is_no_type_is_refused_the_left_first() {
-    if !has_oracle() {
-        return;
-    }
     let no_types = [
         Flat::default(),
         Flat::new(&[(FIELD + 1, 0)]),
@@ -124,10 +116,8 @@ fn refused_by_1(left: &Flat, right: &Flat) {
 }
 
 #[test]
+#[cfg_attr(not(polars_src), ignore = "no text of polars-core 0.55.2")]
 fn joins_as_the_long_run_draws_them() {
-    if !has_oracle() {
-        return;
-    }
     let (mut differential, mut random) = (Differential::default(), Random::new(22));
     for _ in 0..500_000 {
         draw::join_leaves(&mut differential, &mut random);
@@ -139,10 +129,8 @@ fn joins_as_the_long_run_draws_them() {
 
 /// Both rules in one state of the flags, and the report, of random types of every size and of damaged ones.
 #[test]
+#[cfg_attr(not(polars_src), ignore = "no text of polars-core 0.55.2")]
 fn types_of_every_size() {
-    if !has_oracle() {
-        return;
-    }
     let (mut differential, mut random) = (Differential::default(), Random::new(23));
     let leaf = Input::from(&Flat::int8());
     for size in 1..=512 {

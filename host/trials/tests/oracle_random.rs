@@ -1,7 +1,8 @@
 //! Beside the crate's own text: random types of every size and depth to the limits, near misses and damaged ones.
 
+use oracle::Type;
 use trials::damage;
-use trials::differential::{has_oracle, Differential};
+use trials::differential::Differential;
 use trials::draw;
 use trials::flat::Flat;
 use trials::grow::grow;
@@ -9,11 +10,25 @@ use trials::input::Input;
 use trials::random::Random;
 use trials::relatives::{castable, part, CHANGES};
 
+/// The oracle reads a type in either form and writes the same one.
 #[test]
-fn types_of_every_size() {
-    if !has_oracle() {
-        return;
+#[cfg_attr(not(polars_src), ignore = "no text of polars-core 0.55.2")]
+fn the_oracle_keeps_types_of_every_size() {
+    let mut random = Random::new(10);
+    for size in 1..=512 {
+        for _ in 0..40 {
+            let flat = draw::flat_of(&mut random, size);
+            let (bytes, parts) = (flat.laid_out(), (flat.kinds, flat.args));
+            for dtype in [Type::from_flat(&parts.0, &parts.1), Type::decode(&bytes)] {
+                assert_eq!((dtype.to_flat(), dtype.encode()), (parts.clone(), bytes.clone()));
+            }
+        }
     }
+}
+
+#[test]
+#[cfg_attr(not(polars_src), ignore = "no text of polars-core 0.55.2")]
+fn types_of_every_size() {
     let (mut differential, mut random) = (Differential::default(), Random::new(11));
     for size in 1..=512 {
         for _ in 0..40 {
@@ -26,10 +41,8 @@ fn types_of_every_size() {
 }
 
 #[test]
+#[cfg_attr(not(polars_src), ignore = "no text of polars-core 0.55.2")]
 fn types_around_the_depth_limit() {
-    if !has_oracle() {
-        return;
-    }
     let (mut differential, mut random) = (Differential::default(), Random::new(12));
     for size in 20..=512 {
         for _ in 0..20 {
@@ -45,10 +58,8 @@ fn types_around_the_depth_limit() {
 
 /// Every change at every size, both ways round.
 #[test]
+#[cfg_attr(not(polars_src), ignore = "no text of polars-core 0.55.2")]
 fn near_misses_of_every_size() {
-    if !has_oracle() {
-        return;
-    }
     let (mut differential, mut random) = (Differential::default(), Random::new(13));
     for size in 1..=512 {
         for change in CHANGES {
@@ -66,10 +77,8 @@ fn near_misses_of_every_size() {
 
 /// Casts that come to an end only at the end of both types, and those that one change ends sooner; parts of types.
 #[test]
+#[cfg_attr(not(polars_src), ignore = "no text of polars-core 0.55.2")]
 fn casts_and_parts_of_every_size() {
-    if !has_oracle() {
-        return;
-    }
     let (mut differential, mut random) = (Differential::default(), Random::new(14));
     for size in 1..=512 {
         for _ in 0..40 {
@@ -88,10 +97,8 @@ fn casts_and_parts_of_every_size() {
 
 /// The lowest number of the left type, then of the right: either is damaged, or both are.
 #[test]
+#[cfg_attr(not(polars_src), ignore = "no text of polars-core 0.55.2")]
 fn damaged_types() {
-    if !has_oracle() {
-        return;
-    }
     let (mut differential, mut random) = (Differential::default(), Random::new(15));
     for size in 1..=512 {
         let sound = Input::from(&draw::flat_of(&mut random, size));
@@ -112,10 +119,8 @@ fn damaged_types() {
 }
 
 #[test]
+#[cfg_attr(not(polars_src), ignore = "no text of polars-core 0.55.2")]
 fn types_as_the_long_run_draws_them() {
-    if !has_oracle() {
-        return;
-    }
     let (mut differential, mut random) = (Differential::default(), Random::new(16));
     for _ in 0..600_000 {
         draw::round(&mut differential, &mut random);

@@ -79,6 +79,28 @@ extern "C" {
     ) -> Reply;
 }
 
+macro_rules! to_a_part {
+    ($($symbol:ident $name:ident $answer:ty, $result:ident;)*) => {
+        extern "C" {
+            $(fn $symbol(kinds: *const u8, kinds_len: usize, args: *const u64, args_len: usize) -> Reply;)*
+        }
+
+        $(
+            #[inline]
+            pub(crate) fn $name<'a>((kinds, args): Nodes<'a>) -> Result<$answer, Error> {
+                // SAFETY: each pointer and length are those of one slice, which is only read.
+                unsafe { $symbol(kinds.as_ptr(), kinds.len(), args.as_ptr(), args.len()) }.$result((kinds, args))
+            }
+        )*
+    };
+}
+
+to_a_part! {
+    lz_flat_inner_dtype inner_dtype Option<Nodes<'a>>, part;
+    lz_flat_leaf_dtype leaf_dtype Nodes<'a>, always_part;
+    lz_flat_array_leaf_dtype array_leaf_dtype Option<Nodes<'a>>, part;
+}
+
 #[inline]
 pub(crate) fn is_known((kinds, args): Nodes) -> Result<bool, Error> {
     // SAFETY: each pointer and length are those of one slice, which is only read.
@@ -218,6 +240,18 @@ mod tests {
         };
         let replies = replies.map(|reply| (reply.number, reply.value));
         assert_eq!(replies, [(1, 0), (1, 0), (1, 0), (1, 0), (8, 0), (8, 0)]);
+    }
+
+    #[test]
+    fn null_pointers_of_length_0_have_no_part() {
+        let (kind, arg) = ([7], [0]);
+        for part in [lz_flat_inner_dtype, lz_flat_leaf_dtype, lz_flat_array_leaf_dtype] {
+            // SAFETY: every null pointer comes with length 0, and every other one with 1.
+            let replies = unsafe {
+                [part(null(), 0, null(), 0), part(kind.as_ptr(), 1, null(), 0), part(null(), 0, arg.as_ptr(), 1)]
+            };
+            assert_eq!(replies.map(|reply| (reply.number, reply.value)), [(1, 0); 3]);
+        }
     }
 
     #[test]

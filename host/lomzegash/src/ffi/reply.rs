@@ -1,5 +1,6 @@
 //! What the entry points answer, and what each answer may be.
 
+use crate::flat::Nodes;
 use crate::kind::{INT128, UINT8};
 use crate::supertype::JoinReport;
 use crate::{ChannelTypes, Error, Shape};
@@ -98,6 +99,18 @@ impl Reply {
         }
     }
 
+    /// The last of the nodes that were lent, as many as the value says, or None, 0, or the refusal.
+    #[inline]
+    pub(super) fn part(self, lent: Nodes<'_>) -> Result<Option<Nodes<'_>>, Error> {
+        self.written().map(|count| count.map(|count| last(lent, count)))
+    }
+
+    /// The last of the nodes that were lent, of which there is one at least, or the refusal.
+    #[inline]
+    pub(super) fn always_part(self, lent: Nodes<'_>) -> Result<Nodes<'_>, Error> {
+        self.always_written().map(|count| last(lent, count))
+    }
+
     /// The value's place among `values` or the refusal.
     fn one_of<T: Copy>(self, values: &[T]) -> Result<T, Error> {
         let Reply { number, value } = self;
@@ -128,6 +141,15 @@ impl TypesReply {
     #[inline]
     pub(super) fn parts(self) -> (Result<u8, Error>, ChannelTypes) {
         (self.reply.code(), self.types)
+    }
+}
+
+/// So many of the nodes, the last ones. Panics as the results of [`Reply`] where there are fewer.
+#[inline]
+fn last((kinds, args): Nodes<'_>, count: usize) -> Nodes<'_> {
+    match (kinds.len().checked_sub(count), args.len().checked_sub(count)) {
+        (Some(kind), Some(arg)) => (&kinds[kind..], &args[arg..]),
+        _ => ruled_out(&format_args!("a part of {count} nodes")),
     }
 }
 
@@ -187,6 +209,16 @@ mod tests {
     }
 
     #[test]
+    fn a_part_is_the_last_nodes_or_none_or_a_refusal() {
+        let (kinds, args) = ([28, 28, 8], [0, 0, 0]);
+        let lent: Nodes = (&kinds, &args);
+        assert_eq!(value(2).part(lent), Ok(Some((&kinds[1..], &args[1..]))));
+        assert_eq!(value(3).always_part(lent), Ok(lent));
+        assert_eq!(value(0).part(lent), Ok(None));
+        assert_eq!((refused(4).part(lent), refused(5).always_part(lent)), (Err(Error::Shape), Err(Error::Depth)));
+    }
+
+    #[test]
     fn any_other_reply_is_ruled_out() {
         assert!(is_ruled_out(|| Reply { number: 8, value: 1 }.result()));
         assert!(is_ruled_out(|| refused(14).result()));
@@ -197,6 +229,9 @@ mod tests {
         assert!(is_ruled_out(|| value(4).join_report()));
         assert!([0, 1, 12, 258].iter().all(|&v| is_ruled_out(move || value(v).code())));
         assert!(is_ruled_out(|| value(0).always_written()));
+        assert!(is_ruled_out(|| value(2).part((&[7], &[0])).is_ok()));
+        assert!(is_ruled_out(|| value(2).always_part((&[28, 7], &[0])).is_ok()));
+        assert!(is_ruled_out(|| value(0).always_part((&[7], &[0])).is_ok()));
         assert!(is_ruled_out(|| shape(0, 1, &[3, 4]).result()));
         assert!(is_ruled_out(|| shape(0, 33, &[]).result()));
         assert!(is_ruled_out(|| shape(5, 1, &[3]).result()));

@@ -1,6 +1,5 @@
 //! Corners 11 to 17, equality and the predicates.
 
-use crate::available;
 use crate::types::*;
 use oracle::Type;
 
@@ -26,51 +25,45 @@ fn structure_of(types: &[Nodes]) -> Nodes {
 }
 
 #[test]
+#[cfg_attr(not(polars_src), ignore = "no text of polars-core 0.55.2")]
 fn corner_11_casts_of_structs_by_length() {
-    if available() {
-        let (empty, one, two) =
-            (structure(&[]), structure(&[(1, plain(INT8))]), structure(&[(1, plain(INT8)), (2, plain(INT8))]));
-        assert_eq!([&empty, &one, &two].map(|to| can_cast(&empty, to)), [YES; 3]);
-        assert_eq!([&empty, &two].map(|to| can_cast(&one, to)), [NO; 2]);
-    }
+    let (empty, one, two) =
+        (structure(&[]), structure(&[(1, plain(INT8))]), structure(&[(1, plain(INT8)), (2, plain(INT8))]));
+    assert_eq!([&empty, &one, &two].map(|to| can_cast(&empty, to)), [YES; 3]);
+    assert_eq!([&empty, &two].map(|to| can_cast(&one, to)), [NO; 2]);
 }
 
 #[test]
+#[cfg_attr(not(polars_src), ignore = "no text of polars-core 0.55.2")]
 fn corner_12_casts_of_structs_by_field() {
-    if available() {
-        let from = structure_of(&[plain(BOOLEAN), plain(INT8)]);
-        assert_eq!(can_cast(&from, &structure_of(&[plain(NULL), plain(STRING)])), NO);
-        // Int8 to String has no verdict, and comes first here.
-        let turned = structure_of(&[plain(INT8), plain(BOOLEAN)]);
-        assert_eq!(can_cast(&turned, &structure_of(&[plain(STRING), plain(NULL)])), NO_VERDICT);
-        let (named, renamed) = (structure(&[(1, plain(INT8))]), structure(&[(2, plain(INT16))]));
-        assert_eq!(can_cast(&named, &renamed), YES);
-    }
+    let from = structure_of(&[plain(BOOLEAN), plain(INT8)]);
+    assert_eq!(can_cast(&from, &structure_of(&[plain(NULL), plain(STRING)])), NO);
+    // Int8 to String has no verdict, and comes first here.
+    let turned = structure_of(&[plain(INT8), plain(BOOLEAN)]);
+    assert_eq!(can_cast(&turned, &structure_of(&[plain(STRING), plain(NULL)])), NO_VERDICT);
+    let (named, renamed) = (structure(&[(1, plain(INT8))]), structure(&[(2, plain(INT16))]));
+    assert_eq!(can_cast(&named, &renamed), YES);
 }
 
 #[test]
+#[cfg_attr(not(polars_src), ignore = "no text of polars-core 0.55.2")]
 fn corner_13_casts_of_arrays_and_lists() {
-    if available() {
-        let (int8, string) = (plain(INT8), plain(STRING));
-        assert_eq!(can_cast(&array(2, &int8), &array(3, &string)), NO);
-        assert_eq!(can_cast(&array(2, &int8), &array(2, &string)), NO_VERDICT);
-        assert_eq!(can_cast(&list(&int8), &list(&string)), NO_VERDICT);
-    }
+    let (int8, string) = (plain(INT8), plain(STRING));
+    assert_eq!(can_cast(&array(2, &int8), &array(3, &string)), NO);
+    assert_eq!(can_cast(&array(2, &int8), &array(2, &string)), NO_VERDICT);
+    assert_eq!(can_cast(&list(&int8), &list(&string)), NO_VERDICT);
 }
 
 #[test]
+#[cfg_attr(not(polars_src), ignore = "no text of polars-core 0.55.2")]
 fn corner_14_casts_of_null() {
-    if available() {
-        assert_eq!(can_cast(&plain(BOOLEAN), &plain(NULL)), NO);
-        assert_eq!(can_cast(&plain(NULL), &plain(BOOLEAN)), YES);
-    }
+    assert_eq!(can_cast(&plain(BOOLEAN), &plain(NULL)), NO);
+    assert_eq!(can_cast(&plain(NULL), &plain(BOOLEAN)), YES);
 }
 
 #[test]
+#[cfg_attr(not(polars_src), ignore = "no text of polars-core 0.55.2")]
 fn corner_15_materialized_types() {
-    if !available() {
-        return;
-    }
     let cases = [
         (dyn_int((1 << 31) - 1), plain(INT32)),
         (dyn_int(1 << 31), plain(INT64)),
@@ -94,10 +87,8 @@ fn corner_15_materialized_types() {
 }
 
 #[test]
+#[cfg_attr(not(polars_src), ignore = "no text of polars-core 0.55.2")]
 fn corner_16_physical_types() {
-    if !available() {
-        return;
-    }
     let changed = [
         (plain(DATE), plain(INT32)),
         (datetime(1, 7), plain(INT64)),
@@ -120,10 +111,8 @@ fn corner_16_physical_types() {
 }
 
 #[test]
+#[cfg_attr(not(polars_src), ignore = "no text of polars-core 0.55.2")]
 fn corner_17_leaves_and_shapes() {
-    if !available() {
-        return;
-    }
     let inner = structure_of(&[list(&plain(INT8))]);
     let nested = list(&array(2, &inner));
     assert_eq!(nodes(&of(&nested).leaf_dtype()), inner);
@@ -140,10 +129,8 @@ fn corner_17_leaves_and_shapes() {
 }
 
 #[test]
+#[cfg_attr(not(polars_src), ignore = "no text of polars-core 0.55.2")]
 fn dyn_ints_are_equal_whatever_they_hold() {
-    if !available() {
-        return;
-    }
     let equal = |left: &Nodes, right: &Nodes| of(left).equal(&of(right));
     assert!(equal(&dyn_int(1), &dyn_int(-300)));
     assert!(equal(&list(&dyn_int(1)), &list(&dyn_int(2))));
@@ -162,10 +149,8 @@ fn dyn_ints_are_equal_whatever_they_hold() {
 type Predicate = (fn(&Type) -> bool, &'static [u8]);
 
 #[test]
+#[cfg_attr(not(polars_src), ignore = "no text of polars-core 0.55.2")]
 fn predicates_of_types_of_one_node() {
-    if !available() {
-        return;
-    }
     let one_node = |kind| of(&[(kind, u64::from(kind == DECIMAL))]);
     let predicates: [Predicate; 14] = [
         (Type::is_nested, &[STRUCT]),
@@ -191,10 +176,8 @@ fn predicates_of_types_of_one_node() {
 }
 
 #[test]
+#[cfg_attr(not(polars_src), ignore = "no text of polars-core 0.55.2")]
 fn predicates_of_nested_types() {
-    if !available() {
-        return;
-    }
     let wrap = |inner: &Nodes| {
         [list(inner), array(2, inner), structure_of(&[plain(INT8), inner.clone()])].map(|nodes| of(&nodes))
     };

@@ -1,24 +1,15 @@
-//! A type that is read and written again is the same.
+//! A type that is read and written again is the same. The trials do so with random types.
 
-use crate::available;
-use crate::grow::{grow, Random};
 use crate::types::*;
+use ::plain::sheet;
 use oracle::Type;
-
-/// The bytes of a stored sheet, laid out by document 01.
-fn sheet(kinds: &[u8], args: &[u64]) -> Vec<u8> {
-    let mut bytes = (kinds.len() as u16).to_le_bytes().to_vec();
-    bytes.extend(kinds);
-    bytes.extend(args.iter().flat_map(|arg| arg.to_le_bytes()));
-    bytes
-}
 
 /// Reads and writes a type in both forms.
 fn round_trip(nodes: &[(u8, u64)]) {
     let (kinds, args): (Vec<u8>, Vec<u64>) = nodes.iter().copied().unzip();
     assert_eq!(plain::check(&kinds, &args), Ok(()), "{nodes:?}");
     let flat = (kinds, args);
-    let bytes = sheet(&flat.0, &flat.1);
+    let bytes = sheet::lay_out(&flat.0, &flat.1);
     let from_flat = Type::from_flat(&flat.0, &flat.1);
     let decoded = Type::decode(&bytes);
     assert_eq!(from_flat.to_flat(), flat);
@@ -45,17 +36,14 @@ fn leaves() -> Vec<Nodes> {
 }
 
 #[test]
+#[cfg_attr(not(polars_src), ignore = "no text of polars-core 0.55.2")]
 fn types_of_one_node() {
-    if available() {
-        leaves().iter().for_each(|leaf| round_trip(leaf));
-    }
+    leaves().iter().for_each(|leaf| round_trip(leaf));
 }
 
 #[test]
+#[cfg_attr(not(polars_src), ignore = "no text of polars-core 0.55.2")]
 fn nested_types() {
-    if !available() {
-        return;
-    }
     for leaf in leaves() {
         let fields =
             structure(&[(0, leaf.clone()), (7, list(&leaf)), (7, array(2, &leaf)), ((1 << 32) - 1, leaf.clone())]);
@@ -67,10 +55,8 @@ fn nested_types() {
 }
 
 #[test]
+#[cfg_attr(not(polars_src), ignore = "no text of polars-core 0.55.2")]
 fn types_at_the_limits() {
-    if !available() {
-        return;
-    }
     let deep = (0..32).fold(plain(INT8), |inner, _| list(&inner));
     let deep_structs = (0..16).fold(plain(INT8), |inner, name| structure(&[(name, inner)]));
     let wide: Vec<_> = (0..255).map(|name| (name, plain(INT8))).collect();
@@ -81,27 +67,9 @@ fn types_at_the_limits() {
 }
 
 #[test]
-fn random_types() {
-    if !available() {
-        return;
-    }
-    let mut random = Random(1);
-    let (mut total, mut largest) = (0, 0);
-    for _ in 0..20_000 {
-        let nodes = grow(&mut random);
-        round_trip(&nodes);
-        total += nodes.len();
-        largest = largest.max(nodes.len());
-    }
-    println!("20000 random types of {total} nodes in all, {largest} at most");
-    assert!(total > 100_000 && largest > 100, "types are too small to show anything");
-}
-
-#[test]
+#[cfg_attr(not(polars_src), ignore = "no text of polars-core 0.55.2")]
 fn list_of_int16_is_these_bytes() {
-    if available() {
-        let mut bytes = vec![0x02, 0x00, 0x1C, 0x08];
-        bytes.extend([0; 16]);
-        assert_eq!(nodes(&Type::decode(&bytes)), list(&plain(INT16)));
-    }
+    let mut bytes = vec![0x02, 0x00, 0x1C, 0x08];
+    bytes.extend([0; 16]);
+    assert_eq!(nodes(&Type::decode(&bytes)), list(&plain(INT16)));
 }

@@ -1,6 +1,5 @@
 //! Corners 1 to 10, the lossless upcast and the time units.
 
-use crate::available;
 use crate::types::*;
 
 /// The supertype of two types that aren't nested. The implode flag changes none.
@@ -28,149 +27,130 @@ fn upcast(left: &Nodes, right: &Nodes) -> Option<Nodes> {
 }
 
 #[test]
+#[cfg_attr(not(polars_src), ignore = "no text of polars-core 0.55.2")]
 fn corner_1_the_left_of_two_dyn_ints_returns() {
-    if available() {
-        supertypes(&[(dyn_int(1), dyn_int(300), dyn_int(1)), (dyn_int(300), dyn_int(1), dyn_int(300))]);
-    }
+    supertypes(&[(dyn_int(1), dyn_int(300), dyn_int(1)), (dyn_int(300), dyn_int(1), dyn_int(300))]);
 }
 
 #[test]
+#[cfg_attr(not(polars_src), ignore = "no text of polars-core 0.55.2")]
 fn corner_2_any_with_string() {
-    if available() {
-        supertypes(&[(plain(ANY), plain(STRING), plain(STRING)), (plain(STRING), plain(ANY), plain(ANY))]);
-    }
+    supertypes(&[(plain(ANY), plain(STRING), plain(STRING)), (plain(STRING), plain(ANY), plain(ANY))]);
 }
 
 #[test]
+#[cfg_attr(not(polars_src), ignore = "no text of polars-core 0.55.2")]
 fn corner_3_dyn_int_with_str() {
-    if available() {
-        let (five, str) = (dyn_int(5), plain(STR));
-        assert_eq!(supertype(&five, &str, true), Some(plain(ANY)));
-        assert_eq!(supertype(&str, &five, true), Some(plain(STR)));
-        assert_eq!(supertype(&five, &str, false), Some(plain(ANY)));
-        assert_eq!(supertype(&str, &five, false), Some(plain(ANY)));
-    }
+    let (five, str) = (dyn_int(5), plain(STR));
+    assert_eq!(supertype(&five, &str, true), Some(plain(ANY)));
+    assert_eq!(supertype(&str, &five, true), Some(plain(STR)));
+    assert_eq!(supertype(&five, &str, false), Some(plain(ANY)));
+    assert_eq!(supertype(&str, &five, false), Some(plain(ANY)));
 }
 
 #[test]
+#[cfg_attr(not(polars_src), ignore = "no text of polars-core 0.55.2")]
 fn corner_4_uint64_with_negative_dyn_ints() {
-    if available() {
-        supertypes(&[
-            (plain(UINT64), dyn_int(-1), plain(INT64)),
-            (plain(UINT64), dyn_int(-(1 << 63) - 1), plain(UINT64)),
-        ]);
-    }
+    supertypes(&[(plain(UINT64), dyn_int(-1), plain(INT64)), (plain(UINT64), dyn_int(-(1 << 63) - 1), plain(UINT64))]);
 }
 
 #[test]
+#[cfg_attr(not(polars_src), ignore = "no text of polars-core 0.55.2")]
 fn corner_5_uint128_with_int8() {
-    if available() {
-        supertypes(&[(plain(UINT128), plain(INT8), plain(INT128))]);
-        assert_eq!(upcast(&plain(UINT128), &plain(INT8)), None);
-    }
+    supertypes(&[(plain(UINT128), plain(INT8), plain(INT128))]);
+    assert_eq!(upcast(&plain(UINT128), &plain(INT8)), None);
 }
 
 #[test]
+#[cfg_attr(not(polars_src), ignore = "no text of polars-core 0.55.2")]
 fn corner_6_binaries_with_string() {
-    if available() {
-        assert_eq!(supertype(&plain(BINARY_OFFSET), &plain(STRING), false), Some(plain(STRING)));
-        supertypes(&[(plain(BINARY), plain(STRING), plain(BINARY))]);
-    }
+    assert_eq!(supertype(&plain(BINARY_OFFSET), &plain(STRING), false), Some(plain(STRING)));
+    supertypes(&[(plain(BINARY), plain(STRING), plain(BINARY))]);
 }
 
 #[test]
+#[cfg_attr(not(polars_src), ignore = "no text of polars-core 0.55.2")]
 fn corner_7_boolean_with_dyn_float_and_date_with_dyn_int() {
-    if available() {
-        supertypes(&[(plain(BOOLEAN), plain(DYN_FLOAT), plain(ANY)), (plain(DATE), dyn_int(5), plain(ANY))]);
-    }
+    supertypes(&[(plain(BOOLEAN), plain(DYN_FLOAT), plain(ANY)), (plain(DATE), dyn_int(5), plain(ANY))]);
 }
 
 #[test]
+#[cfg_attr(not(polars_src), ignore = "no text of polars-core 0.55.2")]
 fn corner_8_integers_with_floats() {
-    if available() {
-        supertypes(&[
-            (plain(FLOAT16), plain(INT8), plain(FLOAT16)),
-            (plain(FLOAT16), plain(INT16), plain(FLOAT32)),
-            (plain(FLOAT16), plain(INT32), plain(FLOAT64)),
-            (plain(INT32), plain(FLOAT32), plain(FLOAT64)),
-        ]);
-    }
+    supertypes(&[
+        (plain(FLOAT16), plain(INT8), plain(FLOAT16)),
+        (plain(FLOAT16), plain(INT16), plain(FLOAT32)),
+        (plain(FLOAT16), plain(INT32), plain(FLOAT64)),
+        (plain(INT32), plain(FLOAT32), plain(FLOAT64)),
+    ]);
 }
 
 #[test]
+#[cfg_attr(not(polars_src), ignore = "no text of polars-core 0.55.2")]
 fn corner_9_integers_with_dyn_ints() {
-    if available() {
-        supertypes(&[
-            (plain(INT8), dyn_int(127), plain(INT8)),
-            (plain(INT8), dyn_int(128), plain(INT16)),
-            (plain(UINT8), dyn_int(255), plain(UINT8)),
-            (plain(UINT8), dyn_int(256), plain(UINT16)),
-            (plain(INT64), dyn_int((1 << 63) - 1), plain(INT64)),
-            (plain(INT64), dyn_int(1 << 63), plain(FLOAT64)),
-        ]);
-    }
+    supertypes(&[
+        (plain(INT8), dyn_int(127), plain(INT8)),
+        (plain(INT8), dyn_int(128), plain(INT16)),
+        (plain(UINT8), dyn_int(255), plain(UINT8)),
+        (plain(UINT8), dyn_int(256), plain(UINT16)),
+        (plain(INT64), dyn_int((1 << 63) - 1), plain(INT64)),
+        (plain(INT64), dyn_int(1 << 63), plain(FLOAT64)),
+    ]);
 }
 
 #[test]
+#[cfg_attr(not(polars_src), ignore = "no text of polars-core 0.55.2")]
 fn corner_10_datetimes_of_different_zones() {
-    if available() {
-        for (left, right) in [(1, 2), (1, 0), (0, 1)] {
-            for to_string in [false, true] {
-                assert_eq!(supertype(&datetime(0, left), &datetime(0, right), to_string), None);
-            }
+    for (left, right) in [(1, 2), (1, 0), (0, 1)] {
+        for to_string in [false, true] {
+            assert_eq!(supertype(&datetime(0, left), &datetime(0, right), to_string), None);
         }
-        supertypes(&[
-            (datetime(0, 1), datetime(2, 1), datetime(2, 1)),
-            (datetime(1, 0), datetime(0, 0), datetime(1, 0)),
-        ]);
     }
+    supertypes(&[(datetime(0, 1), datetime(2, 1), datetime(2, 1)), (datetime(1, 0), datetime(0, 0), datetime(1, 0))]);
 }
 
 /// The probes of tank 7 and tank 9.
 #[test]
+#[cfg_attr(not(polars_src), ignore = "no text of polars-core 0.55.2")]
 fn int32_with_uint64() {
-    if available() {
-        supertypes(&[(plain(INT32), plain(UINT64), plain(FLOAT64))]);
-        assert_eq!(upcast(&plain(INT32), &plain(UINT64)), Some(plain(INT128)));
-    }
+    supertypes(&[(plain(INT32), plain(UINT64), plain(FLOAT64))]);
+    assert_eq!(upcast(&plain(INT32), &plain(UINT64)), Some(plain(INT128)));
 }
 
 /// The steps of corner 18, and what the lossless upcast has no answer for.
 #[test]
+#[cfg_attr(not(polars_src), ignore = "no text of polars-core 0.55.2")]
 fn lossless_upcasts() {
-    if available() {
-        assert_eq!(upcast(&plain(UINT64), &plain(INT8)), Some(plain(INT128)));
-        assert_eq!(upcast(&plain(INT128), &plain(UINT128)), None);
-        assert_eq!(upcast(&plain(UINT128), &plain(UINT8)), Some(plain(UINT128)));
-        assert_eq!(upcast(&plain(FLOAT16), &plain(FLOAT32)), Some(plain(FLOAT32)));
-        let int8 = plain(INT8);
-        let without = [
-            plain(INT8),
-            list(&int8),
-            array(1, &int8),
-            structure(&[(1, int8.clone())]),
-            dyn_int(1),
-            plain(DYN_FLOAT),
-            plain(FLOAT64),
-            plain(BOOLEAN),
-            plain(STRING),
-            decimal(10, 2),
-            plain(DATE),
-        ];
-        for other in without {
-            assert_eq!(upcast(&int8, &other), None, "{other:?}");
-            assert_eq!(upcast(&other, &int8), None, "{other:?}");
-        }
+    assert_eq!(upcast(&plain(UINT64), &plain(INT8)), Some(plain(INT128)));
+    assert_eq!(upcast(&plain(INT128), &plain(UINT128)), None);
+    assert_eq!(upcast(&plain(UINT128), &plain(UINT8)), Some(plain(UINT128)));
+    assert_eq!(upcast(&plain(FLOAT16), &plain(FLOAT32)), Some(plain(FLOAT32)));
+    let int8 = plain(INT8);
+    let without = [
+        plain(INT8),
+        list(&int8),
+        array(1, &int8),
+        structure(&[(1, int8.clone())]),
+        dyn_int(1),
+        plain(DYN_FLOAT),
+        plain(FLOAT64),
+        plain(BOOLEAN),
+        plain(STRING),
+        decimal(10, 2),
+        plain(DATE),
+    ];
+    for other in without {
+        assert_eq!(upcast(&int8, &other), None, "{other:?}");
+        assert_eq!(upcast(&other, &int8), None, "{other:?}");
     }
 }
 
 #[test]
+#[cfg_attr(not(polars_src), ignore = "no text of polars-core 0.55.2")]
 fn the_coarser_of_two_time_units() {
-    if available() {
-        for l in 0..=2 {
-            for r in 0..=2 {
-                assert_eq!(oracle::get_time_units(l, r), l.max(r));
-            }
+    for l in 0..=2 {
+        for r in 0..=2 {
+            assert_eq!(oracle::get_time_units(l, r), l.max(r));
         }
     }
 }
