@@ -3,4 +3,3 @@ pub mod Laws
 pub mod Answers
 pub mod Opening
 pub mod RoundTrip
-mod Examples
