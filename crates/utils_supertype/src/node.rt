@@ -84,11 +84,15 @@ fn dyn_number(dt: u8, kind: u8, arg: u64) -> u8
     get_supertype_known(dt, k)
 }
 
-// Two different types, of the kinds a and b in order, with the arguments x and y; neither is Null.
-fn run_plan(to_string: bool, a: u8, x: u64, b: u8, y: u64) -> Common
-    requires { ⌜ ((fits (node a x) ≡ true) × (fits (node b y) ≡ true) × Apart a b) × (Boolean ≤ a) ⌝ }
+// Two different types, of the kinds a and b in order, with the arguments x and y.
+fn ordered(to_string: bool, a: u8, x: u64, b: u8, y: u64) -> Common
+    requires { ⌜ (fits (node a x) ≡ true) × (fits (node b y) ≡ true) × Apart a b ⌝ }
     ensures { λ t. ⌜ t ≡ commonOf (run knownSupertype (ruleOf «to_string» a b) (node a x) (node b y)) ⌝ }
 {
+    // Null joins to the other type
+    if a == Kind::NULL {
+        return Common::Some(b, y);
+    }
     match planned(to_string, a, b) {
         Plan::No => Common::Nothing,
         Plan::Left => Common::Some(a, x),
@@ -108,17 +112,6 @@ fn run_plan(to_string: bool, a: u8, x: u64, b: u8, y: u64) -> Common
         Plan::DynBoolean => Common::Some(materialize_dyn_int(b, y), 0),
         Plan::DynDecimal => Common::Some(Kind::DECIMAL, 256 * (x / 256) + 38),
     }
-}
-
-// Two different types in the order of their kinds: Null gives the other type.
-fn ordered(to_string: bool, a: u8, x: u64, b: u8, y: u64) -> Common
-    requires { ⌜ (fits (node a x) ≡ true) × (fits (node b y) ≡ true) × Apart a b ⌝ }
-    ensures { λ t. ⌜ t ≡ commonOf (run knownSupertype (ruleOf «to_string» a b) (node a x) (node b y)) ⌝ }
-{
-    if a == Kind::NULL {
-        return Common::Some(b, y);
-    }
-    run_plan(to_string, a, x, b, y)
 }
 
 // The implode flag has no part in it. The rule is symmetric except for any with String, and for dyn float or a dyn int with str.
