@@ -1,7 +1,5 @@
 // What an arm answers, and the arm of two kinds.
 ghost use mathlib.Core.Path.{_≡_};
-ghost use Prim.Native.Nat.{_≤_};
-ghost use Rattle.flat.specs.Kind.{Boolean};
 ghost use Rattle.utils_arms.specs.Rule.{ruleOf, Apart};
 use crate::number::number_row;
 use crate::row;
@@ -22,13 +20,14 @@ pub enum Plan {
     DynDecimal,
 }
 
-// The plan of two kinds in ascending order, neither of them Null.
+// The plan of two kinds in ascending order.
 pub fn planned(to_string: bool, a: u8, b: u8) -> Plan
-    requires { ⌜ Apart a b × (Boolean ≤ a) ⌝ }
+    requires { ⌜ Apart a b ⌝ }
     ensures { λ r. ⌜ r ≡ ruleOf «to_string» a b ⌝ }
 {
     match a {
-        Kind::NULL..=Kind::FLOAT64 => number_row(to_string, a, b),
+        Kind::NULL => row::null_row(b),
+        Kind::BOOLEAN..=Kind::FLOAT64 => number_row(to_string, a, b),
         Kind::DECIMAL => row::decimal_row(to_string, b),
         Kind::STRING => row::string_row(to_string, b),
         Kind::BINARY..=Kind::TIME => row::other_row(to_string, a, b),

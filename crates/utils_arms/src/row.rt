@@ -3,8 +3,8 @@ ghost use mathlib.Core.Path.{_≡_};
 ghost use mathlib.Core.Bool.{cond};
 ghost use Prim.Native.Nat.{_≤_};
 ghost use lib.Dec.{ltb};
-ghost use Rattle.flat.specs.Kind.{String, UnknownAny, Decimal, Date, Datetime, Duration, Binary, Time};
-ghost use Rattle.utils_arms.specs.Rule.{ruleOf, Apart};
+ghost use Rattle.flat.specs.Kind.{Null, String, UnknownAny, Decimal, Date, Datetime, Duration, Binary, Time};
+ghost use Rattle.utils_arms.specs.Rule.{ruleOf, Apart, Settles};
 use crate::plan::Plan;
 use flat::kind::Kind;
 
@@ -45,6 +45,18 @@ fn alone(b: u8) -> Plan
         Plan::No
     } else {
         Plan::Kind(Kind::UNKNOWN_ANY)
+    }
+}
+
+// Null with String meets the String arm first.
+pub fn null_row(b: u8) -> Plan
+    requires { ⌜ Apart Null b ⌝ }
+    ensures { λ r. ⌜ Settles Null b r ⌝ }
+{
+    if b == Kind::STRING {
+        Plan::Kind(Kind::STRING)
+    } else {
+        Plan::Right
     }
 }
 

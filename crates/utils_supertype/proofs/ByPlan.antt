@@ -1,11 +1,11 @@
 -- The answer by its plan, for two types in the order of their kinds. Assumes nothing.
 use mathlib.Core.Path.{_≡_, refl, sym, _∙_, ap}
-use mathlib.Core.Bool.{Bool, true, false, cond, not, _&&_, _||_, and-eq-true-iff}
+use mathlib.Core.Bool.{Bool, true, false, not, _&&_, _||_, and-eq-true-iff}
 use Prim.Native.Nat.{ℕ, _+_, _*_, _/_, _%_, _≤_, _<_, max}
 use native.Mathlib.Nat.{max-comm}
 use native.Mathlib.Omega.{arith}
 use lib.Dec.{T, leb, eqb, leb→le, eqb→eq}
-use borrow.Author.Tests.{eq-eqb, ne-eqb, eqb-true, ltb-true}
+use borrow.Author.Tests.{eq-eqb, ne-eqb, ltb-true}
 use Rattle.flat.specs.Kind
 use Rattle.flat.specs.Argument.{timeUnits, argumentFits, ruleOf as argumentRule}
 use Rattle.flat.proofs.Rules.{in-run, and-left, and-right, or-right}
@@ -22,7 +22,7 @@ use Rattle.utils_arms.specs.declared.plan.Plan.the-variants as plan
 use Rattle.utils_arms.specs.Node.{unitAt, unit, zone, value, plain, fits}
 use Rattle.utils_arms.specs.Supertype.{dynNumber, run, knownSupertype}
 use Rattle.utils_arms.specs.Rule.{ruleOf, Apart}
-use Rattle.utils_arms.proofs.Areas.{codeOf, alike, right-apart, rule-apart}
+use Rattle.utils_arms.proofs.Areas.{codeOf, alike}
 use Rattle.utils_arms.proofs.Answers.{is-true, plain-zero, same-node, zones, everywhere, at-apart}
 use Rattle.utils_arms.proofs.Recursive.{dyn-int-of}
 use Rattle.utils_supertype.proofs.Numbers.{known-boolean}
@@ -56,18 +56,6 @@ only p q t s a b h e =
     or-right (q a b) (ap not same-plan) (at-apart (among-kinds p q) t s a b h)
 
 -- ---- the answer
-
--- Null gives the other type, by its own arm or, where that is String, by the String arm
-pub null : (s : Bool) (l r : Node) → (fits l ≡ true) × (fits r ≡ true) × Apart (l .kind) (r .kind) → l .kind ≡ Kind.Null → Some r ≡ run knownSupertype (ruleOf s (l .kind) (r .kind)) l r
-unfolding run plain among
-null s l r pre e =
-    go (eqb (r .kind) Kind.String) refl
-    ∙ ap (λ (p : Plan). run knownSupertype p l r)
-    (rule-apart (λ s a b. cond (eqb b Kind.String) (plan.Kind b) plan.Right) Kind.Null 1 Kind.Null 28 (unfold right-apart in tt) s (l .kind) (r .kind) (omega arith) (pre .2 .two))
-  where
-    go : (x : Bool) → eqb (r .kind) Kind.String ≡ x → Some r ≡ run knownSupertype (cond x (plan.Kind (r .kind)) plan.Right) l r
-    go true f = ap Some (sym (same-node r (plain-zero r (pre .1) (rw (eqb-true (r .kind) Kind.String f)))))
-    go false f = refl
 
 module _ (s : Bool) (l r : Node) (pre : (fits l ≡ true) × (fits r ≡ true) × Apart (l .kind) (r .kind)) (q : Plan) (right-plan : q ≡ ruleOf s (l .kind) (r .kind)) where
   answer : (p : Plan) (t : Supertype) → q ≡ p → t ≡ run knownSupertype p l r → t ≡ run knownSupertype (ruleOf s (l .kind) (r .kind)) l r

@@ -89,10 +89,6 @@ fn ordered(to_string: bool, a: u8, x: u64, b: u8, y: u64) -> Common
     requires { ⌜ (fits (node a x) ≡ true) × (fits (node b y) ≡ true) × Apart a b ⌝ }
     ensures { λ t. ⌜ t ≡ commonOf (run knownSupertype (ruleOf «to_string» a b) (node a x) (node b y)) ⌝ }
 {
-    // Null joins to the other type
-    if a == Kind::NULL {
-        return Common::Some(b, y);
-    }
     match planned(to_string, a, b) {
         Plan::No => Common::Nothing,
         Plan::Left => Common::Some(a, x),
