@@ -12,4 +12,5 @@ pub mod Rules
 mod Scans
 mod Spans
 mod Checks
+pub mod Plain
 mod LimitCases

@@ -50,3 +50,7 @@ argumentFits k a = leb k Kind.Field && follows (ruleOf k) a
 -- one node is a type: its kind has no child, and a is an argument of it
 abbrev pub leafFits : ℕ → ℕ → Bool
 leafFits k a = leb k Kind.UnknownIntNeg && argumentFits k a
+
+-- a leaf whose argument is 0
+unfoldable pub plainLeaf : ℕ → ℕ → Bool
+plainLeaf k a = eqb a 0 && leafFits k a

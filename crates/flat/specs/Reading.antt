@@ -5,10 +5,10 @@ use mathlib.Core.List.{List, [], _∷_}
 use mathlib.Core.Option.{Option, none, some}
 use Prim.Native.Nat.{ℕ, _≤_}
 use lib.Dec.{leb, ltb, eqb}
-use lib.ListN.{length}
+use lib.ListN.{length, getD}
 use Rattle.flat.specs.Kind
 use Rattle.flat.specs.Refusal.{numberOf}
-use Rattle.flat.specs.Argument.{argumentFits}
+use Rattle.flat.specs.Argument.{argumentFits, plainLeaf}
 use Rattle.flat.specs.Tree.{DataType, leaf, list, array, struct, Fields, empty, field, count, size, depth, headKind, headArg}
 use Rattle.flat.specs.Reader.{nodeAt}
 use Rattle.flat.specs.declared.error.Error.{Error}
@@ -54,6 +54,10 @@ reading nodes deep ks xs =
     (unless (kindsFit ks) Kind
     (unless (argumentsFit ks xs) Argument
     (shaped deep (length ks) (nodeAt ks xs))))
+
+-- one plain leaf, the commonest type
+unfoldable pub onePlain : List ℕ → List ℕ → Bool
+onePlain ks xs = eqb (length ks) 1 && eqb (length xs) 1 && plainLeaf (getD ks 0 0) (getD xs 0 0)
 
 -- the answer of a check
 abbrev pub checkedOf : Reading → Checked

@@ -1,6 +1,6 @@
 // The rule of each kind's argument.
 ghost use mathlib.Core.Path.{_≡_};
-ghost use Rattle.flat.specs.Argument.{argumentFits, decimalFits, datetimeFits, leafFits};
+ghost use Rattle.flat.specs.Argument.{argumentFits, decimalFits, datetimeFits, leafFits, plainLeaf};
 use crate::kind::Kind;
 
 // Units of time: 0 ns, 1 µs, 2 ms.
@@ -61,4 +61,17 @@ pub fn leaf_fits(kind: u8, arg: u64) -> bool
         return argument_fits(kind, arg);
     }
     false
+}
+
+// Whether one node is a leaf whose argument is 0, as most leaves are.
+pub fn is_plain(kind: u8, arg: u64) -> bool
+    ensures { λ r. ⌜ r ≡ plainLeaf kind arg ⌝ }
+{
+    if arg != 0 {
+        return false;
+    }
+    if kind == Kind::DECIMAL {
+        return false;
+    }
+    kind < Kind::LIST
 }

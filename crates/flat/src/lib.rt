@@ -10,7 +10,7 @@ ghost use mathlib.Core.List.{_∷_, []};
 ghost use Prim.Native.Nat.{_<_};
 ghost use lib.ListN.{length};
 ghost use Rattle.flat.specs.Reader.{nodeAt};
-ghost use Rattle.flat.specs.Reading.{kindsFit, argumentsFit, shaped, reading, checkedOf, checkedNumber, checkedValue, rootOf, rootNumber, rootKind, rootArg, RootFits};
+ghost use Rattle.flat.specs.Reading.{kindsFit, argumentsFit, shaped, reading, onePlain, checkedOf, checkedNumber, checkedValue, rootOf, rootNumber, rootKind, rootArg, RootFits};
 ghost use Rattle.flat.specs.Output.{writtenNumber, writtenValue};
 use argument::argument_fits;
 use error::Error;
@@ -226,6 +226,19 @@ pub fn check(kinds: &[u8], args: &[u64]) -> Checked
         return Checked::Refused(Error::Argument);
     }
     check_shape(kinds, args)
+}
+
+// Whether two arrays are one plain leaf, the commonest type. So short a test is compiled into its callers.
+pub fn is_plain(kinds: &[u8], args: &[u64]) -> bool
+    ensures { λ r. ⌜ r ≡ onePlain (now (kinds .entry)) (now (args .entry)) ⌝ }
+{
+    if kinds.len() != 1 {
+        return false;
+    }
+    if args.len() != 1 {
+        return false;
+    }
+    argument::is_plain(kinds[0], args[0])
 }
 
 // Checks a type, and gives its root: refusals 1 to 5.
