@@ -59,7 +59,7 @@ unfolding plainIn onePlain
 plain-bytes {w} {nodes} {s} e =
     let both = and-eq-true-iff (sizeFits w nodes s) (onePlain (kindsIn s) (argsIn w s)) .0 e in
     let z = sized w nodes s (both .0) in
-    let p : (deep : ℕ) → PlainType nodes deep (kindsIn s) (argsIn w s) = λ deep. plain-type nodes deep (kindsIn s) (argsIn w s) (omega (arith, z .some, z .few)) (both .1) in
+    let p : (deep : ℕ) → PlainType nodes deep (kindsIn s) (argsIn w s) = λ deep. plain-type nodes deep _ _ (omega (arith, z .some, z .few)) (both .1) in
     let one : Sized w nodes 1 s = rw (sym (kinds-length z) ∙ ap length (p 0 .kinds)) at z in
     let k = one-kind one in
     record {
@@ -74,6 +74,7 @@ plain-bytes {w} {nodes} {s} e =
     }
 
 -- its root
-pub plain-root : {w nodes : ℕ} (deep : ℕ) {s : List ℕ} → PlainBytes w nodes s → (Root.Node (getD s 2 0) 0 ≡ rootOf (decoding w nodes deep s)) × RootFits (Root.Node (getD s 2 0) 0)
+pub plain-root : {w nodes : ℕ} (deep : ℕ) {s : List ℕ} → PlainBytes w nodes s
+    → (Root.Node (getD s 2 0) 0 ≡ rootOf (decoding w nodes deep s)) × RootFits (Root.Node (getD s 2 0) 0)
 unfolding headKind headArg
 plain-root deep p = (ap rootOf (sym (p .reads deep)), (omega (arith, p .low), plain-fits _ _ (p .plain) .2))

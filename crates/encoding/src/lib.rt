@@ -22,7 +22,7 @@ pub struct Encoding {}
 impl Encoding {
     pub const ARGUMENT_BYTES: usize = 8;
 
-    // The arguments of a type of so few nodes are read to a smaller array: a larger one takes longer to clear than to use.
+    // The arguments of a type of at most FEW nodes, or of at most SOME, are read to a smaller array: a larger one takes longer to clear than to use.
     pub const FEW: usize = 24;
 
     pub const SOME: usize = 64;

@@ -1,7 +1,6 @@
 -- `encoding::is_plain` meets its contract: one node, or another number. Assumes nothing.
 use borrow.Author.Needs.{needs}
 use native.Mathlib.Omega.{arith}
-use mathlib.Core.Path.{_∙_}
 use Rattle.encoding.proofs.Plain.{nodes-one, one-told, others-told}
 use Rattle.encoding.proofs.is_plain.Statement.{statement}
 use Rattle.encoding.proofs.is_plain.Tie as tie
@@ -20,5 +19,6 @@ is-plain-spec =
     (tie.spec
     (λ c κs. search needs)
     returns
-    (λ c. omega (arith, nodes-one (c .before .before .node-count .ensures) (c .before .if1 .left) .size)) (λ c κs. omega (arith, nodes-one (c .before .before .node-count .ensures) (c .before .if1 .left) .size)) (λ c κs. search needs)
+    (λ c. omega (arith, nodes-one (c .before .before .node-count .ensures) (c .before .if1 .left) .size))
+    (λ c κs. omega (arith, nodes-one (c .before .before .node-count .ensures) (c .before .if1 .left) .size)) (λ c κs. search needs)
     returns-2)
