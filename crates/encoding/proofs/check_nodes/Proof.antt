@@ -9,6 +9,13 @@ use Rattle.encoding.proofs.check_nodes.Tie as tie
 returns : tie.Need-returns
 returns c = ap checkedOf (sym (decoding-none _ _ _ _ (c .before .node-count .ensures) (c .if1 .taken)))
 
+-- room for few, for some, and for many
+check-with-requires : tie.Need-check-with-requires
+check-with-requires c κs = search needs
+
+check-with-requires-2 : tie.Need-check-with-requires-2
+check-with-requires-2 c κs = search needs
+
 check-with-requires-3 : tie.Need-check-with-requires-3
 check-with-requires-3 c κs =
     let counted = c .before .before .before .before .node-count .ensures in
@@ -21,8 +28,10 @@ check-nodes-spec =
     (tie.spec
     (λ c κs. search needs)
     returns
-    (λ c. search needs) (λ c κs. search needs) (λ c. search needs)
-    (λ c. search needs) (λ c κs. search needs) (λ c. search needs)
     (λ c. search needs)
+    check-with-requires
+    (λ c. search needs) (λ c. search needs)
+    check-with-requires-2
+    (λ c. search needs) (λ c. search needs)
     check-with-requires-3
     (λ c. search needs))
