@@ -3,7 +3,7 @@
 -- Assumes nothing.
 use mathlib.Core.Path.{_≡_, refl, sym, ap, _∙_}
 use mathlib.Core.Bool.{Bool, true, false, cond, and-eq-true-iff}
-use mathlib.Core.List.{List, [], _∷_, _++_}
+use mathlib.Core.List.{List, _++_}
 use Prim.Native.Nat.{ℕ, _+_, _-_, _≤_, _<_}
 use native.Mathlib.Nat.{add-sub-cancel-left, zero-mul}
 use native.Mathlib.Omega.{arith}
@@ -11,7 +11,7 @@ use borrow.Author.Tests.{lt-ltb, le-leb, eq-eqb, ltb-true, leb-true, eqb-true}
 use borrow.Rule.Slice.PartAt.{part-to-end}
 use lib.Dec.{leb}
 use lib.ListN.{length, getD, take, drop, length-drop}
-use lib.Seq.{length-take-le, take-at, drop-cons, getD-take, getD-drop}
+use lib.Seq.{length-take-le, take-at, getD-take, getD-drop}
 use Rattle.flat.specs.Tree.{DataType, size, kindsOf, argsOf}
 use Rattle.flat.specs.Reading.{Reading, refused, type, unless, reading, checkedOf, rootOf, RootFits}
 use Rattle.flat.specs.declared.Checked.{Checked}
@@ -71,11 +71,6 @@ module _ {w nodes n : ℕ} {s : List ℕ} (z : Sized w nodes n s) where
   pub decoding-sized : (deep : ℕ) → decoding w nodes deep s ≡ reading nodes deep (kindsIn s) (argsIn w s)
   unfolding decoding
   decoding-sized deep = rw size-fits
-
--- one node: its kind, and its argument after it
-pub decoding-one : {w nodes : ℕ} {s : List ℕ} → Sized w nodes 1 s → (deep : ℕ) → decoding w nodes deep s ≡ reading nodes deep (getD s 2 0 ∷ []) (number (take w (drop 3 s)) ∷ [])
-unfolding argsFrom
-decoding-one {w} {nodes} {s} z deep = rw (decoding-sized z, ← kinds-part z, ← args-part z, part-to-end, drop-cons s 2 0 (omega (arith, z .size)))
 
 -- where the number of nodes is not 0
 pub nodes-some : {w nodes n : ℕ} {s : List ℕ} → n ≡ nodesIn w nodes s → (n ≡ 0 → ⊥) → Sized w nodes n s

@@ -1,5 +1,6 @@
 -- Laws that several proofs of `encoding` cite, what an answer tells, and the round trips.
 pub mod Laws
 pub mod Answers
+pub mod Plain
 pub mod Opening
 pub mod RoundTrip

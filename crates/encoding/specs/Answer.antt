@@ -1,22 +1,26 @@
 -- The answers of the calls on encoded types, and the bytes that `encode` leaves. Assumes nothing: these are definitions.
 use mathlib.Core.Path.{_≡_}
-use mathlib.Core.Bool.{cond}
+use mathlib.Core.Bool.{Bool, cond, _&&_}
 use mathlib.Core.List.{List}
 use Prim.Native.Nat.{ℕ}
 use lib.Dec.{leb}
 use lib.ListN.{length}
 use Rattle.flat.specs.Refusal.{numberOf}
 use Rattle.flat.specs.Tree.{size, kindsOf, argsOf}
-use Rattle.flat.specs.Reading.{Reading, refused, type, unless, reading}
+use Rattle.flat.specs.Reading.{Reading, refused, type, unless, reading, onePlain}
 use Rattle.flat.specs.Output.{over, fitting, writtenOf, Writes}
 use Rattle.flat.specs.declared.error.Error.the-variants.{OutputTooShort}
-use Rattle.encoding.specs.Encoding.{encoding, encodedSize, countIn, argsIn, sizeFits, decoding}
+use Rattle.encoding.specs.Encoding.{encoding, encodedSize, countIn, kindsIn, argsIn, sizeFits, decoding}
 use Rattle.flat.specs.declared.Written.{Written}
 use Rattle.encoding.specs.declared.Encoded.{Encoded}
 
 -- the number of nodes that bytes of the right length hold, 0 of any others
 unfoldable pub nodesIn : ℕ → ℕ → List ℕ → ℕ
 nodesIn w nodes s = cond (sizeFits w nodes s) (countIn s) 0
+
+-- bytes that are one plain leaf
+unfoldable pub plainIn : ℕ → ℕ → List ℕ → Bool
+plainIn w nodes s = sizeFits w nodes s && onePlain (kindsIn s) (argsIn w s)
 
 -- The lent arguments after `open`. They are read before they are checked, so bytes of the right length leave theirs even where they are refused.
 unfoldable pub argsOpened : ℕ → ℕ → List ℕ → List ℕ → List ℕ

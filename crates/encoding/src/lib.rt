@@ -8,12 +8,12 @@ ghost use lib.ListN.{length};
 ghost use Rattle.flat.specs.Reading.{checkedOf, rootOf, RootFits};
 ghost use Rattle.flat.specs.Output.{over};
 ghost use Rattle.encoding.specs.Encoding.{argsIn, decoding};
-ghost use Rattle.encoding.specs.Answer.{nodesIn, encodedNumber, encodedValue, Opens, EncodeEnsures, DecodeEnsures, Puts};
+ghost use Rattle.encoding.specs.Answer.{nodesIn, plainIn, encodedNumber, encodedValue, Opens, EncodeEnsures, DecodeEnsures, Puts};
 use flat::Checked;
 use flat::Flat;
 use flat::Root;
 use flat::Written;
-use flat::argument::leaf_fits;
+use flat::argument;
 use flat::error::Error;
 
 // The layout of an encoded type.
@@ -22,8 +22,10 @@ pub struct Encoding {}
 impl Encoding {
     pub const ARGUMENT_BYTES: usize = 8;
 
-    // The arguments of a type of so few nodes are read to a small array: a large one takes longer to clear than to use.
+    // The arguments of a type of at most FEW nodes, or of at most SOME, are read to a smaller array: a larger one takes longer to clear than to use.
     pub const FEW: usize = 24;
+
+    pub const SOME: usize = 64;
 }
 
 // What encoding answers: the number of bytes written.
@@ -77,6 +79,19 @@ pub fn node_count(encoded: &[u8]) -> usize
     n
 }
 
+// Whether bytes are one plain leaf. So short a test is compiled into its callers.
+pub fn is_plain(encoded: &[u8]) -> bool
+    ensures { λ r. do
+      nodes ← ⟦Flat::MAX_NODES⟧ .entry
+      w ← ⟦Encoding::ARGUMENT_BYTES⟧ .entry
+      ⌜ r ≡ plainIn w nodes (now (encoded .entry)) ⌝ }
+{
+    if node_count(encoded) != 1 {
+        return false;
+    }
+    argument::is_plain(encoded[2], bytes::word(encoded, 3))
+}
+
 // Checks an encoded type of n nodes, with room for its arguments.
 fn check_with(encoded: &[u8], n: usize, args: &mut [u64]) -> Checked
     requires { do
@@ -94,8 +109,8 @@ fn check_with(encoded: &[u8], n: usize, args: &mut [u64]) -> Checked
     flat::check(&encoded[2..m], &args[..n])
 }
 
-// Whether bytes are an encoded type.
-pub fn check(encoded: &[u8]) -> Checked
+// Whether bytes are an encoded type, of any number of nodes.
+fn check_nodes(encoded: &[u8]) -> Checked
     ensures { λ r. do
       nodes ← ⟦Flat::MAX_NODES⟧ .entry
       deep ← ⟦Flat::MAX_DEPTH⟧ .entry
@@ -106,15 +121,30 @@ pub fn check(encoded: &[u8]) -> Checked
     if n == 0 {
         return Checked::Refused(Error::Length);
     }
-    if n == 1 {
-        return flat::check_one(encoded[2], bytes::word(encoded, 3));
-    }
     if n <= Encoding::FEW {
         let mut few = [0u64; Encoding::FEW];
         return check_with(encoded, n, &mut few);
     }
+    if n <= Encoding::SOME {
+        let mut some = [0u64; Encoding::SOME];
+        return check_with(encoded, n, &mut some);
+    }
     let mut many = [0u64; Flat::MAX_NODES];
     check_with(encoded, n, &mut many)
+}
+
+// Whether bytes are an encoded type.
+pub fn check(encoded: &[u8]) -> Checked
+    ensures { λ r. do
+      nodes ← ⟦Flat::MAX_NODES⟧ .entry
+      deep ← ⟦Flat::MAX_DEPTH⟧ .entry
+      w ← ⟦Encoding::ARGUMENT_BYTES⟧ .entry
+      ⌜ r ≡ checkedOf (decoding w nodes deep (now (encoded .entry))) ⌝ }
+{
+    if is_plain(encoded) {
+        return Checked::Valid;
+    }
+    check_nodes(&encoded[0..])
 }
 
 // Decodes a type to the front of kinds and args: refusals 1 to 5, then 8.
@@ -167,6 +197,20 @@ pub fn open(encoded: &[u8], args: &mut [u64]) -> Written
     }
 }
 
+// The root of bytes that are not one plain leaf.
+fn root_of(encoded: &[u8]) -> Root
+    ensures { λ r. do
+      nodes ← ⟦Flat::MAX_NODES⟧ .entry
+      deep ← ⟦Flat::MAX_DEPTH⟧ .entry
+      w ← ⟦Encoding::ARGUMENT_BYTES⟧ .entry
+      ⌜ (r ≡ rootOf (decoding w nodes deep (now (encoded .entry)))) × RootFits r ⌝ }
+{
+    match check_nodes(encoded) {
+        Checked::Refused(e) => Root::Refused(e),
+        Checked::Valid => Root::Node(encoded[2], bytes::word(encoded, 2 + node_count(encoded))),
+    }
+}
+
 // Checks an encoded type, and gives its root: refusals 1 to 5.
 pub fn check_root(encoded: &[u8]) -> Root
     ensures { λ r. do
@@ -175,18 +219,10 @@ pub fn check_root(encoded: &[u8]) -> Root
       w ← ⟦Encoding::ARGUMENT_BYTES⟧ .entry
       ⌜ (r ≡ rootOf (decoding w nodes deep (now (encoded .entry)))) × RootFits r ⌝ }
 {
-    let n = node_count(encoded);
-    if n == 1 {
-        let kind = encoded[2];
-        let arg = bytes::word(encoded, 3);
-        if leaf_fits(kind, arg) {
-            return Root::Node(kind, arg);
-        }
+    if is_plain(encoded) {
+        return Root::Node(encoded[2], 0);
     }
-    match check(encoded) {
-        Checked::Refused(e) => Root::Refused(e),
-        Checked::Valid => Root::Node(encoded[2], bytes::word(encoded, 2 + n)),
-    }
+    root_of(&encoded[0..])
 }
 
 // Encodes two arrays to the front of out, unless it is too short: refusal 8. They are not checked.
