@@ -54,27 +54,39 @@ module _ (ks xs ls ys : List ℕ) (i : ℕ) (e : allYes ks xs ls ys ≡ allYes (
   yes-end h g = sym (e ∙ rw (drop-of-length-le ks h, drop-of-length-le ls g))
 
 -- ---- two nodes that say yes
+-- what they are, but for two fields
+data Told (k a l b : ℕ) : Type 0 where
+  same : k ≡ l → a ≡ b → Told k a l b
+  numeric : (isPrimitiveNumeric k && isPrimitiveNumeric l) ≡ true → Told k a l b
+
+told : (k a l b : ℕ) → k ≤ Kind.Struct → nodeYes k a l b ≡ true → Told k a l b
+unfolding nodeYes
+told k a l b h e = go (eqb k l) refl e
+  where
+    go : (c : Bool) → eqb k l ≡ c → cond c (eqb a b || eqb k Kind.Field) (isPrimitiveNumeric k && isPrimitiveNumeric l) ≡ true → Told k a l b
+    go true p e = same (eqb-true k l p) (eqb-true a b (rw (ne-eqb k Kind.Field (omega arith), or-false) at e))
+    go false p e = numeric e
+
 -- of two leaves the cast makes sense
 pub leaves-yes : (k a l b : ℕ) → k < Kind.List → nodeYes k a l b ≡ true → canCastTo (leaf k a) (leaf l b) ≡ some true
-unfolding nodeYes canCastTo beforeNested headKind equal
-leaves-yes k a l b h e = go (eqb k l) refl e
+unfolding canCastTo beforeNested headKind equal
+leaves-yes k a l b h e = go (told k a l b (omega arith) e)
   where
-    go : (c : Bool) → eqb k l ≡ c → cond c (eqb a b || eqb k Kind.Field) (isPrimitiveNumeric k && isPrimitiveNumeric l) ≡ true → canCastTo (leaf k a) (leaf l b) ≡ some true
-    go true p e = cast-equal (leaf k a) (leaf l b) (nodes-same k a l b (eqb-true k l p) (eqb-true a b (rw (ne-eqb k Kind.Field (omega arith), or-false) at e)))
-    go false p e = rw e (no-test (equal (leaf k a) (leaf l b)) (some true) (λ f. refl))
+    go : Told k a l b → canCastTo (leaf k a) (leaf l b) ≡ some true
+    go (same p q) = cast-equal (leaf k a) (leaf l b) (nodes-same k a l b p q)
+    go (numeric n) = rw n (no-test (equal (leaf k a) (leaf l b)) (some true) (λ f. refl))
 
--- and a nested type's node is equal to the other
+-- and what a nested type's node stands against is equal to it
 not-numeric : (k : ℕ) → (Kind.List ≤ k) × (k ≤ Kind.Struct) → isPrimitiveNumeric k ≡ false
 not-numeric k h = sym (of-run isPrimitiveNumeric false 28 3 (unfold says in tt) k (omega arith))
 
 module _ {k a l b : ℕ} (e : nodeYes k a l b ≡ true) where
   same-node : k ≤ Kind.Struct → (isPrimitiveNumeric k && isPrimitiveNumeric l) ≡ false → (k ≡ l) × (a ≡ b)
-  unfolding nodeYes
-  same-node h n = go (eqb k l) refl e
+  same-node h n = go (told k a l b h e)
     where
-      go : (c : Bool) → eqb k l ≡ c → cond c (eqb a b || eqb k Kind.Field) (isPrimitiveNumeric k && isPrimitiveNumeric l) ≡ true → (k ≡ l) × (a ≡ b)
-      go true p e = (eqb-true k l p, eqb-true a b (rw (ne-eqb k Kind.Field (omega arith), or-false) at e))
-      go false p e = absurd (let y : _≡_ {A = ℕ} 0 1 = cc in omega arith)
+      go : Told k a l b → (k ≡ l) × (a ≡ b)
+      go (same p q) = (p, q)
+      go (numeric y) = absurd (let z : _≡_ {A = ℕ} 0 1 = cc in omega arith)
 
   from-nested : (Kind.List ≤ k) × (k ≤ Kind.Struct) → (k ≡ l) × (a ≡ b)
   from-nested h = same-node (h .1) (rw (not-numeric k h))
