@@ -1,5 +1,5 @@
 -- The scan over two types at once: what is left after i nodes decides, and where all nodes of two valid types say yes, the cast makes sense. Assumes nothing.
-use mathlib.Core.Path.{_≡_, refl, sym, ap, _∙_}
+use mathlib.Core.Path.{_≡_, refl, sym, _∙_}
 use mathlib.Core.Bool.{Bool, true, false, cond, _&&_, _||_, and-false, and-eq-true-iff, or-false}
 use mathlib.Core.List.{List, [], _∷_, _++_, append-assoc, append-nil}
 use mathlib.Core.Option.{some}

@@ -22,19 +22,15 @@ returns c = let h = c .if1 .taken in other-length _ _ _ _ (omega arith)
 returns-2 : tie.Need-returns-2 Inv-loop μ-loop
 returns-2 c =
     let l = c .before .before .before .before .before .before .before in
-    let s = l .before .before .before .before .before .before in
     yes-stop _ _ _ _ _ (l .loop .inv .1) (omega arith) (omega arith) (omega arith) (omega arith) (sym (c .before .node-yes .ensures) ∙ not-true _ (c .if2 .taken))
 
 loop-again : tie.Need-loop-again Inv-loop μ-loop
 loop-again c =
     let l = c .before .before .before .before .before .before .before in
-    let s = l .before .before .before .before .before .before in
     (omega arith, yes-on _ _ _ _ _ (l .loop .inv .1) (omega arith) (omega arith) (omega arith) (omega arith) (sym (c .before .node-yes .ensures) ∙ not-false _ (c .if2 .left)))
 
 returns-3 : tie.Need-returns-3 Inv-loop μ-loop
-returns-3 c =
-    let l = c .before in
-    yes-end _ _ _ _ _ (l .loop .inv .1) (c .loop-test .left) (omega arith)
+returns-3 c = yes-end _ _ _ _ _ (c .before .loop .inv .1) (c .loop-test .left) (omega arith)
 
 pub all-yes-spec : {M : Type 1} → statement M
 all-yes-spec =
