@@ -29,7 +29,7 @@ and-false true = refl
 and-false false = refl
 
 -- ---- equal types cast
-cast-equal : (t u : DataType) → equal t u ≡ true → canCastTo t u ≡ some true
+pub cast-equal : (t u : DataType) → equal t u ≡ true → canCastTo t u ≡ some true
 unfolding canCastTo beforeNested
 cast-equal (leaf k a) u e = rw e
 cast-equal (list t) u e = rw e
@@ -72,7 +72,7 @@ in-order false false false false true c false rest = refl
 in-order false false false false false c d rest = refl
 
 -- a test whose yes is the rest's answer too
-no-test : (b : Bool) (rest : Option Bool) → (b ≡ true → rest ≡ some true) → cond b (some true) rest ≡ rest
+pub no-test : (b : Bool) (rest : Option Bool) → (b ≡ true → rest ≡ some true) → cond b (some true) rest ≡ rest
 no-test true rest h = sym (h refl)
 no-test false rest h = refl
 

@@ -2,6 +2,7 @@
 pub mod dtype;
 pub mod field;
 mod roots;
+pub mod scan;
 
 ghost use mathlib.Core.Path.{_≡_};
 ghost use Rattle.flat.specs.Reading.{reading};
@@ -56,11 +57,16 @@ pub fn can_cast_to(
 {
     match flat::check(from_kinds, from_args) {
         Checked::Valid => match flat::check(to_kinds, to_args) {
-            Checked::Valid => match dtype::node_cast(from_kinds, from_args, to_kinds, to_args) {
-                Cast::Yes(_, _) => Verdict::Yes,
-                Cast::No => Verdict::No,
-                Cast::NoVerdict => Verdict::NoVerdict,
-            },
+            Checked::Valid => {
+                if scan::all_yes(from_kinds, from_args, to_kinds, to_args) {
+                    return Verdict::Yes;
+                }
+                match dtype::node_cast(from_kinds, from_args, to_kinds, to_args) {
+                    Cast::Yes(_, _) => Verdict::Yes,
+                    Cast::No => Verdict::No,
+                    Cast::NoVerdict => Verdict::NoVerdict,
+                }
+            }
             Checked::Refused(e) => Verdict::Refused(e),
         },
         Checked::Refused(e) => Verdict::Refused(e),

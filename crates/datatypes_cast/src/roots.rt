@@ -24,7 +24,7 @@ fn equal_leaves(k: u8, a: u64, l: u8, b: u64) -> bool
     equal_node(k, a, l, b)
 }
 
-fn both_numeric(k: u8, l: u8) -> bool
+pub fn both_numeric(k: u8, l: u8) -> bool
     ensures { λ r. ⌜ r ≡ (isPrimitiveNumeric k && isPrimitiveNumeric l) ⌝ }
 {
     if is_primitive_numeric(k) {
