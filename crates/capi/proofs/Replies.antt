@@ -8,10 +8,10 @@ use native.Mathlib.Omega.{arith}
 use lib.ListN.{length, take, drop}
 use lib.Seq.{length-take-le}
 use Rattle.flat.specs.Tree.{DataType}
-use Rattle.flat.specs.Reading.{Reading, refused, reading, checkedOf}
+use Rattle.flat.specs.Reading.{Reading, refused, checkedOf}
 use Rattle.flat.specs.declared.error.Error.{Error}
 use Rattle.flat.specs.declared.Checked.{Checked}
-use Rattle.flat.proofs.Meaning.{check-passed}
+use Rattle.flat.proofs.Meaning.{Passed, check-passed}
 use Rattle.encoding.specs.Encoding.{kindsIn, argsIn, decoding}
 use Rattle.encoding.specs.Answer.{fittingBytes, bytesOver, Encodes}
 use Rattle.flat.specs.declared.Written.{Written}
@@ -72,13 +72,13 @@ answer-unwritten p r q f h = answer-refused p (written-refused r (sym q ∙ f)) 
 
 -- by the kinds that stand in the bytes
 module _ {w nodes deep n : ℕ} {s : List ℕ} (f : EncodedForm w nodes deep n s) where
-  valid : Checked.Valid ≡ checkedOf (reading nodes deep (kindsIn s) (argsIn w s))
-  valid = ap checkedOf (sym (f .reads) ∙ decoding-sized (f .sized) deep)
+  passed : Passed nodes deep (kindsIn s) (argsIn w s)
+  passed = check-passed (ap checkedOf (sym (f .reads) ∙ decoding-sized (f .sized) deep))
 
   pub some-kind : 0 < length (take (2 + n - 2) (drop 2 s))
-  some-kind = rw (kinds-part (f .sized)) (some-node (check-passed valid))
+  some-kind = rw (kinds-part (f .sized)) (some-node passed)
 
   pub predicate-reply : (p : Predicate) {b : Bool} {a : Reply} → b ≡ toldBy p (take (2 + n - 2) (drop 2 s)) → a ≡ answerReply (yesNo b) → a ≡ answerReply (answerOf (predicateOf p) (decoding w nodes deep s))
   predicate-reply p e h =
-      h ∙ ap answerReply (answered p nodes deep (kindsIn s) (argsIn w s) valid (e ∙ ap (toldBy p) (kinds-part (f .sized))) refl)
+      h ∙ ap answerReply (answered p nodes deep (kindsIn s) (argsIn w s) passed (e ∙ ap (toldBy p) (kinds-part (f .sized))) refl)
       ∙ ap (λ (r : Reading). answerReply (answerOf (predicateOf p) r)) (sym (decoding-sized (f .sized) deep))

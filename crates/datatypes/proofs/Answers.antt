@@ -9,7 +9,7 @@ use Rattle.flat.specs.Tree.{headKind}
 use Rattle.flat.specs.Reading.{reading, checkedOf}
 use Rattle.flat.specs.declared.error.Error.{Error}
 use Rattle.flat.specs.declared.Checked.{Checked}
-use Rattle.flat.proofs.Meaning.{Passed, check-passed, checked-refused, root-kind}
+use Rattle.flat.proofs.Meaning.{Passed, checked-refused, root-kind}
 use Rattle.datatypes.specs.Predicate.{isTemporal, isFloat, isSignedInteger, isUnsignedInteger, isInteger, isPrimitiveNumeric, isPrimitive, isNested, isString, isUnknown}
 use Rattle.datatypes.specs.Predicates.{predicateOf, toldBy}
 use Rattle.datatypes.specs.Answer.{yesNo, answerOf}
@@ -42,10 +42,10 @@ module _ {nodes deep : ℕ} {ks xs : List ℕ} (v : Passed nodes deep ks xs) whe
   told ContainsUnknown = scanned contains-unknown nodes deep ks xs (v .tree) (v .reads)
   told ContainsListRecursive = scanned contains-list nodes deep ks xs (v .tree) (v .reads)
 
--- the answer where a check has passed, and where it hasn't
+-- the answer where they are a type, and where a check refused them
 module _ (p : Predicate) (nodes deep : ℕ) (ks xs : List ℕ) where
-  pub answered : Checked.Valid ≡ checkedOf (reading nodes deep ks xs) → {b : Bool} {a : Answer} → b ≡ toldBy p ks → a ≡ yesNo b → a ≡ answerOf (predicateOf p) (reading nodes deep ks xs)
-  answered e s q = let v = check-passed e in q ∙ ap yesNo (s ∙ told v p) ∙ ap (answerOf (predicateOf p)) (sym (v .reads))
+  pub answered : Passed nodes deep ks xs → {b : Bool} {a : Answer} → b ≡ toldBy p ks → a ≡ yesNo b → a ≡ answerOf (predicateOf p) (reading nodes deep ks xs)
+  answered v s q = q ∙ ap yesNo (s ∙ told v p) ∙ ap (answerOf (predicateOf p)) (sym (v .reads))
 
   pub refused-answer : {e : Error} → Checked.Refused e ≡ checkedOf (reading nodes deep ks xs) → Answer.Refused e ≡ answerOf (predicateOf p) (reading nodes deep ks xs)
   refused-answer {e} q = ap (answerOf (predicateOf p)) (sym (checked-refused (reading nodes deep ks xs) e q))

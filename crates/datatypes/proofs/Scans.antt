@@ -1,6 +1,6 @@
 -- A scan of the kinds: what the first i say of all of them, and that the scans for a run of kinds look for those that the predicates name. Assumes nothing.
-use mathlib.Core.Path.{_≡_, refl, sym, ap, _∙_}
-use mathlib.Core.Bool.{Bool, true, false, _&&_, _||_}
+use mathlib.Core.Path.{_≡_, refl, sym, _∙_}
+use mathlib.Core.Bool.{Bool, true, false, _&&_, _||_, or-true, or-false}
 use mathlib.Core.List.{List, [], _∷_}
 use Prim.Native.Nat.{ℕ, suc, _+_, _≤_, _<_}
 use native.Mathlib.Omega.{arith}
@@ -15,21 +15,22 @@ use Rattle.datatypes.specs.Predicate.{isTemporal, isUnknownInt, isUnknow
 use Rattle.datatypes.specs.Scan.{between, anyOf, isListKind, isDecimalKind, isLogicalKind}
 use Rattle.datatypes.proofs.Runs.{says, of-run}
 
-module _ (p : ℕ → Bool) (ks : List ℕ) (i : ℕ) (e : anyOf p ks ≡ anyOf p (drop i ks)) where
+-- what the first i say, b, and what the rest says are together what they all say
+module _ (p : ℕ → Bool) (ks : List ℕ) (i : ℕ) (b : Bool) (e : anyOf p ks ≡ (b || anyOf p (drop i ks))) where
   module _ (h : i < length ks) where
-    step : anyOf p (drop i ks) ≡ (p (getD ks i 0) || anyOf p (drop (i + 1) ks))
+    step : anyOf p ks ≡ (b || (p (getD ks i 0) || anyOf p (drop (i + 1) ks)))
     unfolding anyOf
-    step = rw (add-one, drop-cons ks i 0)
+    step = e ∙ rw (add-one, drop-cons ks i 0)
 
-    pub any-on : p (getD ks i 0) ≡ false → anyOf p ks ≡ anyOf p (drop (i + 1) ks)
-    any-on n = e ∙ step ∙ rw n
+    pub any-on : p (getD ks i 0) ≡ false → anyOf p ks ≡ (b || anyOf p (drop (i + 1) ks))
+    any-on n = step ∙ rw n
 
-    pub any-stop : p (getD ks i 0) ≡ true → true ≡ anyOf p ks
-    any-stop y = sym (e ∙ step ∙ rw y)
+    pub any-found : p (getD ks i 0) ≡ true → anyOf p ks ≡ (true || anyOf p (drop (i + 1) ks))
+    any-found y = step ∙ rw y (or-true b)
 
-  pub any-end : length ks ≤ i → false ≡ anyOf p ks
+  pub any-end : length ks ≤ i → b ≡ anyOf p ks
   unfolding anyOf
-  any-end h = sym (e ∙ ap (anyOf p) (drop-of-length-le ks h))
+  any-end h = sym (e ∙ rw (drop-of-length-le ks h) (or-false b))
 
 module _ (low high k : ℕ) where
   pub is-between : low ≤ k → k ≤ high → between low high k ≡ true

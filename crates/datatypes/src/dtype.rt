@@ -19,6 +19,10 @@ fn answer(p: Predicate, kinds: &[u8], args: &[u64]) -> Answer
       deep ← ⟦Flat::MAX_DEPTH⟧ .entry
       ⌜ r ≡ answerOf (predicateOf p) (reading nodes deep (now (kinds .entry)) (now (args .entry))) ⌝ }
 {
+    // one plain leaf is told at once
+    if flat::is_plain(kinds, args) {
+        return yes_no(told_by(p, kinds));
+    }
     match flat::check(kinds, args) {
         Checked::Valid => yes_no(told_by(p, kinds)),
         Checked::Refused(e) => Answer::Refused(e),

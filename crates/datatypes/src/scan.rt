@@ -4,21 +4,22 @@ ghost use Rattle.datatypes.specs.Predicate.{isUnknown};
 ghost use Rattle.datatypes.specs.Scan.{between, anyOf, isListKind, isLogicalKind};
 use flat::kind::Kind;
 
-// Whether a kind from low to high is among them.
+// Whether a kind from low to high is among them. Without an early exit the loop is vectorised.
 pub fn any_between(kinds: &[u8], low: u8, high: u8) -> bool
     ensures { λ r. ⌜ r ≡ anyOf (between low high) (now (kinds .entry)) ⌝ }
 {
+    let mut found = false;
     let mut i = 0;
     while i < kinds.len() {
         let k = kinds[i];
         if low <= k {
             if k <= high {
-                return true;
+                found = true;
             }
         }
         i += 1;
     }
-    false
+    found
 }
 
 pub fn contains_unknown(kinds: &[u8]) -> bool

@@ -4,13 +4,14 @@ use mathlib.Core.Bool.{Bool, true, false, and-eq-true-iff}
 use mathlib.Core.List.{List}
 use Prim.Native.Nat.{ℕ}
 use native.Mathlib.Omega.{arith}
-use lib.ListN.{length}
+use lib.ListN.{length, getD}
 use borrow.Author.Tests.{eqb-true}
 use Rattle.flat.specs.Reading.{reading, checkedOf}
 use Rattle.flat.specs.declared.Checked.{Checked}
 use Rattle.flat.specs.declared.Checked.the-variants.{Valid}
 use Rattle.flat.proofs.Meaning.{Passed, check-passed}
-use Rattle.datatypes.specs.Equality.{equal}
+use Rattle.flat.proofs.Plain.{PlainType}
+use Rattle.datatypes.specs.Equality.{equalNode, equal}
 use Rattle.datatypes.specs.Recursive.{containsDtypeRecursive}
 use Rattle.datatypes.specs.Answer.{yesNo, answersOf}
 use Rattle.datatypes.specs.declared.answer.Answer.{Answer}
@@ -28,6 +29,11 @@ module _ {nodes deep : ℕ} {ks xs ls ys : List ℕ} (left : Passed nodes deep k
 
   pub unlike : {r : Bool} → r ≡ alike ks xs ls ys → r ≡ false → Answer.No ≡ answersOf equal (reading nodes deep ks xs) (reading nodes deep ls ys)
   unlike e f = rw (left .reads, right .reads, ← alike-equal (left .form) (right .form), ← e, f)
+
+-- two plain leaves
+pub plain-equal : {nodes deep : ℕ} {ks xs ls ys : List ℕ} → PlainType nodes deep ks xs → PlainType nodes deep ls ys → {b : Bool} {a : Answer} → b ≡ equalNode (getD ks 0 0) 0 (getD ls 0 0) 0 → a ≡ yesNo b → a ≡ answersOf equal (reading nodes deep ks xs) (reading nodes deep ls ys)
+unfolding equal
+plain-equal left right e q = rw (left .reads, right .reads, ← e) q
 
 -- the right type need not be checked where it is alike
 pub alike-valid : {nodes deep : ℕ} {ks xs : List ℕ} (ls ys : List ℕ) (left : Passed nodes deep ks xs) {r : Bool} → r ≡ alike ks xs ls ys → r ≡ true → Answer.Yes ≡ answersOf equal (reading nodes deep ks xs) (reading nodes deep ls ys)

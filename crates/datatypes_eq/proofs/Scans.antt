@@ -7,7 +7,7 @@ use Prim.Native.Nat.{ℕ, suc, _+_, _≤_, _<_}
 use native.Mathlib.Omega.{arith}
 use lib.Dec.{eqb, eqb·zero-suc, eqb·suc-zero, eqb·suc-suc}
 use lib.ListN.{length}
-use borrow.Author.Tests.{eq-eqb}
+use borrow.Author.Tests.{eq-eqb, eqb-true}
 use Rattle.flat.specs.Kind
 use Rattle.flat.specs.Tree.{DataType, leaf, list, array, struct, Fields, empty, field, count, size, sizes, kindsOf, kindsOfs, argsOf, argsOfs}
 use Rattle.flat.specs.Reading.{Ruled, RuledFields}
@@ -17,8 +17,8 @@ use Rattle.datatypes.specs.Match.{among}
 use Rattle.datatypes.specs.Predicate.{isUnknownInt}
 use Rattle.datatypes.specs.Equality.{equalNode, equal, equalFields}
 use Rattle.datatypes.specs.Recursive.{containsDtypeRecursive, anyContainsDtype}
-use Rattle.datatypes_eq.specs.Nodes.{startsWith, alike, occurs}
-use Rattle.datatypes.proofs.Pairs.{left-known, right-known}
+use Rattle.datatypes_eq.specs.Nodes.{same, startsWith, alike, occurs}
+use Rattle.datatypes.proofs.Pairs.{nodes-same, left-known, right-known}
 
 -- a leaf's node and one that is none
 leaf-other : (k a l b : ℕ) → k ≤ Kind.UnknownIntNeg → Kind.UnknownIntNeg < l → equalNode k a l b ≡ false
@@ -117,11 +117,25 @@ module _ (u : DataType) (s : Ruled u) where
           or-assoc,
         )
 
--- equal types have as many nodes
-
 pub never : {A : Type 0} → false ≡ true → A
 never e = absurd (let z : _≡_ {A = ℕ} 0 1 = cc in omega arith)
 
+-- two lists that are the same to a scan are equal
+pub same-lists : (xs ys : List ℕ) → same xs ys ≡ true → xs ≡ ys
+unfolding same
+same-lists [] [] e = refl
+same-lists [] (y ∷ ys) e = never e
+same-lists (x ∷ xs) [] e = never e
+same-lists (x ∷ xs) (y ∷ ys) e = let s = and-eq-true-iff (eqb x y) (same xs ys) .0 e in ap₂ _∷_ (eqb-true x y (s .0)) (same-lists xs ys (s .1))
+
+-- nodes stand at their own front
+pub starts-self : (ks xs : List ℕ) → startsWith ks xs ks xs ≡ true
+unfolding startsWith
+starts-self [] xs = refl
+starts-self (k ∷ ks) [] = refl
+starts-self (k ∷ ks) (a ∷ xs) = rw (nodes-same k a k a refl refl) (starts-self ks xs)
+
+-- equal types have as many nodes
 mutual
   unfolding equal size
 

@@ -1,17 +1,36 @@
 -- The steps of the scans: what is left to compare after i nodes decides, and so do the positions that are left to try. Assumes nothing.
 use mathlib.Core.Path.{_≡_, refl, sym, ap, _∙_}
-use mathlib.Core.Bool.{Bool, true, false, _&&_, and-false}
+use mathlib.Core.Bool.{Bool, true, false, _&&_, and-true, and-false}
 use mathlib.Core.List.{List, [], _∷_}
 use Prim.Native.Nat.{ℕ, _+_, _≤_, _<_}
 use native.Mathlib.Omega.{arith}
 use native.Mathlib.Numerals.{add-one}
+use lib.Dec.{eqb}
 use lib.ListN.{length, getD, drop, length-drop, drop-of-length-le}
 use lib.Seq.{drop-cons}
 use borrow.Author.Tests.{eq-eqb, ne-eqb}
 use Rattle.flat.proofs.Positions.{rest}
 use Rattle.flat.proofs.Walks.{from}
 use Rattle.datatypes.specs.Equality.{equalNode}
-use Rattle.datatypes_eq.specs.Nodes.{startsWith, alike, occurs}
+use Rattle.datatypes_eq.specs.Nodes.{same, startsWith, alike, occurs}
+use Rattle.datatypes_eq.proofs.Scans.{same-lists, starts-self}
+
+-- what the first i elements say, b, and what the rest says are together what two lists say
+module _ (xs ys : List ℕ) (i : ℕ) (b : Bool) (e : same xs ys ≡ (b && same (drop i xs) (drop i ys))) where
+  module _ (h : i < length xs) (g : i < length ys) where
+    same-step : same xs ys ≡ (b && (eqb (getD xs i 0) (getD ys i 0) && same (drop (i + 1) xs) (drop (i + 1) ys)))
+    unfolding same
+    same-step = e ∙ rw (add-one, drop-cons xs i 0, drop-cons ys i 0)
+
+    pub same-on : getD xs i 0 ≡ getD ys i 0 → same xs ys ≡ (b && same (drop (i + 1) xs) (drop (i + 1) ys))
+    same-on q = same-step ∙ rw (eq-eqb (getD xs i 0) (getD ys i 0) q)
+
+    pub same-stop : (getD xs i 0 ≡ getD ys i 0 → ⊥) → same xs ys ≡ false
+    same-stop q = same-step ∙ rw (ne-eqb (getD xs i 0) (getD ys i 0) q, and-false)
+
+  pub same-end : length xs ≤ i → length ys ≤ i → b ≡ same xs ys
+  unfolding same
+  same-end h g = sym (e ∙ rw (drop-of-length-le xs h, drop-of-length-le ys g, and-true))
 
 -- a pattern with more nodes than there are
 pub starts-short : (ks xs ls ys : List ℕ) → length ks < length ls → length ls ≡ length ys → startsWith ks xs ls ys ≡ false
@@ -64,6 +83,9 @@ module _ (ks xs ls ys : List ℕ) where
   pub same-length : length ks ≡ length ls → length ls ≡ length ys → alike ks xs ls ys ≡ startsWith ks xs ls ys
   unfolding alike
   same-length h f = rw (eq-eqb (length ks) (length ls) h, eq-eqb (length ls) (length ys) f)
+
+  pub same-alike : length ks ≡ length ls → length ls ≡ length ys → same ks ls ≡ true → same xs ys ≡ true → alike ks xs ls ys ≡ true
+  same-alike h f p q = same-length h f ∙ rw (← same-lists ks ls p, ← same-lists xs ys q) (starts-self ks xs)
 
 -- no position before `at` is a start
 module _ (ks xs ls ys : List ℕ) (at : ℕ) (e : occurs ks xs ls ys ≡ occurs (drop at ks) (drop at xs) ls ys) where

@@ -6,6 +6,13 @@ use lib.Dec.{eqb}
 use lib.ListN.{length}
 use Rattle.datatypes.specs.Equality.{equalNode}
 
+-- Two lists are as long, and equal element by element.
+unfoldable pub same : List ℕ → List ℕ → Bool
+same [] [] = true
+same [] (y ∷ ys) = false
+same (x ∷ xs) [] = false
+same (x ∷ xs) (y ∷ ys) = eqb x y && same xs ys
+
 -- The nodes of the kinds ls and the arguments ys stand at the front of those of ks and xs: each is equal to the node in its place.
 unfoldable pub startsWith : List ℕ → List ℕ → List ℕ → List ℕ → Bool
 startsWith ks xs [] ys = true

@@ -7,6 +7,8 @@ ghost use Rattle.datatypes.specs.Equality.{equal};
 ghost use Rattle.datatypes.specs.Recursive.{containsDtypeRecursive};
 ghost use Rattle.datatypes.specs.Answer.{answersOf};
 use datatypes::answer::Answer;
+use datatypes::answer::yes_no;
+use datatypes::node::equal_node;
 use flat::Checked;
 use flat::Flat;
 
@@ -17,6 +19,12 @@ pub fn equal(left_kinds: &[u8], left_args: &[u64], right_kinds: &[u8], right_arg
       deep ← ⟦Flat::MAX_DEPTH⟧ .entry
       ⌜ r ≡ answersOf equal (reading nodes deep (now («left_kinds» .entry)) (now («left_args» .entry))) (reading nodes deep (now («right_kinds» .entry)) (now («right_args» .entry))) ⌝ }
 {
+    // two plain leaves are compared at once
+    if flat::is_plain(left_kinds, left_args) {
+        if flat::is_plain(right_kinds, right_args) {
+            return yes_no(equal_node(left_kinds[0], 0, right_kinds[0], 0));
+        }
+    }
     match flat::check(left_kinds, left_args) {
         Checked::Valid => {}
         Checked::Refused(e) => return Answer::Refused(e),

@@ -1,7 +1,7 @@
 // Scans over the nodes of two flat types.
 ghost use mathlib.Core.Path.{_≡_};
 ghost use lib.ListN.{length};
-ghost use Rattle.datatypes_eq.specs.Nodes.{startsWith, alike, occurs};
+ghost use Rattle.datatypes_eq.specs.Nodes.{same, startsWith, alike, occurs};
 use datatypes::node::equal_node;
 
 // Whether the pattern's nodes stand at the front. Of two valid types: whether they are equal, since no type stands at the front of another.
@@ -22,6 +22,38 @@ pub fn starts_with(kinds: &[u8], args: &[u64], pattern_kinds: &[u8], pattern_arg
     true
 }
 
+// Whether two runs of kinds, of one length, are the same. Without an early exit the loop is vectorised.
+pub fn same_kinds(left: &[u8], right: &[u8]) -> bool
+    requires { ⌜ length (now left) ≡ length (now right) ⌝ }
+    ensures { λ r. ⌜ r ≡ same (now (left .entry)) (now (right .entry)) ⌝ }
+{
+    let mut same = true;
+    let mut i = 0;
+    while i < left.len() {
+        if left[i] != right[i] {
+            same = false;
+        }
+        i += 1;
+    }
+    same
+}
+
+// Likewise of arguments.
+fn same_args(left: &[u64], right: &[u64]) -> bool
+    requires { ⌜ length (now left) ≡ length (now right) ⌝ }
+    ensures { λ r. ⌜ r ≡ same (now (left .entry)) (now (right .entry)) ⌝ }
+{
+    let mut same = true;
+    let mut i = 0;
+    while i < left.len() {
+        if left[i] != right[i] {
+            same = false;
+        }
+        i += 1;
+    }
+    same
+}
+
 // Whether the other nodes are as many, and each equal to the node in its place.
 pub fn alike(kinds: &[u8], args: &[u64], other_kinds: &[u8], other_args: &[u64]) -> bool
     requires { ⌜ length (now kinds) ≡ length (now args) ⌝ }
@@ -32,6 +64,12 @@ pub fn alike(kinds: &[u8], args: &[u64], other_kinds: &[u8], other_args: &[u64])
     }
     if other_kinds.len() != other_args.len() {
         return false;
+    }
+    // most types that are equal are the same
+    if same_kinds(kinds, other_kinds) {
+        if same_args(args, other_args) {
+            return true;
+        }
     }
     starts_with(kinds, args, other_kinds, other_args)
 }

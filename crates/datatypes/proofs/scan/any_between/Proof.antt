@@ -1,52 +1,37 @@
--- `datatypes::scan::any_between` meets its contract: what is left to look at after i kinds decides. Assumes nothing.
+-- `datatypes::scan::any_between` meets its contract: what was found in the first i kinds, or stands in the rest, decides. Assumes nothing.
 use Prim.Native.Nat.{_≤_, _-_}
 use mathlib.Core.Path.{_≡_, refl}
+use mathlib.Core.Bool.{_||_}
 use mathlib.Core.Logic.{⊎-elim}
 use native.Mathlib.Omega.{arith}
 use lib.ListN.{length, drop}
 use borrow.Author.Needs.{needs}
 use Rattle.datatypes.specs.Scan.{between, anyOf}
-use Rattle.datatypes.proofs.Scans.{any-on, any-stop, any-end, is-between, is-above, is-below}
+use Rattle.datatypes.proofs.Scans.{any-on, any-found, any-end, is-between, is-above, is-below}
 use Rattle.datatypes.proofs.scan.any_between.Statement.{statement}
 use Rattle.datatypes.proofs.scan.any_between.Tie as tie
 
 abbrev Inv-loop : tie.InvT-loop
-Inv-loop kinds low high i₀ i = (i ≤ length kinds) × (anyOf (between low high) kinds ≡ anyOf (between low high) (drop i kinds))
+Inv-loop kinds low high found₀ i₀ found i = (i ≤ length kinds) × (anyOf (between low high) kinds ≡ (found || anyOf (between low high) (drop i kinds)))
 
 abbrev μ-loop : tie.MeasureT-loop
-μ-loop kinds low high i₀ i = length kinds - i
+μ-loop kinds low high found₀ i₀ found i = length kinds - i
 
 loop-holds : tie.Need-loop-holds Inv-loop μ-loop
 loop-holds c = (omega arith, refl)
-
-returns : tie.Need-returns Inv-loop μ-loop
-returns c =
-    let l = c .before .before .before .before in
-    let s = l .before .args in
-    any-stop (between (s .low) (s .high)) (s .kinds .now) (l .loop .i) (l .loop .inv .1) (omega arith) (is-between _ _ _ (c .before .if1 .taken) (c .if2 .taken))
 
 loop-again : tie.Need-loop-again Inv-loop μ-loop
 loop-again c =
     let l = c .before .before .before in
     let s = l .before .args in
-    let none = ⊎-elim (λ w. is-above (s .low) (s .high) _ (w .0 .taken) (w .1 .left)) (λ w. is-below (s .low) (s .high) _ (w .left)) (c .if1 .came) in
-    (omega arith, any-on (between (s .low) (s .high)) (s .kinds .now) (l .loop .i) (l .loop .inv .1) (omega arith) none)
+    let on = any-on (between (s .low) (s .high)) (s .kinds .now) (l .loop .i) (l .loop .found) (l .loop .inv .1) (omega arith) in
+    let found = any-found (between (s .low) (s .high)) (s .kinds .now) (l .loop .i) (l .loop .found) (l .loop .inv .1) (omega arith) in
+    (omega arith, ⊎-elim (λ w. rw (w .2) (found (is-between (s .low) (s .high) _ (w .0 .taken) (w .1 .taken)))) (⊎-elim (λ w. rw (w .2) (on (is-above (s .low) (s .high) _ (w .0 .taken) (w .1 .left)))) (λ w. rw (w .1) (on (is-below (s .low) (s .high) _ (w .0 .left))))) (c .if1 .came))
 
-returns-2 : tie.Need-returns-2 Inv-loop μ-loop
-returns-2 c =
+returns : tie.Need-returns Inv-loop μ-loop
+returns c =
     let s = c .before .before .args in
-    any-end (between (s .low) (s .high)) (s .kinds .now) (c .before .loop .i) (c .before .loop .inv .1) (c .loop-test .left)
+    any-end (between (s .low) (s .high)) (s .kinds .now) (c .before .loop .i) (c .before .loop .found) (c .before .loop .inv .1) (c .loop-test .left)
 
 pub any-between-spec : {M : Type 1} → statement M
-any-between-spec =
-    tie.close
-    (tie.spec
-    Inv-loop
-    μ-loop
-    loop-holds
-    (λ c. search needs)
-    returns
-    (λ c. search needs)
-    (λ c. search needs)
-    loop-again
-    returns-2)
+any-between-spec = tie.close (tie.spec Inv-loop μ-loop loop-holds (λ c. search needs) (λ c. search needs) (λ c. search needs) loop-again returns)

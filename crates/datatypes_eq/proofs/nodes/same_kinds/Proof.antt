@@ -1,0 +1,29 @@
+-- `datatypes_eq::nodes::same_kinds` meets its contract: what the first i kinds say, and what is left to compare, decide. Assumes nothing.
+use mathlib.Core.Path.{_≡_, refl}
+use mathlib.Core.Bool.{_&&_}
+use mathlib.Core.Logic.{⊎-elim}
+use Prim.Native.Nat.{_≤_, _-_}
+use native.Mathlib.Omega.{arith}
+use lib.ListN.{length, drop}
+use borrow.Author.Needs.{needs}
+use Rattle.datatypes_eq.specs.Nodes.{same}
+use Rattle.datatypes_eq.proofs.Steps.{same-on, same-stop, same-end}
+use Rattle.datatypes_eq.proofs.nodes.same_kinds.Statement.{statement}
+use Rattle.datatypes_eq.proofs.nodes.same_kinds.Tie as tie
+
+abbrev Inv-loop : tie.InvT-loop
+Inv-loop left right same₀ i₀ so-far i = (i ≤ length left) × (same left right ≡ (so-far && same (drop i left) (drop i right)))
+
+abbrev μ-loop : tie.MeasureT-loop
+μ-loop left right same₀ i₀ so-far i = length left - i
+
+loop-again : tie.Need-loop-again Inv-loop μ-loop
+loop-again c =
+    let l = c .before .before .before .before .loop in
+    (omega arith, ⊎-elim (λ w. rw (w .1) (same-stop _ _ (l .i) (l .same) (l .inv .1) (omega arith) (omega arith) (w .0 .taken))) (λ w. rw (w .1) (same-on _ _ (l .i) (l .same) (l .inv .1) (omega arith) (omega arith) (w .0 .left))) (c .if1 .came))
+
+returns : tie.Need-returns Inv-loop μ-loop
+returns c = let l = c .before .loop in same-end _ _ (l .i) (l .same) (l .inv .1) (omega arith) (omega arith)
+
+pub same-kinds-spec : {M : Type 1} → statement M
+same-kinds-spec = tie.close (tie.spec Inv-loop μ-loop (λ c. (omega arith, refl)) (λ c. search needs) (λ c. search needs) (λ c. search needs) (λ c. search needs) loop-again returns)
