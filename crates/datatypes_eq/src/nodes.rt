@@ -22,8 +22,8 @@ pub fn starts_with(kinds: &[u8], args: &[u64], pattern_kinds: &[u8], pattern_arg
     true
 }
 
-// Whether two runs of kinds, of one length, are the same. Without an early exit the loop is vectorised.
-pub fn same_kinds(left: &[u8], right: &[u8]) -> bool
+// Whether two runs of bytes, of one length, are the same. Without an early exit the loop is vectorised.
+pub fn same_bytes(left: &[u8], right: &[u8]) -> bool
     requires { ⌜ length (now left) ≡ length (now right) ⌝ }
     ensures { λ r. ⌜ r ≡ same (now (left .entry)) (now (right .entry)) ⌝ }
 {
@@ -66,7 +66,7 @@ pub fn alike(kinds: &[u8], args: &[u64], other_kinds: &[u8], other_args: &[u64])
         return false;
     }
     // most types that are equal are the same
-    if same_kinds(kinds, other_kinds) {
+    if same_bytes(kinds, other_kinds) {
         if same_args(args, other_args) {
             return true;
         }

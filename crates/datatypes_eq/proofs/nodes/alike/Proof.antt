@@ -13,7 +13,7 @@ returns-2 : tie.Need-returns-2
 returns-2 c = let h = c .if2 .taken in sym (uneven _ _ _ _ (omega arith))
 
 returns-3 : tie.Need-returns-3
-returns-3 c = sym (same-alike _ _ _ _ (omega arith) (omega arith) (sym (c .before .before .before .same-kinds .ensures) ∙ c .before .before .if3 .taken) (sym (c .before .same-args .ensures) ∙ c .if4 .taken))
+returns-3 c = sym (same-alike _ _ _ _ (omega arith) (omega arith) (sym (c .before .before .before .same-bytes .ensures) ∙ c .before .before .if3 .taken) (sym (c .before .same-args .ensures) ∙ c .if4 .taken))
 
 returns-4 : tie.Need-returns-4
 returns-4 c = c .starts-with .ensures ∙ sym (same-length _ _ _ _ (omega arith) (omega arith))

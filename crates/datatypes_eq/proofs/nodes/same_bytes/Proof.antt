@@ -1,4 +1,4 @@
--- `datatypes_eq::nodes::same_kinds` meets its contract: what the first i kinds say, and what is left to compare, decide. Assumes nothing.
+-- `datatypes_eq::nodes::same_bytes` meets its contract: what the first i bytes say, and what is left to compare, decide. Assumes nothing.
 use mathlib.Core.Path.{_≡_, refl}
 use mathlib.Core.Bool.{_&&_}
 use mathlib.Core.Logic.{⊎-elim}
@@ -8,8 +8,8 @@ use lib.ListN.{length, drop}
 use borrow.Author.Needs.{needs}
 use Rattle.datatypes_eq.specs.Nodes.{same}
 use Rattle.datatypes_eq.proofs.Steps.{same-on, same-stop, same-end}
-use Rattle.datatypes_eq.proofs.nodes.same_kinds.Statement.{statement}
-use Rattle.datatypes_eq.proofs.nodes.same_kinds.Tie as tie
+use Rattle.datatypes_eq.proofs.nodes.same_bytes.Statement.{statement}
+use Rattle.datatypes_eq.proofs.nodes.same_bytes.Tie as tie
 
 abbrev Inv-loop : tie.InvT-loop
 Inv-loop left right same₀ i₀ so-far i = (i ≤ length left) × (same left right ≡ (so-far && same (drop i left) (drop i right)))
@@ -25,5 +25,5 @@ loop-again c =
 returns : tie.Need-returns Inv-loop μ-loop
 returns c = let l = c .before .loop in same-end _ _ (l .i) (l .same) (l .inv .1) (omega arith) (omega arith)
 
-pub same-kinds-spec : {M : Type 1} → statement M
-same-kinds-spec = tie.close (tie.spec Inv-loop μ-loop (λ c. (omega arith, refl)) (λ c. search needs) (λ c. search needs) (λ c. search needs) (λ c. search needs) loop-again returns)
+pub same-bytes-spec : {M : Type 1} → statement M
+same-bytes-spec = tie.close (tie.spec Inv-loop μ-loop (λ c. (omega arith, refl)) (λ c. search needs) (λ c. search needs) (λ c. search needs) (λ c. search needs) loop-again returns)
