@@ -152,7 +152,5 @@ pub fn merge_in_place(
       deep ← ⟦Flat::MAX_DEPTH⟧ .entry
       ⌜ record { types = now (types .exit); answer = a } ≡ outcomeOf channels (now (types .entry)) channel (reading nodes deep (now (kinds .entry)) (now (args .entry))) ⌝ }
 {
-    let next = (*types).merge(channel, kinds, args);
-    *types = next.types;
-    next.answer
+    merge_codes(&mut types.codes, channel, flat::check_root(kinds, args))
 }
