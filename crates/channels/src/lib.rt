@@ -139,7 +139,7 @@ impl ChannelTypes {
     }
 }
 
-// The same with the types lent: they are taken apart, the column is merged by value, and they are put back.
+// The same with the types lent: their codes are lent on, of which a merge reads one and writes one.
 pub fn merge_in_place(
     types: &mut ChannelTypes,
     channel: usize,
