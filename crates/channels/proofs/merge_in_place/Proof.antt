@@ -29,12 +29,12 @@ use denote.Laws.{Is, shows}
 use denote.Memory.{mem, partAt}
 use denote.Plain.{uint-makes, uint-vals, uint-tells}
 use denote.Builtin.{u8, u64, usize}
-use denote.Array.{Array}
 use denote.Ref.{RefT, MutRef, ptr-vals, mut-tells, now}
 use denote.Slice.{sliceVal, ShrSlice, slice-vals, shr-slice-tells, shr-slice-lawful}
 use denote.Signature.{Signature, plain, shrSliceOf}
 use denote.Lend.{lends-ref, ref-back}
 use denote.Steps.{owned, peeks, nothing}
+use denote.Struct.At.{FieldAt}
 use denote.Enum.Laws as EL
 use denote.Ask.Asked.{asked, isResultOf}
 use denote.Ask.Bracket.{ask-in}
@@ -82,10 +82,10 @@ stayed = (stay-ref (0 ∷ []) tt (plain (λ _. S.the-row)), (stay-dropped _ yes,
 
 -- the field's type. The record has `map` of the identity over its list there
 abbrev Codes : RattleType
-Codes = Array u8 32
+Codes = FieldAt (S.the-type .parts) 0 .row
 
 abbrev same : (xs : List ℕ) (b o : ℕ) → partAt Codes fullShare xs b o ≡ partAt Codes fullShare (map (λ v. v) xs) b o
-same = list-same u8 32 fullShare
+same = list-same u8 _ fullShare
 
 abbrev same-back : (xs : List ℕ) (b o : ℕ) → partAt Codes fullShare (map (λ v. v) xs) b o ≡ partAt Codes fullShare xs b o
 same-back xs b o = sym (same xs b o)
