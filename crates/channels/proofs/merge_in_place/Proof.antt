@@ -1,5 +1,6 @@
--- `channels::merge_in_place` meets its contract: a walk of its MIR, by hand. `flat::check_root` is called, the borrow is opened, its field is lent to `merge_codes` for a lifetime that is made for the call, and the borrow is closed at what comes back.
--- All that the proof knows of the two is that they meet their contracts. The struct's and the enums' laws come from the modules that `rattle check` makes of them.
+-- `channels::merge_in_place` meets its contract: a walk of its MIR, by hand. `flat::check_root` is called, the borrow is opened, the field is lent to
+-- `merge_codes` for a lifetime that is made for the call, and the borrow is closed at the codes that come back. Of the callees the walk knows their contracts alone.
+-- The struct's and the enums' laws come from the modules that `rattle check` makes of them.
 -- Assumes nothing.
 use mathlib.Core.Path.{_≡_, refl, sym}
 use Prim.Native.Nat.{ℕ, _<_, _^_, _+_}
@@ -80,7 +81,7 @@ Arg = RefT ChannelTypes × (ℕ × (RefT (List ℕ) × (RefT (List ℕ) × Unit 
 abbrev stayed : Stays (lent.ended .signature .params) (lent.ended .kept)
 stayed = (stay-ref (0 ∷ []) tt (plain (λ _. S.the-row)), (stay-dropped _ yes, (stay-dropped _ yes, (stay-dropped _ yes, tt))))
 
--- the field's type. The record has `map` of the identity over its list there
+-- the field's type, and that the field lies in memory as its list does: in the record it is `map` of the identity over the list
 abbrev Codes : RattleType
 Codes = FieldAt (S.the-type .parts) 0 .row
 
@@ -106,7 +107,8 @@ module _ {M : Type 1} (𝓤 : URA M) (H : Heap 𝓤) (A : Atoms 𝓤) (W : Given
   into : (run : Routine → Fun 𝓤) {S₀ : Signature} {κs : Lfts (S₀ .lifetimes)} (k : Quoted S₀ κs) (c : Caps k) (X : SProp 𝓤) (K K′ : Out k → SProp 𝓤)
       → ((r : Out k) → ent 𝓤 (sep 𝓤 X (K r)) (K′ r)) → ent 𝓤 (sep 𝓤 X (asked 𝓤 H A run k c K)) (asked 𝓤 H A run k c K′)
   into run k c X K K′ h =
-      qed W (raw X ∷ raw (asked 𝓤 H A run k c K) ∷ []) ∵ move ! (1 ∷ []) $ use1 W (some (λ (r : Out k). raw (conj 𝓤 (isResultOf 𝓤 H A run k c r) (K r)))) (id⊢ 𝓤 _) $ pick ! (λ r. move ! (1 ∷ 0 ∷ []) $
+      qed W (raw X ∷ raw (asked 𝓤 H A run k c K) ∷ []) ∵ move ! (1 ∷ []) $
+      use1 W (some (λ (r : Out k). raw (conj 𝓤 (isResultOf 𝓤 H A run k c r) (K r)))) (id⊢ 𝓤 _) $ pick ! (λ r. move ! (1 ∷ 0 ∷ []) $
       by ! (fact-use 𝓤 (gives 𝓤 H A run k c r) (via 𝓤 (conj 𝓤 (isResultOf 𝓤 H A run k c r) (K r)) (snd∗ 𝓤 X _) (conjL 𝓤 (isResultOf 𝓤 H A run k c r) (K r))) (λ g.
       via 𝓤 (sep 𝓤 X (K r)) (monoR 𝓤 X (conjR 𝓤 (isResultOf 𝓤 H A run k c r) (K r))) (via 𝓤 (K′ r) (h r) (ask-in 𝓤 H A (k .signature) (run (over (k .env) (k .code))) (k .lifetimes) c r g K′)))))
 
@@ -160,7 +162,8 @@ module _ {M : Type 1} (𝓤 : URA M) (H : Heap 𝓤) (A : Atoms 𝓤) (W : Given
 
   hands-back : (zs : List ℕ) (a : Merged) (v : Val) → ent 𝓤 (⋆ 𝓤 H A (had zs a v)) (onExit 𝓤 H A lent.ended stayed κs qs at v a x (record { codes = zs }, (tt, (tt, (tt, tt)))))
   hands-back zs a v =
-      qed W (had zs a v) ∵ join ! $ frame ! $ feqI ! (List Val) (vptr b o ∷ []) (vptr b o ∷ []) refl $ fjoin3 ! $ nothing ! $ nothing ! $ fjoin ! $ nothing ! $ fjoin ! $ nothing ! $ fjoin ! $ move ! (1 ∷ 0 ∷ []) $ fjoin ! $ done !
+      qed W (had zs a v) ∵ join ! $ frame ! $ feqI ! (List Val) (vptr b o ∷ []) (vptr b o ∷ []) refl $ fjoin3 ! $ nothing ! $ nothing ! $ fjoin ! $ nothing ! $
+      fjoin ! $ nothing ! $ fjoin ! $ move ! (1 ∷ 0 ∷ []) $ fjoin ! $ done !
 
   exits : (zs : List ℕ) (a : Merged) (v : Val) → ent 𝓤 (⋆ 𝓤 H A (raw (Said zs a) ∷ had zs a v)) (Post v)
   exits zs a v =
@@ -198,7 +201,8 @@ module _ {M : Type 1} (𝓤 : URA M) (H : Heap 𝓤) (A : Atoms 𝓤) (W : Given
 
     to-codes : n < 2 ^ 64 → ent 𝓤 (⋆ 𝓤 H A (‵ (flft (ν ∷ []) fullShare) ∷ ‵ loan ∷ ‵ (R.the-row .own c (v ∷ [])) ∷ [])) (MergeCodes 𝓤 H A at-mem run .pre to-merge-codes)
     to-codes gn = qed W (‵ (flft (ν ∷ []) fullShare) ∷ ‵ loan ∷ ‵ (R.the-row .own c (v ∷ [])) ∷ []) ∵ nothing ! $ move ! (1 ∷ 0 ∷ []) $ join ! $ nothing ! $ move ! (3 ∷ 0 ∷ []) $ fjoin ! $
-        owned ! usize (Is usize) (uint-makes 𝓤 H A W w64) n _ (refl, gn) $ fjoin ! $ move ! (2 ∷ 0 ∷ []) $ fjoin ! $ move ! (1 ∷ 0 ∷ []) $ join ! $ nothing ! $ move ! (1 ∷ 0 ∷ []) $ done !
+        owned ! usize (Is usize) (uint-makes 𝓤 H A W w64) n _ (refl, gn) $ fjoin ! $ move ! (2 ∷ 0 ∷ []) $ fjoin ! $ move ! (1 ∷ 0 ∷ []) $ join ! $ nothing ! $
+        move ! (1 ∷ 0 ∷ []) $ done !
 
     -- the two say what the contract says
     both : (zs : List ℕ) (a : Merged) → ent 𝓤 (sep 𝓤 (Rooted c) (Merges zs a)) (Said zs a)
@@ -217,35 +221,50 @@ module _ {M : Type 1} (𝓤 : URA M) (H : Heap 𝓤) (A : Atoms 𝓤) (W : Given
     walk : n < 2 ^ 64 → Is (ShrSlice (named 1) κ₁ u8) s (sv ∷ []) → Is (ShrSlice (named 2) κ₂ u64) t (tv ∷ [])
         → ent 𝓤 (onEntry 𝓤 H A lent.signature κs qs x at) (WpFn 𝓤 H C Λ code.function (vptr b o ∷ vint w64 n ∷ sv ∷ tv ∷ []) Post)
     walk gn gs gt =
-        qed W ((‵ (flft κ q) ⊛ toks) ∷ ‵ (owns (MutRef (named 0) κ S.the-row ∷ usize ∷ ShrSlice (named 1) κ₁ u8 ∷ ShrSlice (named 2) κ₂ u64 ∷ []) x at) ∷ []) ∵ split ! $ move ! (2 ∷ []) $ fsplit ! $ fsplit3 ! $ drop ! $ move ! (2 ∷ []) $ fsplit ! $ drop ! $ move ! (1 ∷ 2 ∷ 3 ∷ 4 ∷ []) $
+        qed W ((‵ (flft κ q) ⊛ toks) ∷ ‵ (owns (MutRef (named 0) κ S.the-row ∷ usize ∷ ShrSlice (named 1) κ₁ u8 ∷ ShrSlice (named 2) κ₂ u64 ∷ []) x at) ∷ []) ∵ split ! $
+        move ! (2 ∷ []) $ fsplit ! $ fsplit3 ! $ drop ! $ move ! (2 ∷ []) $ fsplit ! $ drop ! $ move ! (1 ∷ 2 ∷ 3 ∷ 4 ∷ []) $
         -- [obs; the borrow; its token; the slices' tokens; what the slices own]
         enter ! C Λ code.function (vptr b o ∷ vint w64 n ∷ sv ∷ tv ∷ []) _ $
         alloc1 ! (λ l₀. alloc1 ! (λ l₁. alloc1 ! (λ l₂. alloc1 ! (λ l₃. alloc1 ! (λ l₄. alloc1 ! (λ l₅. alloc1 ! (λ l₆. alloc0 ! $ params1 ! $
-        pass1 ! (init ! 10 refl (tt, tt)) $ pass1 ! (init ! 8 refl (tt, record { fits = gn })) $ pass1 ! (init ! 6 refl (shr-slice-lawful 𝓤 H A W (named 1) κ₁ u8 .typed s (sv ∷ []) gs .0)) $ pass1 ! (init ! 4 refl (shr-slice-lawful 𝓤 H A W (named 2) κ₂ u64 .typed t (tv ∷ []) gt .0)) $ pass0 ! $
+        pass1 ! (init ! 10 refl (tt, tt)) $ pass1 ! (init ! 8 refl (tt, record { fits = gn })) $
+        pass1 ! (init ! 6 refl (shr-slice-lawful 𝓤 H A W (named 1) κ₁ u8 .typed s (sv ∷ []) gs .0)) $
+        pass1 ! (init ! 4 refl (shr-slice-lawful 𝓤 H A W (named 2) κ₂ u64 .typed t (tv ∷ []) gt .0)) $ pass0 ! $
         assigns ! (addr ! (from ! (hop ! (look ! 10 refl) (fld ! refl (stop !))))) (from ! (stop !)) (init ! 2 refl (tt, tt)) $
         move ! (17 ∷ 18 ∷ []) $ use2 W (raw (CheckRoot 𝓤 H A at-mem run .pre to-check-root)) to-root $
         -- [what is asked; room for _6; …; _5; …; _4; …; _3; …; _2; …; _1; …; room for _0; …; obs; the borrow; its token]
         calls-at ! fm (CheckRoot 𝓤 H A at-mem run) root-known to-check-root (and-then ! (load ! (from ! (stop !)) (look ! 7 refl)) (and-then ! (load ! (from ! (stop !)) (look ! 5 refl)) (no-more !))) (λ v.
-        use1 W (later (some (λ (c : Root). (toks ⊛ ‵ (R.the-row .own c (v ∷ []))) ⊛ raw (ensured 𝓤 H A check-root.ended (check-root.clauses 𝓤 H A at-mem run) (κ₁, (κ₂, tt)) (s, (t, tt)) tt c)))) (id⊢ 𝓤 _) $ await ! tt $ pick ! (λ c.
-        split ! $ move ! (1 ∷ []) $ use1 W (raw (Rooted c)) (rooted c) $ move ! (1 ∷ []) $ split ! $ move ! (1 ∷ []) $ peeks ! R.the-row (Is R.the-row) (shows 𝓤 H A R.the-row) c (v ∷ []) (λ is.
+        use1 W (later (some (λ (c : Root). (toks ⊛ ‵ (R.the-row .own c (v ∷ []))) ⊛ raw (ensured 𝓤 H A check-root.ended (check-root.clauses 𝓤 H A at-mem run) (κ₁, (κ₂, tt)) (s, (t, tt)) tt c)))) (id⊢ 𝓤 _) $
+        await ! tt $ pick ! (λ c. split ! $ move ! (1 ∷ []) $ use1 W (raw (Rooted c)) (rooted c) $ move ! (1 ∷ []) $ split ! $ move ! (1 ∷ []) $
+        peeks ! R.the-row (Is R.the-row) (shows 𝓤 H A R.the-row) c (v ∷ []) (λ is.
         land ! (from ! (stop !)) (init ! 3 refl (EL.lawful R.the-type R′.the-laws 𝓤 H A W tt .typed c _ is .0)) $
         -- [what the root owns; the slices' tokens; what was said of the root; _6; …; _0; …; obs; the borrow; its token]
-        move ! (17 ∷ 18 ∷ 19 ∷ []) $ open-ref ! tt (mem S.the-row) {b = b} {o = o} $ use1 W (‵ (partAt Codes fullShare (h .codes) b (o + 0)) ⊛ rest 𝓤 H A h b o) (apart 𝓤 H A W h b o) $ split ! $
-        lft-new ! tt (λ ν. move ! (1 ∷ []) $ use1 W (later (some (λ (δ : GName). ‵ (loan ν δ c v) ⊛ ‵ (flent (ν ∷ []) (Body (mem Codes) b (o + 0) δ))))) (lends-ref 𝓤 H A W Codes (named 0) (ν ∷ []) (h .codes) b (o + 0)) $ await ! tt $ pick ! (λ δ. split ! $
-        -- [the loan; the lender's part; its token; the rest of the record; the open borrow; obs; auth; what the root owns; the slices' tokens; what was said of the root; _6; …; _5; …; _4; …; _3; …; _2; …; _1; …; room for _0; …]
+        move ! (17 ∷ 18 ∷ 19 ∷ []) $ open-ref ! tt (mem S.the-row) {b = b} {o = o} $
+        use1 W (‵ (partAt Codes fullShare (h .codes) b (o + 0)) ⊛ rest 𝓤 H A h b o) (apart 𝓤 H A W h b o) $ split ! $
+        lft-new ! tt (λ ν. move ! (1 ∷ []) $
+        use1 W (later (some (λ (δ : GName). ‵ (loan ν δ c v) ⊛ ‵ (flent (ν ∷ []) (Body (mem Codes) b (o + 0) δ))))) (lends-ref 𝓤 H A W Codes (named 0) (ν ∷ []) (h .codes) b (o + 0)) $
+        await ! tt $ pick ! (λ δ. split ! $
+        -- [the loan; the lender's part; the loan's token; the rest of the record; the open borrow; obs; auth; what the root owns; the slices' tokens; what was said of the
+        -- root; _6; …; _5; …; _4; …; _3; …; _2; …; _1; …; room for _0; …]
         move ! (2 ∷ 0 ∷ 7 ∷ []) $ use3 W (raw (MergeCodes 𝓤 H A at-mem run .pre (to-merge-codes ν δ c v))) (to-codes ν δ c v gn) $
         calls-at ! fm (MergeCodes 𝓤 H A at-mem run) codes-known (to-merge-codes ν δ c v) (and-then ! (load ! (from ! (stop !)) (look ! 10 refl)) (and-then ! (load ! (from ! (stop !)) (look ! 16 refl)) (and-then ! (load ! (from ! (stop !)) (look ! 8 refl)) (no-more !)))) (λ w.
-        use1 W (later (some (λ (a : Merged). ((‵ (flft (ν ∷ []) fullShare) ⊛ ‵ ftrue) ⊛ ‵ (N.the-row .own a (w ∷ []))) ⊛ raw (ensured 𝓤 H A merge-codes.ended (merge-codes.clauses 𝓤 H A at-mem run) (ν ∷ [], tt) (field ν δ c v (h .codes), (n, (c, tt))) tt a)))) (id⊢ 𝓤 _) $ await ! tt $ pick ! (λ a.
-        split ! $ move ! (1 ∷ []) $ use1 W (some (λ (ws : List ℕ × (Unit {0} × (Unit {0} × Unit {0}))). ‵ (lasts merge-codes.ended (ν ∷ [], tt) (field ν δ c v (h .codes), (n, (c, tt))) ws) ⊛ raw (Merges ν δ c v (ws .0) a))) (id⊢ 𝓤 _) $ pick ! (λ ws. split ! $ fsplit ! $
-        move ! (3 ∷ []) $ split ! $ move ! (1 ∷ []) $ peeks ! N.the-row (Is N.the-row) (shows 𝓤 H A N.the-row) a (w ∷ []) (λ is′. land ! (from ! (stop !)) (init ! 24 refl (EL.lawful N.the-type N′.the-laws 𝓤 H A W tt .typed a _ is′ .0)) $
-        -- [what the answer owns; the loan's token; the last codes; …; what was said of them; the lender's part; the rest of the record; the open borrow; obs; auth; the slices' tokens; what was said of the root; _6; …]
-        move ! (1 ∷ []) $ split ! $ lft-end ! tt $ move ! (0 ∷ 6 ∷ 3 ∷ []) $ use3 W (later (‵ (partAt Codes fullShare (ws .0) b (o + 0)))) (ref-back 𝓤 H A W Codes (ν ∷ []) δ (ws .0) b (o + 0)) $ await ! tt $
+        use1 W (later (some (λ (a : Merged). ((‵ (flft (ν ∷ []) fullShare) ⊛ ‵ ftrue) ⊛ ‵ (N.the-row .own a (w ∷ []))) ⊛ raw (ensured 𝓤 H A merge-codes.ended (merge-codes.clauses 𝓤 H A at-mem run) (ν ∷ [], tt) (field ν δ c v (h .codes), (n, (c, tt))) tt a)))) (id⊢ 𝓤 _) $
+        await ! tt $ pick ! (λ a. split ! $ move ! (1 ∷ []) $
+        use1 W (some (λ (ws : List ℕ × (Unit {0} × (Unit {0} × Unit {0}))). ‵ (lasts merge-codes.ended (ν ∷ [], tt) (field ν δ c v (h .codes), (n, (c, tt))) ws) ⊛ raw (Merges ν δ c v (ws .0) a))) (id⊢ 𝓤 _) $
+        pick ! (λ ws. split ! $ fsplit ! $ move ! (3 ∷ []) $ split ! $ move ! (1 ∷ []) $
+        peeks ! N.the-row (Is N.the-row) (shows 𝓤 H A N.the-row) a (w ∷ []) (λ is′.
+        land ! (from ! (stop !)) (init ! 24 refl (EL.lawful N.the-type N′.the-laws 𝓤 H A W tt .typed a _ is′ .0)) $
+        -- [what the answer owns; the loan's token; the last codes; …; what was said of them; the lender's part; the rest of the record; the open borrow; obs; auth; the
+        -- slices' tokens; what was said of the root; _6; …]
+        move ! (1 ∷ []) $ split ! $ lft-end ! tt $ move ! (0 ∷ 6 ∷ 3 ∷ []) $
+        use3 W (later (‵ (partAt Codes fullShare (ws .0) b (o + 0)))) (ref-back 𝓤 H A W Codes (ν ∷ []) δ (ws .0) b (o + 0)) $ await ! tt $
         move ! (0 ∷ 5 ∷ []) $ use2 W (‵ (partAt S.the-row fullShare (record { codes = ws .0 }) b o)) (together 𝓤 H A W h (ws .0) b o) $
         move ! (0 ∷ 5 ∷ 6 ∷ 7 ∷ []) $ close-ref ! tt (mem S.the-row) (record { codes = ws .0 }) {b = b} {o = o} $
         move ! (8 ∷ 6 ∷ []) $ use2 W (raw (Said (ws .0) a)) (both ν δ c v (ws .0) a) $ move ! (0 ∷ 3 ∷ 7 ∷ 1 ∷ 2 ∷ 5 ∷ []) $
         -- [what is said; the token; the slices' tokens; obs; the borrow; what the answer owns; …; …; _6; …; _5; …; _4; …; _3; …; _2; …; _1; …; _0; …]
-        returns ! (look ! 20 refl) $ forget ! 8 refl $ forget ! 10 refl $ forget ! 12 refl $ forget ! 14 refl $ forget ! 16 refl $ forget ! 18 refl $ forget ! 20 refl $
-        move ! (20 ∷ 21 ∷ []) $ free1 ! $ move ! (18 ∷ 19 ∷ []) $ free1 ! $ move ! (16 ∷ 17 ∷ []) $ free1 ! $ move ! (14 ∷ 15 ∷ []) $ free1 ! $ move ! (12 ∷ 13 ∷ []) $ free1 ! $ move ! (10 ∷ 11 ∷ []) $ free1 ! $ move ! (8 ∷ 9 ∷ []) $ free1 ! $ free0 ! $
+        returns ! (look ! 20 refl) $ forget ! 8 refl $ forget ! 10 refl $ forget ! 12 refl $ forget ! 14 refl $ forget ! 16 refl $ forget ! 18 refl $
+        forget ! 20 refl $
+        move ! (20 ∷ 21 ∷ []) $ free1 ! $ move ! (18 ∷ 19 ∷ []) $ free1 ! $ move ! (16 ∷ 17 ∷ []) $ free1 ! $ move ! (14 ∷ 15 ∷ []) $ free1 ! $
+        move ! (12 ∷ 13 ∷ []) $ free1 ! $ move ! (10 ∷ 11 ∷ []) $ free1 ! $ move ! (8 ∷ 9 ∷ []) $ free1 ! $ free0 ! $
         keep ! (0 ∷ 1 ∷ 2 ∷ 3 ∷ 4 ∷ 5 ∷ []) $ by ! (exits (ws .0) a w)))))))))))))))))
 
 module _ {M : Type 1} (𝓤 : URA M) (H : Heap 𝓤) (A : Atoms 𝓤) (W : Given 𝓤 H A) (at-mem : Memory → SProp 𝓤) (run : Routine → Fun 𝓤) where
