@@ -40,7 +40,7 @@ leaf-stored form k a {K} {A} o y z p q =
     let e : leafOf form k a ≡ leaf y z = leaf-is k a form ∙ rw (← p, ← q) in
     rw e record { nodes = refl; kinds = over-one K (omega arith) y; args = over-one A (omega arith) z }
 
--- which is the type that stands there
+-- where a type is a leaf, that is all of it
 pub leaf-built : (form : Form) {ks xs : List ℕ} → Valid ks xs → getD ks 0 0 < Kind.List → {K A K′ A′ : List ℕ} {r : ℕ} → BuiltType (leafOf form (getD ks 0 0) (getD xs 0 0)) K A K′ A′ r → BuiltType (mapLeaves (leafOf form) (typeAt ks xs)) K A K′ A′ r
 unfolding mapLeaves
 leaf-built form {ks} {xs} v l w = rw (type-leaf ks xs v l) w
