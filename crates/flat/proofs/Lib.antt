@@ -10,6 +10,7 @@ pub mod Onward
 pub mod Outputs
 pub mod Rules
 mod Scans
+mod Scanned
 mod Spans
 mod Checks
 pub mod Plain
