@@ -9,9 +9,11 @@ pub mod Roots
 pub mod Onward
 pub mod Outputs
 pub mod Rules
+pub mod Plain
 mod Scans
+mod States
 mod Scanned
+mod Scanning
 mod Spans
 mod Checks
-pub mod Plain
 mod LimitCases

@@ -12,9 +12,10 @@ use Rattle.flat.specs.Tree.{DataType, leaf, list, array, struct, Fields,
 use Rattle.flat.specs.Reader.{Children, no-child, under-list, under-array, fields, no-type, children}
 use Rattle.flat.specs.Reading.{lengthFits, reading, checkedOf, Ruled, RuledFields}
 use Rattle.flat.specs.Refusals.{FlatForm}
-use Rattle.flat.specs.Scan.{start, settled, wrapped, opened, paid, typeFits, fieldFits, after, scanType, scanFields, accepted}
+use Rattle.flat.specs.Scan.{Within, start, settled, wrapped, opened, paid, typeFits, fieldFits, after, scanType, scanFields, accepted}
 use Rattle.flat.specs.declared.scan.Scan.{Scan}
 use Rattle.flat.proofs.ReadBack.{View, is-leaf, is-list, is-array, is-struct, is-other, view}
+use Rattle.flat.proofs.States.{Settled, settles, Opened, outermost, inside, opens, settled-within, wrapped-depth, wrapped-within, opened-within, paid-within, start-within}
 use Rattle.flat.proofs.Meaning.{Passed, check-passed, form-length, lengths-fit, passes}
 
 -- ---- fields
@@ -74,50 +75,6 @@ module _ (deep d m : ℕ) where
         fit-two = s .fit-two;
       }
 
--- ---- the states
--- what holds of every state that the scan comes to
-record Within (deep : ℕ) (s : Scan) : Type 0 where
-  depth : s .depth ≤ deep
-  base : s .base ≤ deep
-
--- What r, the settled s, keeps of it: as many fields are owed by inner Structs, and where some are, it is s.
-record Settled (s r : Scan) : Type 0 where
-  owed : r .owed ≡ s .owed
-  base : r .base ≡ s .base
-  outer : r .outer ≤ s .owed
-  inner : s .owed - r .outer ≡ s .owed - s .outer
-  stays : s .outer ≤ s .owed → r .depth ≡ s .depth
-  back : s .owed < s .outer → r .depth ≡ s .base
-
-settles : (s : Scan) → Settled s (settled s)
-unfolding settled
-settles s = go (ltb (s .owed) (s .outer)) refl
-  where
-    go : (b : Bool) → ltb (s .owed) (s .outer) ≡ b → Settled s (cond b (record { owed = s .owed; outer = s .owed; base = s .base; depth = s .base }) s)
-    go true e = let h = ltb-true (s .owed) (s .outer) e in record { owed = refl; base = refl; outer = omega arith; inner = omega arith; stays = λ g. absurd (omega arith); back = λ g. refl }
-    go false e = let h = ltb-false (s .owed) (s .outer) e in record { owed = refl; base = refl; outer = h; inner = refl; stays = λ g. refl; back = λ g. absurd (omega arith) }
-
--- the state under a Struct of m fields: the outermost one, or one whose fields come before those owed
-data Opened (m : ℕ) (s : Scan) : Scan → Type 0 where
-  outermost : s .owed ≡ 0 → Opened m s (record { owed = m; outer = m; base = suc (suc (settled s .depth)); depth = suc (suc (settled s .depth)) })
-  inside : Opened m s (record { owed = s .owed + m; outer = settled s .outer; base = settled s .base; depth = suc (suc (settled s .depth)) })
-
-opens : (m : ℕ) (s : Scan) → Opened m s (opened m s)
-unfolding opened
-opens m s = go (eqb (s .owed) 0) refl
-  where
-    go : (b : Bool) → eqb (s .owed) 0 ≡ b → Opened m s (cond b (record { owed = m; outer = m; base = suc (suc (settled s .depth)); depth = suc (suc (settled s .depth)) }) (record { owed = s .owed + m; outer = settled s .outer; base = settled s .base; depth = suc (suc (settled s .depth)) }))
-    go true e = outermost (eqb-true (s .owed) 0 e)
-    go false e = inside
-
-module _ {deep : ℕ} {s : Scan} (w : Within deep s) where
-  settled-within : settled s .depth ≤ deep
-  settled-within = go (ltb (s .owed) (s .outer)) refl
-    where
-      go : (b : Bool) → ltb (s .owed) (s .outer) ≡ b → settled s .depth ≤ deep
-      go true e = omega (arith, settles s .back (ltb-true (s .owed) (s .outer) e))
-      go false e = omega (arith, settles s .stays (ltb-false (s .owed) (s .outer) e))
-
 -- ---- what stands where the scan passes
 -- The fields still owed: first those of inner Structs, at the state's depth, then the outermost Struct's, at its base.
 record FieldsThen (deep : ℕ) (s : Scan) (ks xs : List ℕ) : Type 0 where
@@ -168,11 +125,6 @@ module _ (deep : ℕ) (s : Scan) where
         fit-one = inner-higher (suc (settled s .depth)) (omega arith) (r .one) e (r .fit-one);
         fit-two = rw (z .base) at (r .fit-two);
       }
-
-  -- its state is settled, one level deeper
-  wrapped-depth : settled (wrapped s) .depth ≡ suc (settled s .depth)
-  unfolding wrapped
-  wrapped-depth = settles (wrapped s) .stays (omega (arith, settles s))
 
   module _ {ks xs : List ℕ} (a : ℕ) (f : argumentFits Kind.Struct a ≡ true) (h : settled s .depth ≤ deep) where
     -- under a Struct: all fields are its own where it is the outermost, else the first
@@ -254,26 +206,12 @@ module _ (deep : ℕ) (s : Scan) (w : Within deep s) (ks xs : List ℕ) (x y z :
       record { tree = leaf k a; kinds-left = ks; args-left = xs; kinds = refl; args = refl; ruled = (h, f); room = omega (arith, settled-within w); owed = X e }
   one-node under-list is-list f X Y Z e =
       let r = Y e in
-      record { tree = list (r .tree); kinds-left = r .kinds-left; args-left = r .args-left; kinds = ap (λ (l : List ℕ). Kind.List ∷ l) (r .kinds); args = ap (λ (l : List ℕ). 0 ∷ l) (r .args); ruled = r .ruled; room = omega (arith, wrapped-depth deep s); owed = unwrapped deep s (r .owed) }
+      record { tree = list (r .tree); kinds-left = r .kinds-left; args-left = r .args-left; kinds = ap (λ (l : List ℕ). Kind.List ∷ l) (r .kinds); args = ap (λ (l : List ℕ). 0 ∷ l) (r .args); ruled = r .ruled; room = omega (arith, wrapped-depth s); owed = unwrapped deep s (r .owed) }
   one-node under-array (is-array {a}) f X Y Z e =
       let r = Y e in
-      record { tree = array a (r .tree); kinds-left = r .kinds-left; args-left = r .args-left; kinds = ap (λ (l : List ℕ). Kind.Array ∷ l) (r .kinds); args = ap (λ (l : List ℕ). a ∷ l) (r .args); ruled = r .ruled; room = omega (arith, wrapped-depth deep s); owed = unwrapped deep s (r .owed) }
+      record { tree = array a (r .tree); kinds-left = r .kinds-left; args-left = r .args-left; kinds = ap (λ (l : List ℕ). Kind.Array ∷ l) (r .kinds); args = ap (λ (l : List ℕ). a ∷ l) (r .args); ruled = r .ruled; room = omega (arith, wrapped-depth s); owed = unwrapped deep s (r .owed) }
   one-node fields (is-struct {a}) f X Y Z e = one-struct deep s a f (settled-within w) (opens a s) (Z e)
   one-node no-type is-other f X Y Z e = absurd (let w : _≡_ {A = ℕ} 0 1 = cc in omega arith)
-
--- what a state keeps, one step on
-module _ {deep : ℕ} {s : Scan} (w : Within deep s) where
-  wrapped-within : wrapped s .depth ≤ deep → Within deep (wrapped s)
-  unfolding wrapped
-  wrapped-within h = record { depth = h; base = omega (arith, settles s) }
-
-  opened-within : {m : ℕ} {r : Scan} → Opened m s r → r .depth ≤ deep → Within deep r
-  opened-within (outermost e) h = record { depth = h; base = h }
-  opened-within inside h = record { depth = h; base = omega (arith, settles s) }
-
-  paid-within : Within deep (paid s)
-  unfolding paid
-  paid-within = record { depth = w .depth; base = w .base }
 
 mutual
   unfolding scanType typeFits fieldFits
@@ -303,9 +241,6 @@ mutual
       let is = and-eq-true-iff (eqb k Kind.Field) (argumentFits k a) .0 (fit .1) in
       let same = eqb-true k Kind.Field (is .0) in
       rw same (one-field deep s a (rw same at (is .1)) (ltb-true 0 (s .owed) (fit .0)) (type-then deep ks xs (paid s) (paid-within w) (on .1)))
-
-start-within : (deep : ℕ) → Within deep start
-start-within deep = record { depth = omega arith; base = omega arith }
 
 -- Whatever the scan accepts is the flat form of a tree that keeps the rules and is not too deep.
 pub scanned : (deep : ℕ) (ks xs : List ℕ) → scanType deep start ks xs ≡ true → (t : DataType) × FlatForm ks xs t × (depth t ≤ deep)

@@ -2,7 +2,7 @@
 -- type (proofs/Scanned.antt); no answer of the check rests on these definitions. Assumes nothing: these are definitions.
 use mathlib.Core.Bool.{Bool, true, false, cond, not, _&&_}
 use mathlib.Core.List.{List, [], _∷_}
-use Prim.Native.Nat.{ℕ, suc, _+_, _-_}
+use Prim.Native.Nat.{ℕ, suc, _+_, _-_, _≤_}
 use lib.Dec.{leb, ltb, eqb}
 use Rattle.flat.specs.Kind
 use Rattle.flat.specs.Argument.{argumentFits}
@@ -13,6 +13,11 @@ use Rattle.flat.specs.declared.scan.Scan.{Scan}
 -- nothing is owed yet
 abbrev pub start : Scan
 start = record { owed = 0; outer = 0; base = 0; depth = 0 }
+
+-- what stands next, and the outermost Struct's fields, are no deeper than so many levels
+pub record Within (deep : ℕ) (s : Scan) : Type 0 where
+  pub depth : s .depth ≤ deep
+  pub base : s .base ≤ deep
 
 -- before a node that has children: where fewer fields are owed than the outermost Struct owed, all of them are its own
 unfoldable pub settled : Scan → Scan
