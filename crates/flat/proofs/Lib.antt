@@ -13,6 +13,7 @@ pub mod Plain
 mod Scans
 mod States
 mod Scanned
+mod Complete
 mod Scanning
 mod Spans
 mod Checks
