@@ -1,5 +1,5 @@
 -- The scan accepts every type, where its bound is large enough: where it accepts none, none stands there. Assumes nothing.
-use mathlib.Core.Path.{_≡_, refl, sym, ap, ap₂, _∙_}
+use mathlib.Core.Path.{_≡_, refl, ap₂, _∙_}
 use mathlib.Core.Bool.{Bool, true}
 use mathlib.Core.List.{List, [], _∷_, _++_, append-assoc}
 use Prim.Native.Nat.{ℕ, suc, _+_, _*_, _≤_, _<_}
@@ -11,7 +11,7 @@ use Rattle.flat.specs.Tree.{DataType, leaf, list, array, struct, Fields,
 use Rattle.flat.specs.Reader.{children}
 use Rattle.flat.specs.Reading.{Ruled, RuledFields}
 use Rattle.flat.specs.Refusals.{FlatForm}
-use Rattle.flat.specs.Scan.{Within, start, settled, wrapped, opened, paid, typeFits, fieldFits, scanType, scanFields}
+use Rattle.flat.specs.Scan.{Within, start, wrapped, opened, paid, typeFits, fieldFits, scanType, scanFields}
 use Rattle.flat.specs.declared.scan.Scan.{Scan}
 use Rattle.flat.proofs.Positions.{children-leaf}
 use Rattle.flat.proofs.Meaning.{at-kinds, at-args}

@@ -15,6 +15,6 @@ mod States
 mod Scanned
 mod Complete
 mod Scanning
-mod Spans
+pub mod Spans
 mod Checks
 mod LimitCases

@@ -155,7 +155,12 @@ lowest (k ∷ ks) (a ∷ xs) t n = go t (at-node (k ∷ ks) (a ∷ xs) t n) n (l
     go t (at-one {f} {u} w m) n r = rw (unary w) (one-more w (r u (rw (rest, rest) at m)))
     go t (at-struct e m) n r = rw (children-struct k a e) (no-more n (λ g. e))
 
--- ---- the node walk, at the n-th node
+-- ---- the node walk
+-- the fields of the n-th node, where it is a Struct
+abbrev fieldsUnder : List ℕ → List ℕ → ℕ → Fields
+fieldsUnder ks xs n = runAt (getD xs n 0) (from (n + 1) ks) (from (n + 1) xs)
+
+-- under n Lists and Arrays
 module _ {ks xs : List ℕ} (v : Valid ks xs) {n : ℕ} (w : n ≡ wrappersOf ks xs) where
   pub under : Lowest ks xs (typeAt ks xs) n
   under = subst (Lowest ks xs (typeAt ks xs)) (sym w) (lowest ks xs (typeAt ks xs) v)
@@ -168,14 +173,14 @@ module _ {ks xs : List ℕ} (v : Valid ks xs) {n : ℕ} (w : n ≡ wrappersOf ks
     pub fields-stand : ValidRun (getD xs n 0) (from (n + 1) ks) (from (n + 1) xs)
     fields-stand = rw (from-first n xs, onward n 1 (n + 1) ks refl, onward n 1 (n + 1) xs refl) at (struct-valid (from n ks) (from n xs) (under .stands) at-bottom)
 
-    over : (size (typeAt ks xs) ≡ n + 1 + sizes (runAt (getD xs n 0) (from (n + 1) ks) (from (n + 1) xs))) × (depth (typeAt ks xs) ≡ n + depths (runAt (getD xs n 0) (from (n + 1) ks) (from (n + 1) xs)))
+    over : (size (typeAt ks xs) ≡ n + 1 + sizes (fieldsUnder ks xs n)) × (depth (typeAt ks xs) ≡ n + depths (fieldsUnder ks xs n))
     unfolding size depth
     over =
         let t = rw (from-first n xs, onward n 1 (n + 1) ks refl, onward n 1 (n + 1) xs refl) at (type-struct (from n ks) (from n xs) (under .stands) at-bottom) in
         (omega (arith, under .nodes, ap size t), omega (arith, under .levels, ap depth t))
 
-    pub all-inside : (levels m : ℕ) → Ends m ≡ spansWithin levels (runAt (getD xs n 0) (from (n + 1) ks) (from (n + 1) xs)) → n + 1 + m ≤ length ks
-    all-inside levels m e = let f = fields-ended levels (runAt (getD xs n 0) (from (n + 1) ks) (from (n + 1) xs)) m e in omega (arith, over .0)
+    pub all-inside : (levels m : ℕ) → Ends m ≡ spansWithin levels (fieldsUnder ks xs n) → n + 1 + m ≤ length ks
+    all-inside levels m e = let f = fields-ended levels (fieldsUnder ks xs n) m e in omega (arith, over .0)
 
   module _ (levels : ℕ) where
     pub node-deep : levels < n → TooDeep ≡ spanWithin levels (typeAt ks xs)
@@ -189,23 +194,30 @@ module _ {ks xs : List ℕ} (v : Valid ks xs) {n : ℕ} (w : n ≡ wrappersOf ks
           type-ends levels (typeAt ks xs) (n + 1) (omega (arith, under .nodes, ap size e)) (omega (arith, under .levels, ap depth e))
 
       module _ (k : Kind.List ≤ getD ks n 0) where
-        pub node-fields : (m : ℕ) → Ends m ≡ spansWithin (levels - n) (runAt (getD xs n 0) (from (n + 1) ks) (from (n + 1) xs)) → Ends (n + 1 + m) ≡ spanWithin levels (typeAt ks xs)
+        pub node-fields : (m : ℕ) → Ends m ≡ spansWithin (levels - n) (fieldsUnder ks xs n) → Ends (n + 1 + m) ≡ spanWithin levels (typeAt ks xs)
         node-fields m e =
-            let f = fields-ended (levels - n) (runAt (getD xs n 0) (from (n + 1) ks) (from (n + 1) xs)) m e in
+            let f = fields-ended (levels - n) (fieldsUnder ks xs n) m e in
             type-ends levels (typeAt ks xs) (n + 1 + m) (omega (arith, over k .0)) (omega (arith, over k .1))
 
-        pub node-deeper : TooDeep ≡ spansWithin (levels - n) (runAt (getD xs n 0) (from (n + 1) ks) (from (n + 1) xs)) → TooDeep ≡ spanWithin levels (typeAt ks xs)
+        pub node-deeper : TooDeep ≡ spansWithin (levels - n) (fieldsUnder ks xs n) → TooDeep ≡ spanWithin levels (typeAt ks xs)
         node-deeper e =
-            let f = fields-deeper (levels - n) (runAt (getD xs n 0) (from (n + 1) ks) (from (n + 1) xs)) e in
+            let f = fields-deeper (levels - n) (fieldsUnder ks xs n) e in
             type-deep levels (typeAt ks xs) (omega (arith, over k .1))
 
 -- ---- the field walk
+-- so many fields from a place on, and the type of the first
+abbrev fieldsFrom : ℕ → List ℕ → List ℕ → ℕ → Fields
+fieldsFrom m ks xs at = runAt m (from at ks) (from at xs)
+
+abbrev fieldType : List ℕ → List ℕ → ℕ → DataType
+fieldType ks xs at = typeAt (from (at + 1) ks) (from (at + 1) xs)
+
 -- Of the m fields at the front all but `left` are done: they end at `at`, and are as deep as `done`, which is within the levels asked for.
 pub record Along (levels m : ℕ) (ks xs : List ℕ) (at left : ℕ) : Type 0 where
   pub done : ℕ
   pub others : ValidRun left (from at ks) (from at xs)
-  pub nodes : sizes (runAt m ks xs) ≡ at + sizes (runAt left (from at ks) (from at xs))
-  pub deepest : depths (runAt m ks xs) ≡ max done (depths (runAt left (from at ks) (from at xs)))
+  pub nodes : sizes (runAt m ks xs) ≡ at + sizes (fieldsFrom left ks xs at)
+  pub deepest : depths (runAt m ks xs) ≡ max done (depths (fieldsFrom left ks xs at))
   pub shallow : done ≤ levels
 
 pub start : (levels : ℕ) {m : ℕ} {ks xs : List ℕ} → ValidRun m ks xs → Along levels m ks xs 0 m
@@ -227,29 +239,29 @@ module _ {levels m : ℕ} {ks xs : List ℕ} {at left : ℕ} (a : Along levels m
 
   module _ (p : left ≡ 0 → ⊥) where
     -- all fields, the next of n nodes
-    pub all-nodes : (n : ℕ) → n ≡ size (typeAt (from (at + 1) ks) (from (at + 1) xs)) → sizes (runAt m ks xs) ≡ at + 1 + n + sizes (runAt (left - 1) (from (at + 1 + n) ks) (from (at + 1 + n) xs))
+    pub all-nodes : (n : ℕ) → n ≡ size (fieldType ks xs at) → sizes (runAt m ks xs) ≡ at + 1 + n + sizes (fieldsFrom (left - 1) ks xs (at + 1 + n))
     unfolding size
     all-nodes n e = omega (arith, a .nodes, ap sizes (next-field left at ks xs (a .others) p n e))
 
-    all-levels : (n : ℕ) → n ≡ size (typeAt (from (at + 1) ks) (from (at + 1) xs)) → depths (runAt m ks xs) ≡ max (max (a .done) (2 + depth (typeAt (from (at + 1) ks) (from (at + 1) xs)))) (depths (runAt (left - 1) (from (at + 1 + n) ks) (from (at + 1 + n) xs)))
+    all-levels : (n : ℕ) → n ≡ size (fieldType ks xs at) → depths (runAt m ks xs) ≡ max (max (a .done) (2 + depth (fieldType ks xs at))) (depths (fieldsFrom (left - 1) ks xs (at + 1 + n)))
     unfolding depth
     all-levels n e = omega (arith, a .deepest, ap depths (next-field left at ks xs (a .others) p n e))
 
     pub no-level : levels < 2 → TooDeep ≡ spansWithin levels (runAt m ks xs)
-    no-level h = fields-deep levels (runAt m ks xs) (omega (arith, all-levels (size (typeAt (from (at + 1) ks) (from (at + 1) xs))) refl))
+    no-level h = fields-deep levels (runAt m ks xs) (omega (arith, all-levels (size (fieldType ks xs at)) refl))
 
     module _ (h : 2 ≤ levels) where
-      pub field-deep : TooDeep ≡ spanWithin (levels - 2) (typeAt (from (at + 1) ks) (from (at + 1) xs)) → TooDeep ≡ spansWithin levels (runAt m ks xs)
+      pub field-deep : TooDeep ≡ spanWithin (levels - 2) (fieldType ks xs at) → TooDeep ≡ spansWithin levels (runAt m ks xs)
       field-deep e =
-          let d = type-deeper (levels - 2) (typeAt (from (at + 1) ks) (from (at + 1) xs)) e in
-          fields-deep levels (runAt m ks xs) (omega (arith, all-levels (size (typeAt (from (at + 1) ks) (from (at + 1) xs))) refl))
+          let d = type-deeper (levels - 2) (fieldType ks xs at) e in
+          fields-deep levels (runAt m ks xs) (omega (arith, all-levels (size (fieldType ks xs at)) refl))
 
       -- a field is done
-      pub field-done : (n : ℕ) → Ends n ≡ spanWithin (levels - 2) (typeAt (from (at + 1) ks) (from (at + 1) xs)) → Along levels m ks xs (at + 1 + n) (left - 1)
+      pub field-done : (n : ℕ) → Ends n ≡ spanWithin (levels - 2) (fieldType ks xs at) → Along levels m ks xs (at + 1 + n) (left - 1)
       field-done n e =
-          let t = type-ended (levels - 2) (typeAt (from (at + 1) ks) (from (at + 1) xs)) n e in
+          let t = type-ended (levels - 2) (fieldType ks xs at) n e in
           record {
-            done = max (a .done) (2 + depth (typeAt (from (at + 1) ks) (from (at + 1) xs)));
+            done = max (a .done) (2 + depth (fieldType ks xs at));
             others = next-run left at ks xs (a .others) p n (t .0);
             nodes = all-nodes n (t .0);
             deepest = all-levels n (t .0);
