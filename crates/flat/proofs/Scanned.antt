@@ -1,10 +1,10 @@
 -- The scan accepts types only: what stands where it passes, from any state. Assumes nothing.
 use mathlib.Core.Path.{_≡_, refl, sym, ap, ap₂, _∙_}
-use mathlib.Core.Bool.{Bool, true, false, cond, not, _&&_, and-eq-true-iff}
+use mathlib.Core.Bool.{Bool, true, false, not, _&&_, and-eq-true-iff}
 use mathlib.Core.List.{List, [], _∷_, _++_, append-assoc, append-nil}
 use Prim.Native.Nat.{ℕ, zero, suc, _+_, _-_, _≤_, _<_}
 use native.Mathlib.Omega.{arith}
-use borrow.Author.Tests.{leb-true, leb-false, eqb-true, ltb-true, ltb-false}
+use borrow.Author.Tests.{leb-true, leb-false, eqb-true, ltb-true}
 use lib.Dec.{leb, ltb, eqb}
 use Rattle.flat.specs.Kind
 use Rattle.flat.specs.Argument.{argumentFits}
