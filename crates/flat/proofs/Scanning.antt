@@ -11,7 +11,7 @@ use lib.ListN.{length, getD, drop, drop-of-length-le}
 use lib.Seq.{drop-cons}
 use Rattle.flat.specs.Kind
 use Rattle.flat.specs.Argument.{argumentFits, ruleOf, follows}
-use Rattle.flat.specs.Reader.{Children, children}
+use Rattle.flat.specs.Reader.{children}
 use Rattle.flat.specs.Scan.{Within, start, wrapped, opened, paid, typeFits, fieldFits, after, scanType, scanFields}
 use Rattle.flat.specs.declared.scan.Scan.{Scan}
 use Rattle.flat.proofs.Positions.{children-leaf, children-list, children-array, children-struct}

@@ -1,13 +1,11 @@
 -- `flat::scan::passes` meets its contract: the loop stands before a type, and past it before the fields still owed. Assumes nothing.
-use mathlib.Core.Path.{_≡_, sym, _∙_}
-use mathlib.Core.Bool.{true}
+use mathlib.Core.Path.{sym, _∙_}
 use mathlib.Core.Logic.{⊎-elim}
 use Prim.Native.Nat.{_+_, _-_}
 use native.Mathlib.Omega.{arith}
 use borrow.Author.Needs.{needs}
 use borrow.Author.Tests.{not-true, not-false}
-use lib.ListN.{length, getD}
-use Rattle.flat.specs.Scan.{typeFits}
+use lib.ListN.{length}
 use Rattle.flat.proofs.States.{within-more}
 use Rattle.flat.proofs.Scanning.{AtType, AtFields, at-start, type-end, bad-type, past-leaf, past-one, deep-one, struct-room, past-struct, deep-struct, none-owed, field-missing, bad-field, past-field}
 use Rattle.flat.proofs.scan.passes.Statement.{statement}
