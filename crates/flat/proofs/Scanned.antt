@@ -1,19 +1,22 @@
 -- The scan accepts types only: what stands where it passes, from any state. Assumes nothing.
 use mathlib.Core.Path.{_≡_, refl, sym, ap, ap₂, _∙_}
-use mathlib.Core.Bool.{Bool, true, false, cond, not, _&&_, and-eq-true-iff}
+use mathlib.Core.Bool.{Bool, true, false, not, _&&_, and-eq-true-iff}
 use mathlib.Core.List.{List, [], _∷_, _++_, append-assoc, append-nil}
 use Prim.Native.Nat.{ℕ, zero, suc, _+_, _-_, _≤_, _<_}
 use native.Mathlib.Omega.{arith}
-use borrow.Author.Tests.{leb-true, leb-false, eqb-true, ltb-true, ltb-false}
+use borrow.Author.Tests.{leb-true, leb-false, eqb-true, ltb-true, le-leb, lt-leb, lt-ltb, eq-eqb, ne-eqb}
 use lib.Dec.{leb, ltb, eqb}
+use lib.ListN.{length, getD}
 use Rattle.flat.specs.Kind
 use Rattle.flat.specs.Argument.{argumentFits}
 use Rattle.flat.specs.Tree.{DataType, leaf, list, array, struct, Fields, empty, field, count, depth, depths, kindsOf, kindsOfs, argsOf, argsOfs}
 use Rattle.flat.specs.Reader.{Children, no-child, under-list, under-array, fields, no-type, children}
-use Rattle.flat.specs.Reading.{lengthFits, reading, checkedOf, Ruled, RuledFields}
+use Rattle.flat.specs.Reading.{lengthFits, reading, checkedOf, onePlain, Ruled, RuledFields}
 use Rattle.flat.specs.Refusals.{FlatForm}
 use Rattle.flat.specs.Scan.{Within, start, settled, wrapped, opened, paid, typeFits, fieldFits, after, scanType, scanFields, accepted}
 use Rattle.flat.specs.declared.scan.Scan.{Scan}
+use Rattle.flat.proofs.Positions.{children-leaf}
+use Rattle.flat.proofs.Plain.{plain-type}
 use Rattle.flat.proofs.ReadBack.{View, is-leaf, is-list, is-array, is-struct, is-other, view}
 use Rattle.flat.proofs.States.{Settled, settles, Opened, outermost, inside, opens, settled-within, wrapped-depth, wrapped-within, opened-within, paid-within, start-within}
 use Rattle.flat.proofs.Meaning.{Passed, check-passed, form-length, lengths-fit, passes}
@@ -267,3 +270,29 @@ accepted-passed nodes deep ks xs e =
     let t = s .0 in
     let v = passes nodes deep t (record { ruled = f .ruled; within = omega (arith, form-length f, lengths-fit nodes ks xs (both .0)); shallow = s .2 }) in
     check-passed (ap checkedOf (sym (ap₂ (reading nodes deep) (f .kinds) (f .args) ∙ v)))
+
+-- which arrays it accepts
+module _ (nodes deep : ℕ) (ks xs : List ℕ) where
+  pub uneven-told : (length ks ≡ length xs → ⊥) → false ≡ accepted nodes deep ks xs
+  unfolding accepted lengthFits
+  uneven-told e = rw (ne-eqb (length ks) (length xs) e)
+
+  pub many-told : length ks ≡ length xs → nodes < length ks → false ≡ accepted nodes deep ks xs
+  unfolding accepted lengthFits
+  many-told e h = rw (eq-eqb (length ks) (length xs) e, lt-ltb 0 (length ks) (omega arith), lt-leb (length ks) nodes h)
+
+  module _ (h : 1 ≤ nodes) where
+    leaf-accepted : (k : ℕ) → k < Kind.List → argumentFits k 0 ≡ true → accepted nodes deep (k ∷ []) (0 ∷ []) ≡ true
+    unfolding accepted lengthFits scanType typeFits
+    leaf-accepted k l f = rw (le-leb 1 nodes h, ne-eqb k Kind.Field (omega arith), f, children-leaf k 0 (omega arith))
+
+    pub plain-told : onePlain ks xs ≡ true → true ≡ accepted nodes deep ks xs
+    plain-told e =
+        let p = plain-type nodes deep ks xs h e in
+        sym (ap₂ (accepted nodes deep) (p .kinds) (p .args) ∙ leaf-accepted (getD ks 0 0) (p .low) (p .fits))
+
+pub scan-told : (nodes deep : ℕ) (ks xs : List ℕ) → length ks ≡ length xs → length ks ≤ nodes → scanType deep start ks xs ≡ accepted nodes deep ks xs
+unfolding accepted lengthFits scanType
+scan-told nodes deep [] [] e h = refl
+scan-told nodes deep [] (a ∷ xs) e h = absurd (omega arith)
+scan-told nodes deep (k ∷ ks) xs e h = rw (eq-eqb (length (k ∷ ks)) (length xs) e, lt-ltb 0 (length (k ∷ ks)) (omega arith), le-leb (length (k ∷ ks)) nodes h)

@@ -57,6 +57,15 @@ module _ (m : ℕ) (s r : Scan) (e : r ≡ settled s) where
   unfolding opened
   next-opened z = rw (ne-eqb (s .owed) 0 (λ y. z (settled-owed ∙ y)), settled-owed, e, add-two)
 
+-- what is owed
+pub wrapped-owed : (s : Scan) → wrapped s .owed ≡ s .owed
+unfolding wrapped
+wrapped-owed s = settles s .owed
+
+pub paid-owed : (s : Scan) → paid s .owed ≤ s .owed
+unfolding paid
+paid-owed s = omega arith
+
 -- the bound, one step on
 module _ {deep : ℕ} {s : Scan} (w : Within deep s) where
   pub settled-within : settled s .depth ≤ deep
@@ -65,6 +74,9 @@ module _ {deep : ℕ} {s : Scan} (w : Within deep s) where
       go : (b : Bool) → ltb (s .owed) (s .outer) ≡ b → settled s .depth ≤ deep
       go true e = omega (arith, settles s .back (ltb-true (s .owed) (s .outer) e))
       go false e = omega (arith, settles s .stays (ltb-false (s .owed) (s .outer) e))
+
+  pub within-more : {n : ℕ} → deep ≤ n → Within n s
+  within-more h = record { depth = omega arith; base = omega arith }
 
   pub wrapped-within : wrapped s .depth ≤ deep → Within deep (wrapped s)
   unfolding wrapped

@@ -1,6 +1,6 @@
 -- `flat::scan::field_fits` meets its contract. Assumes nothing.
 use borrow.Author.Needs.{needs}
-use borrow.Author.Tests.{eq-eqb, ne-eqb}
+use borrow.Author.Tests.{ne-eqb}
 use Rattle.flat.specs.Scan.{fieldFits}
 use Rattle.flat.proofs.scan.field_fits.Statement.{statement}
 use Rattle.flat.proofs.scan.field_fits.Tie as tie

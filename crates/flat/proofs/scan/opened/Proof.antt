@@ -1,5 +1,4 @@
 -- `flat::scan::opened` meets its contract. Assumes nothing.
-use mathlib.Core.Path.{sym}
 use native.Mathlib.Omega.{arith}
 use borrow.Author.Needs.{needs}
 use Rattle.flat.proofs.States.{settles, settled-within, first-opened, next-opened}
