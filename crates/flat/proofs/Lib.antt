@@ -13,7 +13,8 @@ pub mod Plain
 mod Scans
 mod States
 mod Scanned
+mod Complete
 mod Scanning
-mod Spans
+pub mod Spans
 mod Checks
 mod LimitCases
