@@ -1,17 +1,15 @@
 -- Which answer each way out of the check gives. Assumes nothing.
 use mathlib.Core.Path.{_≡_, refl, sym, ap, _∙_}
 use mathlib.Core.Bool.{Bool, true, false}
-use mathlib.Core.List.{List, [], _∷_}
+use mathlib.Core.List.{List}
 use mathlib.Core.Option.{Option, none, some}
 use Prim.Native.Nat.{ℕ, _*_, _≤_, _<_}
 use native.Mathlib.Omega.{arith}
 use borrow.Author.Tests.{le-leb, lt-leb, lt-ltb, le-ltb, eq-eqb, ne-eqb, eqb-true}
 use lib.Dec.{eqb, leb}
-use lib.ListN.{length, getD}
-use Rattle.flat.specs.Kind
-use Rattle.flat.specs.Argument.{argumentFits}
-use Rattle.flat.specs.Tree.{DataType, leaf, list, array, struct, empty, size, depth}
-use Rattle.flat.specs.Reader.{Children, no-child, under-list, under-array, fields, no-type, children, mapO, underNode, nodeAt, fieldsAt}
+use lib.ListN.{length}
+use Rattle.flat.specs.Tree.{DataType, size, depth}
+use Rattle.flat.specs.Reader.{nodeAt}
 use Rattle.flat.specs.Reading.{type, unless, lengthFits, kindsFit, argumentsFit, shaped, reading, checkedOf}
 use Rattle.flat.specs.Refusals.{FlatForm}
 use Rattle.flat.specs.Walk.{typeAt}
@@ -21,8 +19,6 @@ use Rattle.flat.specs.declared.span.Span.the-variants.{Ends, TooDeep}
 use Rattle.flat.specs.declared.error.Error.the-variants.{Length, Kind, Argument, Shape, Depth}
 use Rattle.flat.specs.declared.Checked.the-variants.{Valid, Refused}
 use Rattle.flat.proofs.Scans.{arguments-kinds}
-use Rattle.flat.proofs.ReadBack.{View, is-leaf, is-list, is-array, is-struct, is-other, view}
-use Rattle.flat.proofs.Positions.{node-at, node-end, children-leaf, children-struct, fields-zero, fields-end}
 use Rattle.flat.proofs.Meaning.{form-length, form-read, form-stands, read-form}
 use Rattle.flat.proofs.Spans.{type-ended, type-deeper}
 use Rattle.flat.proofs.Complete.{complete}

@@ -83,10 +83,6 @@ fields-step (suc m) (k ∷ ks) (a ∷ xs) =
 pub node-at : (ks xs : List ℕ) (at : ℕ) → at < length ks → at < length xs → (s : Children) → children (getD ks at 0) (getD xs at 0) ≡ s → nodeAt (drop at ks) (drop at xs) ≡ underNode nodeAt fieldsAt s (getD ks at 0) (getD xs at 0) (drop (at + 1) ks) (drop (at + 1) xs)
 node-at ks xs at h h′ s e = ap₂ nodeAt (drop-cons ks at 0 h) (drop-cons xs at 0 h′) ∙ node-step _ _ ∙ rw (add-one, e)
 
-pub node-end : (ks xs : List ℕ) → length ks ≡ 0 → nodeAt ks xs ≡ none
-node-end [] xs h = node-step [] xs
-node-end (k ∷ ks) xs h = absurd (omega arith)
-
 -- fields at a position
 pub fields-zero : (ks xs : List ℕ) → fieldsAt 0 ks xs ≡ some empty
 fields-zero ks xs = fields-step 0 ks xs

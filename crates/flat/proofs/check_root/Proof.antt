@@ -1,10 +1,9 @@
 -- `flat::check_root` meets its contract: one plain leaf, then any type. Assumes nothing.
-use mathlib.Core.Path.{sym, ap₂, _∙_}
-use mathlib.Core.List.{List}
-use Prim.Native.Nat.{ℕ}
+use mathlib.Core.Path.{sym, ap, _∙_}
+use native.Mathlib.Omega.{arith}
 use lib.Dec.{lit≤}
+use lib.ListN.{length}
 use borrow.Author.Needs.{needs}
-use Rattle.flat.specs.Reading.{reading, rootOf}
 use Rattle.flat.proofs.Positions.{rest}
 use Rattle.flat.proofs.Plain.{plain-type}
 use Rattle.flat.proofs.Roots.{plain-root}
@@ -12,13 +11,13 @@ use Rattle.flat.proofs.check_root.Statement.{statement}
 use Rattle.flat.proofs.check_root.Tie as tie
 
 shared-slice-read-t5 : tie.Need-shared-slice-read-t5
-shared-slice-read-t5 c = ?
+shared-slice-read-t5 c = omega (arith, ap length (plain-type 1 0 _ _ (lit≤ tt) (sym (c .before .before .is-plain .ensures) ∙ c .before .if1 .taken) .kinds))
 
 returns : tie.Need-returns
-returns c = ?
+returns c = plain-root (plain-type _ _ _ _ (lit≤ tt) (sym (c .before .before .is-plain .ensures) ∙ c .before .if1 .taken))
 
 returns-2 : tie.Need-returns-2
-returns-2 c = ?
+returns-2 c = rw (rest, rest) at (c .root-of .ensures)
 
 pub check-root-spec : {M : Type 1} → statement M
 check-root-spec =
