@@ -257,7 +257,10 @@ fn root_of(kinds: &[u8], args: &[u64]) -> Root
       deep ← ⟦Flat::MAX_DEPTH⟧ .entry
       ⌜ (r ≡ rootOf (reading nodes deep (now (kinds .entry)) (now (args .entry)))) × RootFits r ⌝ }
 {
-    match check(kinds, args) {
+    if accepts_nodes(kinds, args) {
+        return Root::Node(kinds[0], args[0]);
+    }
+    match examine(kinds, args) {
         Checked::Valid => Root::Node(kinds[0], args[0]),
         Checked::Refused(e) => Root::Refused(e),
     }

@@ -136,17 +136,20 @@ pub fn passes(kinds: &[u8], args: &[u64], deep: usize) -> bool
             return false;
         }
         at += 1;
-        if kind >= Kind::LIST {
-            if kind < Kind::STRUCT {
+        match kind {
+            Kind::NULL..=Kind::UNKNOWN_INT_NEG => {}
+            Kind::LIST..=Kind::ARRAY => {
                 s = wrapped(s);
                 if s.depth > deep {
                     return false;
                 }
                 continue;
             }
-            s = opened(s, arg as usize);
-            if s.depth > deep {
-                return false;
+            _ => {
+                s = opened(s, arg as usize);
+                if s.depth > deep {
+                    return false;
+                }
             }
         }
         if s.owed == 0 {

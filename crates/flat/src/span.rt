@@ -44,12 +44,12 @@ pub fn node_span(kinds: &[u8], args: &[u64], levels: usize) -> Span
         return Span::TooDeep;
     }
     let next = at + 1;
-    if kinds[at] < Kind::LIST {
-        return Span::Ends(next);
-    }
-    match field_span(&kinds[next..], &args[next..], args[at], levels - at) {
-        Span::Ends(n) => Span::Ends(next + n),
-        Span::TooDeep => Span::TooDeep,
+    match kinds[at] {
+        Kind::NULL..=Kind::UNKNOWN_INT_NEG => Span::Ends(next),
+        _ => match field_span(&kinds[next..], &args[next..], args[at], levels - at) {
+            Span::Ends(n) => Span::Ends(next + n),
+            Span::TooDeep => Span::TooDeep,
+        },
     }
 }
 

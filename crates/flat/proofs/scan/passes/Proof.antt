@@ -35,10 +35,10 @@ wrapped-requires : tie.Need-wrapped-requires Inv-loop μ-loop
 wrapped-requires c κs = within-more (c .before .before .before .before .before .before .before .loop .inv .within) (c .before .before .before .before .before .before .before .before .before .before .before .pre .2)
 
 returns-2 : tie.Need-returns-2 Inv-loop μ-loop
-returns-2 c = let f = c .before .before .before .before .before in deep-one (c .before .before .before .before .before .before .before .before .before .before .loop .inv) (c .before .before .before .before .before .before .before .before .before .loop-test .taken) (sym (f .before .type-fits .ensures) ∙ not-false _ (f .if1 .left)) (c .before .before .before .before .if2 .taken) (c .before .before .before .if3 .taken) _ (c .before .before .wrapped .ensures) (c .if4 .taken)
+returns-2 c = let f = c .before .before .before .before .before in deep-one (c .before .before .before .before .before .before .before .before .before .before .loop .inv) (c .before .before .before .before .before .before .before .before .before .loop-test .taken) (sym (f .before .type-fits .ensures) ∙ not-false _ (f .if1 .left)) (c .before .before .before .before .if2 .left) (c .before .before .before .if3 .taken) _ (c .before .before .wrapped .ensures) (c .if4 .taken)
 
 loop-again : tie.Need-loop-again Inv-loop μ-loop
-loop-again c = let f = c .before .before .before .before .before in past-one (c .before .before .before .before .before .before .before .before .before .before .loop .inv) (c .before .before .before .before .before .before .before .before .before .loop-test .taken) (sym (f .before .type-fits .ensures) ∙ not-false _ (f .if1 .left)) (c .before .before .before .before .if2 .taken) (c .before .before .before .if3 .taken) _ (c .before .before .wrapped .ensures) (c .if4 .left)
+loop-again c = let f = c .before .before .before .before .before in past-one (c .before .before .before .before .before .before .before .before .before .before .loop .inv) (c .before .before .before .before .before .before .before .before .before .loop-test .taken) (sym (f .before .type-fits .ensures) ∙ not-false _ (f .if1 .left)) (c .before .before .before .before .if2 .left) (c .before .before .before .if3 .taken) _ (c .before .before .wrapped .ensures) (c .if4 .left)
 
 opened-requires : tie.Need-opened-requires Inv-loop μ-loop
 opened-requires c κs =
@@ -55,7 +55,7 @@ met j =
     let p = j .before .before .before .before .before .before .loop .inv in
     let h = j .before .before .before .before .before .loop-test .taken in
     let f = sym (j .before .before .type-fits .ensures) ∙ not-false _ (j .before .if1 .left) in
-    ⊎-elim (λ w. rw (w .5) (past-struct p h f (w .1 .left) _ (w .2 .ensures) (w .4 .left))) (λ w. rw (w .1) (past-leaf p h f (w .0 .left))) (j .if2 .came)
+    ⊎-elim (λ w. rw (w .1) (past-leaf p h f (w .0 .taken))) (λ w. rw (w .5) (past-struct p h f (w .1 .left) _ (w .2 .ensures) (w .4 .left))) (j .if2 .came)
 
 returns-4 : tie.Need-returns-4 Inv-loop μ-loop
 returns-4 c = none-owed (met (c .before .before)) (c .if6 .taken)

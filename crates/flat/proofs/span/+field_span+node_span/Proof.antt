@@ -89,8 +89,8 @@ node-span-field-span-requires t c κs =
     let s = c .before .before .before .before .before .before .before .before .before in
     (shorter (now (s .args .kinds)) (c .before .before .before .before .before .before .bottom .result) t (s .pre .0) (omega arith), fields-stand (s .pre .1) (c .before .before .before .before .before .before .bottom .ensures .0) (c .before .before .before .if2 .left))
 
-node-span-add-t25 : (t : ℕ) → node-span-lts.Need-add-t25 (node-span-claims t) (node-span-at t) node-span.Post
-node-span-add-t25 t c = omega (arith, all-inside (c .before .before .before .before .before .before .before .before .before .before .before .before .before .pre .1) (c .before .before .before .before .before .before .before .before .before .before .bottom .ensures .0) (c .before .before .before .before .before .before .before .if2 .left) _ _ (sym (c .before .n .given .1) ∙ c .before .before .before .field-span .ensures))
+node-span-add-t28 : (t : ℕ) → node-span-lts.Need-add-t28 (node-span-claims t) (node-span-at t) node-span.Post
+node-span-add-t28 t c = omega (arith, all-inside (c .before .before .before .before .before .before .before .before .before .before .before .before .before .pre .1) (c .before .before .before .before .before .before .before .before .before .before .bottom .ensures .0) (c .before .before .before .before .before .before .before .if2 .left) _ _ (sym (c .before .n .given .1) ∙ c .before .before .before .field-span .ensures))
 
 node-span-returns-2 : (t : ℕ) → node-span-lts.Need-returns-2 (node-span-claims t) (node-span-at t) node-span.Post
 node-span-returns-2 t c = node-leaf (c .before .before .before .before .before .before .pre .1) (c .before .before .before .bottom .ensures .0) _ (c .before .before .if1 .left) (c .if2 .taken)
@@ -123,12 +123,11 @@ pub +field-span+node-span-spec : {M : Type 1} → statement M
     node-span.Post
     (λ c κs. search needs)
     (node-span-returns t)
-    (λ c. search (needs, node-span-inside t c)) (λ c. search (needs, node-span-inside t (c .before)))
-    (node-span-returns-2 t)
-    (λ c. search (needs, node-span-inside t (c .before .before))) (λ c. search (needs, node-span-inside t (c .before .before))) (λ c. search needs) (λ c. search needs) (λ c. search (needs, node-span-inside t (c .before .before .before))) (λ c. search (needs, node-span-inside t (c .before .before .before))) (λ c. search needs) (λ c. search needs) (λ c. search (needs, node-span-inside t (c .before .before .before .before .before)))
+    (λ c. search (needs, node-span-inside t c)) (λ c. search (needs, node-span-inside t (c .before))) (λ c. search (needs, node-span-inside t (c .before .before))) (λ c. search (needs, node-span-inside t (c .before .before))) (λ c. search needs) (λ c. search needs) (λ c. search (needs, node-span-inside t (c .before .before .before))) (λ c. search (needs, node-span-inside t (c .before .before .before))) (λ c. search needs) (λ c. search needs) (λ c. search (needs, node-span-inside t (c .before .before .before .before .before)))
     (node-span-field-span-requires t)
     (λ c. search needs)
-    (node-span-add-t25 t)
+    (node-span-add-t28 t)
     (λ c. search needs)
+    (node-span-returns-2 t)
     (node-span-returns-3 t)
     (node-span-returns-4 t)
