@@ -15,7 +15,7 @@ use Rattle.flat.specs.Scan.{Within, start, wrapped, opened, paid, typeFi
 use Rattle.flat.specs.declared.scan.Scan.{Scan}
 use Rattle.flat.proofs.Positions.{children-leaf}
 use Rattle.flat.proofs.Meaning.{at-kinds, at-args}
-use Rattle.flat.proofs.States.{Opened, outermost, inside, opens, settles, settled-within, paid-within}
+use Rattle.flat.proofs.States.{Opened, outermost, inside, opens, settles, settled-within, paid-within, start-within}
 
 -- The answer is that for what stands after the nodes, from a state that owes so many fields and has no more than `top` levels nested.
 record Onto (deep top owed : ℕ) (ks xs : List ℕ) (answer : Bool) : Type 0 where
@@ -96,5 +96,5 @@ module _ (deep : ℕ) where
 pub complete : (nodes : ℕ) {ks xs : List ℕ} {t : DataType} → FlatForm ks xs t → size t ≤ nodes → scanType (2 * nodes) start ks xs ≡ true
 unfolding scanType
 complete nodes {ks} {xs} {t} f h =
-    let o = type-onto (2 * nodes) t (f .ruled) 0 {s = start} (record { depth = omega arith; base = omega arith }) (omega arith) [] [] in
+    let o = type-onto (2 * nodes) t (f .ruled) 0 (start-within 0) (omega arith) [] [] in
     ap₂ (scanType (2 * nodes) start) (at-kinds f) (at-args f) ∙ o .same ∙ eq-eqb (o .state .owed) 0 (o .owes)

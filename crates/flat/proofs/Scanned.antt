@@ -63,15 +63,25 @@ record Split (deep d n m : ℕ) (fs : Fields) : Type 0 where
 module _ (deep d m : ℕ) where
   split : (n : ℕ) (fs : Fields) → count fs ≡ n + m → AllFit deep d fs → Split deep d n m fs
   unfolding count kindsOf argsOf AllFit
-  split zero fs e f = record { one = empty; two = fs; kinds = refl; args = refl; first = refl; others = (let y : count fs ≡ m = omega arith in y); fit-one = tt; fit-two = f }
+  split zero fs e f =
+      record {
+        one = empty;
+        two = fs;
+        kinds = refl;
+        args = refl;
+        first = refl;
+        others = (let y : count fs ≡ m = omega arith in y);
+        fit-one = tt;
+        fit-two = f;
+      }
   split (suc n) empty e f = absurd (omega arith)
   split (suc n) (field name t fs) e f =
       let s = split n fs (omega arith) (f .3) in
       record {
         one = field name t (s .one);
         two = s .two;
-        kinds = ap (λ (l : List ℕ). Kind.Field ∷ l) (ap (λ (l : List ℕ). kindsOf t ++ l) (s .kinds) ∙ sym (append-assoc (kindsOf t) (kindsOfs (s .one)) (kindsOfs (s .two))));
-        args = ap (λ (l : List ℕ). name ∷ l) (ap (λ (l : List ℕ). argsOf t ++ l) (s .args) ∙ sym (append-assoc (argsOf t) (argsOfs (s .one)) (argsOfs (s .two))));
+        kinds = ap (λ (l : List ℕ). Kind.Field ∷ l) (rw (s .kinds, append-assoc));
+        args = ap (λ (l : List ℕ). name ∷ l) (rw (s .args, append-assoc));
         first = ap suc (s .first);
         others = s .others;
         fit-one = (f .0, f .1, f .2, s .fit-one);
@@ -140,8 +150,8 @@ module _ (deep : ℕ) (s : Scan) where
           tree = struct (r .two);
           kinds-left = [];
           args-left = [];
-          kinds = ap (λ (l : List ℕ). Kind.Struct ∷ l) (r .kinds ∙ ap (λ (fs : Fields). kindsOfs fs ++ kindsOfs (r .two)) none ∙ sym (append-nil (kindsOfs (r .two))));
-          args = ap₂ _∷_ (sym all) (r .args ∙ ap (λ (fs : Fields). argsOfs fs ++ argsOfs (r .two)) none ∙ sym (append-nil (argsOfs (r .two))));
+          kinds = ap (λ (l : List ℕ). Kind.Struct ∷ l) (r .kinds ∙ rw none (sym (append-nil (kindsOfs (r .two)))));
+          args = ap₂ _∷_ (sym all) (r .args ∙ rw none (sym (append-nil (argsOfs (r .two)))));
           ruled = (rw all f, all-ruled deep (suc (suc (settled s .depth))) (r .two) (r .fit-two));
           room = all-depth deep (settled s .depth) h (r .two) (r .fit-two);
           owed = no-owed e;
@@ -158,7 +168,17 @@ module _ (deep : ℕ) (s : Scan) where
               args = ap₂ _∷_ (sym (p .first)) (r .args ∙ rw (p .args, append-assoc));
               ruled = (rw (p .first) f, all-ruled deep (suc (suc (settled s .depth))) (p .one) (p .fit-one));
               room = all-depth deep (settled s .depth) h (p .one) (p .fit-one);
-              owed = record { one = p .two; two = r .two; kinds = refl; args = refl; inner = p .others; whole = omega arith; fit-one = inner-higher (suc (suc (settled s .depth))) (omega arith) (p .two) (p .others) (p .fit-two); fit-two = rw (z .base) at (r .fit-two) };
+              owed =
+                  record {
+                    one = p .two;
+                    two = r .two;
+                    kinds = refl;
+                    args = refl;
+                    inner = p .others;
+                    whole = omega arith;
+                    fit-one = inner-higher (suc (suc (settled s .depth))) (omega arith) (p .two) (p .others) (p .fit-two);
+                    fit-two = rw (z .base) at (r .fit-two);
+                  };
             }
 
   module _ {ks xs : List ℕ} (a : ℕ) (f : argumentFits Kind.Field a ≡ true) (p : 0 < s .owed) (r : TypeThen deep (paid s) ks xs) where
@@ -203,16 +223,42 @@ module _ (deep : ℕ) (s : Scan) where
 -- ---- the scan
 module _ (deep : ℕ) (s : Scan) (w : Within deep s) (ks xs : List ℕ) (x y z : Bool) where
   -- a node, from what the scan of the rest tells in each case
-  one-node : {k a : ℕ} (c : Children) → View k a c → argumentFits k a ≡ true → (x ≡ true → FieldsThen deep s ks xs) → (y ≡ true → TypeThen deep (wrapped s) ks xs) → (z ≡ true → FieldsThen deep (opened a s) ks xs) → after c x y z ≡ true → TypeThen deep s (k ∷ ks) (a ∷ xs)
+  one-node :
+      {k a : ℕ} (c : Children)
+      → View k a c
+      → argumentFits k a ≡ true
+      → (x ≡ true → FieldsThen deep s ks xs)
+      → (y ≡ true → TypeThen deep (wrapped s) ks xs)
+      → (z ≡ true → FieldsThen deep (opened a s) ks xs)
+      → after c x y z ≡ true
+      → TypeThen deep s (k ∷ ks) (a ∷ xs)
   unfolding kindsOf argsOf Ruled depth
   one-node no-child (is-leaf {k} {a} h) f X Y Z e =
       record { tree = leaf k a; kinds-left = ks; args-left = xs; kinds = refl; args = refl; ruled = (h, f); room = omega (arith, settled-within w); owed = X e }
   one-node under-list is-list f X Y Z e =
       let r = Y e in
-      record { tree = list (r .tree); kinds-left = r .kinds-left; args-left = r .args-left; kinds = ap (λ (l : List ℕ). Kind.List ∷ l) (r .kinds); args = ap (λ (l : List ℕ). 0 ∷ l) (r .args); ruled = r .ruled; room = omega (arith, wrapped-depth s); owed = unwrapped deep s (r .owed) }
+      record {
+        tree = list (r .tree);
+        kinds-left = r .kinds-left;
+        args-left = r .args-left;
+        kinds = ap (λ (l : List ℕ). Kind.List ∷ l) (r .kinds);
+        args = ap (λ (l : List ℕ). 0 ∷ l) (r .args);
+        ruled = r .ruled;
+        room = omega (arith, wrapped-depth s);
+        owed = unwrapped deep s (r .owed);
+      }
   one-node under-array (is-array {a}) f X Y Z e =
       let r = Y e in
-      record { tree = array a (r .tree); kinds-left = r .kinds-left; args-left = r .args-left; kinds = ap (λ (l : List ℕ). Kind.Array ∷ l) (r .kinds); args = ap (λ (l : List ℕ). a ∷ l) (r .args); ruled = r .ruled; room = omega (arith, wrapped-depth s); owed = unwrapped deep s (r .owed) }
+      record {
+        tree = array a (r .tree);
+        kinds-left = r .kinds-left;
+        args-left = r .args-left;
+        kinds = ap (λ (l : List ℕ). Kind.Array ∷ l) (r .kinds);
+        args = ap (λ (l : List ℕ). a ∷ l) (r .args);
+        ruled = r .ruled;
+        room = omega (arith, wrapped-depth s);
+        owed = unwrapped deep s (r .owed);
+      }
   one-node fields (is-struct {a}) f X Y Z e = one-struct deep s a f (settled-within w) (opens a s) (Z e)
   one-node no-type is-other f X Y Z e = absurd (let w : _≡_ {A = ℕ} 0 1 = cc in omega arith)
 
@@ -256,7 +302,11 @@ scanned deep ks xs e = go (type-then deep ks xs start (start-within deep) e)
         let one = no-field (f .one) (omega arith) in
         let two = no-field (f .two) (omega arith) in (
           r .tree,
-          record { kinds = r .kinds ∙ ap (λ (l : List ℕ). kindsOf (r .tree) ++ l) (f .kinds ∙ rw (one, two)) ∙ append-nil (kindsOf (r .tree)); args = r .args ∙ ap (λ (l : List ℕ). argsOf (r .tree) ++ l) (f .args ∙ rw (one, two)) ∙ append-nil (argsOf (r .tree)); ruled = r .ruled },
+          record {
+            kinds = r .kinds ∙ ap (λ (l : List ℕ). kindsOf (r .tree) ++ l) (f .kinds ∙ rw (one, two)) ∙ append-nil (kindsOf (r .tree));
+            args = r .args ∙ ap (λ (l : List ℕ). argsOf (r .tree) ++ l) (f .args ∙ rw (one, two)) ∙ append-nil (argsOf (r .tree));
+            ruled = r .ruled;
+          },
           omega (arith, settles start),
         )
 

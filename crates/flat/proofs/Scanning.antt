@@ -111,7 +111,14 @@ module _ {deep : ℕ} {ks xs : List ℕ} {at : ℕ} {s : Scan} (p : AtType deep 
 
     module _ (f : typeFits (getD ks at 0) (getD xs at 0) ≡ true) where
       pub past-leaf : getD ks at 0 < Kind.List → AtFields deep ks xs (at + 1) s
-      past-leaf l = record { even = p .even; here = omega arith; owed = omega arith; within = p .within; says = type-step ∙ after-leaf (getD ks at 0) (getD xs at 0) f _ _ _ l }
+      past-leaf l =
+          record {
+            even = p .even;
+            here = omega arith;
+            owed = omega arith;
+            within = p .within;
+            says = type-step ∙ after-leaf (getD ks at 0) (getD xs at 0) f _ _ _ l;
+          }
 
       -- under a List or an Array, in the state r
       module _ (l : Kind.List ≤ getD ks at 0) (u : getD ks at 0 < Kind.Struct) (r : Scan) (e : r ≡ wrapped s) where
@@ -146,7 +153,13 @@ module _ {deep : ℕ} {ks xs : List ℕ} {at : ℕ} {s : Scan} (p : AtType deep 
           pub past-struct : r .depth ≤ deep → AtFields deep ks xs (at + 1) r
           past-struct d =
               let o : Opened (getD xs at 0) s r = rw e (opens (getD xs at 0) s) in
-              record { even = p .even; here = omega arith; owed = omega (arith, few, opened-owed o); within = opened-within (p .within) o d; says = struct-step ∙ rw (le-leb (r .depth) deep d) }
+              record {
+                even = p .even;
+                here = omega arith;
+                owed = omega (arith, few, opened-owed o);
+                within = opened-within (p .within) o d;
+                says = struct-step ∙ rw (le-leb (r .depth) deep d);
+              }
 
           pub deep-struct : deep < r .depth → false ≡ scanType deep start ks xs
           deep-struct d = sym (struct-step ∙ rw (lt-leb (r .depth) deep d))
@@ -177,4 +190,10 @@ module _ {deep : ℕ} {ks xs : List ℕ} {at : ℕ} {s : Scan} (p : AtFields dee
 
       pub past-field : fieldFits (getD ks at 0) (getD xs at 0) ≡ true → (r : Scan) → r ≡ paid s → AtType deep ks xs (at + 1) r
       past-field f r e =
-          rw e (record { even = p .even; here = omega arith; owed = omega (arith, paid-owed s); within = paid-within (p .within); says = fields-step h ∙ rw (lt-ltb 0 (s .owed) (omega arith), f) })
+          rw e (record {
+            even = p .even;
+            here = omega arith;
+            owed = omega (arith, paid-owed s);
+            within = paid-within (p .within);
+            says = fields-step h ∙ rw (lt-ltb 0 (s .owed) (omega arith), f);
+          })

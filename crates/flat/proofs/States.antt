@@ -23,8 +23,12 @@ unfolding settled
 settles s = go (ltb (s .owed) (s .outer)) refl
   where
     go : (b : Bool) → ltb (s .owed) (s .outer) ≡ b → Settled s (cond b (record { owed = s .owed; outer = s .owed; base = s .base; depth = s .base }) s)
-    go true e = let h = ltb-true (s .owed) (s .outer) e in record { owed = refl; base = refl; outer = omega arith; inner = omega arith; stays = λ g. absurd (omega arith); back = λ g. refl }
-    go false e = let h = ltb-false (s .owed) (s .outer) e in record { owed = refl; base = refl; outer = h; inner = refl; stays = λ g. refl; back = λ g. absurd (omega arith) }
+    go true e =
+        let h = ltb-true (s .owed) (s .outer) e in
+        record { owed = refl; base = refl; outer = omega arith; inner = omega arith; stays = λ g. absurd (omega arith); back = λ g. refl }
+    go false e =
+        let h = ltb-false (s .owed) (s .outer) e in
+        record { owed = refl; base = refl; outer = h; inner = refl; stays = λ g. refl; back = λ g. absurd (omega arith) }
 
 -- under a List or an Array: the state is settled, one level deeper
 pub wrapped-depth : (s : Scan) → settled (wrapped s) .depth ≡ suc (settled s .depth)
@@ -40,7 +44,12 @@ pub opens : (m : ℕ) (s : Scan) → Opened m s (opened m s)
 unfolding opened
 opens m s = go (eqb (s .owed) 0) refl
   where
-    go : (b : Bool) → eqb (s .owed) 0 ≡ b → Opened m s (cond b (record { owed = m; outer = m; base = suc (suc (settled s .depth)); depth = suc (suc (settled s .depth)) }) (record { owed = s .owed + m; outer = settled s .outer; base = settled s .base; depth = suc (suc (settled s .depth)) }))
+    go :
+        (b : Bool)
+        → eqb (s .owed) 0 ≡ b
+        → Opened m s
+        (cond b (record { owed = m; outer = m; base = suc (suc (settled s .depth)); depth = suc (suc (settled s .depth)) })
+        (record { owed = s .owed + m; outer = settled s .outer; base = settled s .base; depth = suc (suc (settled s .depth)) }))
     go true e = outermost (eqb-true (s .owed) 0 e)
     go false e = inside
 

@@ -35,27 +35,57 @@ wrapped-requires : tie.Need-wrapped-requires Inv-loop μ-loop
 wrapped-requires c κs = within-more (c .before .before .before .before .before .before .before .loop .inv .within) (c .before .before .before .before .before .before .before .before .before .before .before .pre .2)
 
 returns-2 : tie.Need-returns-2 Inv-loop μ-loop
-returns-2 c = let f = c .before .before .before .before .before in deep-one (c .before .before .before .before .before .before .before .before .before .before .loop .inv) (c .before .before .before .before .before .before .before .before .before .loop-test .taken) (sym (f .before .type-fits .ensures) ∙ not-false _ (f .if1 .left)) (c .before .before .before .before .if2 .left) (c .before .before .before .if3 .taken) _ (c .before .before .wrapped .ensures) (c .if4 .taken)
+returns-2 c =
+    let f = c .before .before .before .before .before in
+    let l = f .before .before .before .before in
+    deep-one (l .before .loop .inv) (l .loop-test .taken) (sym (f .before .type-fits .ensures) ∙ not-false _ (f .if1 .left))
+    (c .before .before .before .before .if2 .left) (c .before .before .before .if3 .taken) _ (c .before .before .wrapped .ensures) (c .if4 .taken)
 
 loop-again : tie.Need-loop-again Inv-loop μ-loop
-loop-again c = let f = c .before .before .before .before .before in past-one (c .before .before .before .before .before .before .before .before .before .before .loop .inv) (c .before .before .before .before .before .before .before .before .before .loop-test .taken) (sym (f .before .type-fits .ensures) ∙ not-false _ (f .if1 .left)) (c .before .before .before .before .if2 .left) (c .before .before .before .if3 .taken) _ (c .before .before .wrapped .ensures) (c .if4 .left)
+loop-again c =
+    let f = c .before .before .before .before .before in
+    let l = f .before .before .before .before in
+    past-one (l .before .loop .inv) (l .loop-test .taken) (sym (f .before .type-fits .ensures) ∙ not-false _ (f .if1 .left))
+    (c .before .before .before .before .if2 .left) (c .before .before .before .if3 .taken) _ (c .before .before .wrapped .ensures) (c .if4 .left)
 
 opened-requires : tie.Need-opened-requires Inv-loop μ-loop
 opened-requires c κs =
     let f = c .before .before in
-    let room = struct-room (c .before .before .before .before .before .before .before .loop .inv) (c .before .before .before .before .before .before .loop-test .taken) (sym (f .before .type-fits .ensures) ∙ not-false _ (f .if1 .left)) (c .if3 .left) in
-    (within-more (c .before .before .before .before .before .before .before .loop .inv .within) (c .before .before .before .before .before .before .before .before .before .before .before .pre .2), omega arith)
+    let l = f .before .before .before .before in
+    let room = struct-room (l .before .loop .inv) (l .loop-test .taken) (sym (f .before .type-fits .ensures) ∙ not-false _ (f .if1 .left)) (c .if3 .left) in
+    (within-more (l .before .loop .inv .within) (l .before .before .before .before .before .pre .2), omega arith)
 
 returns-3 : tie.Need-returns-3 Inv-loop μ-loop
-returns-3 c = let f = c .before .before .before .before .before in deep-struct (c .before .before .before .before .before .before .before .before .before .before .loop .inv) (c .before .before .before .before .before .before .before .before .before .loop-test .taken) (sym (f .before .type-fits .ensures) ∙ not-false _ (f .if1 .left)) (c .before .before .before .if3 .left) _ (c .before .before .opened .ensures) (c .if5 .taken)
+returns-3 c =
+    let f = c .before .before .before .before .before in
+    let l = f .before .before .before .before in
+    deep-struct (l .before .loop .inv) (l .loop-test .taken) (sym (f .before .type-fits .ensures) ∙ not-false _ (f .if1 .left))
+    (c .before .before .before .if3 .left) _ (c .before .before .opened .ensures) (c .if5 .taken)
 
 -- past a leaf, or under a Struct
-met : (j : lts.Joined2 (start-reads.Asked, start-reads.Learnt, type-fits-reads.Asked, type-fits-reads.Learnt, wrapped-reads.Asked, wrapped-reads.Learnt, opened-reads.Asked, opened-reads.Learnt, field-fits-reads.Asked, field-fits-reads.Learnt, paid-reads.Asked, paid-reads.Learnt) reads.Pre reads.Post Inv-loop μ-loop) → AtFields (j .before .before .before .before .before .before .before .before .before .before .args .deep) (j .before .before .before .before .before .before .before .before .before .before .args .kinds .now) (j .before .before .before .before .before .before .before .before .before .before .args .args .now) (j .before .before .before .before .before .before .loop .at + 1) (j .if2 .s)
+met :
+    (j : lts.Joined2 (
+      start-reads.Asked,
+      start-reads.Learnt,
+      type-fits-reads.Asked,
+      type-fits-reads.Learnt,
+      wrapped-reads.Asked,
+      wrapped-reads.Learnt,
+      opened-reads.Asked,
+      opened-reads.Learnt,
+      field-fits-reads.Asked,
+      field-fits-reads.Learnt,
+      paid-reads.Asked,
+      paid-reads.Learnt,
+    ) reads.Pre reads.Post Inv-loop μ-loop)
+    → AtFields (j .before .before .before .before .before .before .before .before .before .before .args .deep) (j .before .before .before .before .before .before .before .before .before .before .args .kinds .now) (j .before .before .before .before .before .before .before .before .before .before .args .args .now) (j .before .before .before .before .before .before .loop .at + 1) (j .if2 .s)
 met j =
-    let p = j .before .before .before .before .before .before .loop .inv in
-    let h = j .before .before .before .before .before .loop-test .taken in
+    let l = j .before .before .before .before .before in
+    let p = l .before .loop .inv in
     let f = sym (j .before .before .type-fits .ensures) ∙ not-false _ (j .before .if1 .left) in
-    ⊎-elim (λ w. rw (w .1) (past-leaf p h f (w .0 .taken))) (λ w. rw (w .5) (past-struct p h f (w .1 .left) _ (w .2 .ensures) (w .4 .left))) (j .if2 .came)
+    ⊎-elim (λ w. rw (w .1) (past-leaf p (l .loop-test .taken) f (w .0 .taken)))
+    (λ w. rw (w .5) (past-struct p (l .loop-test .taken) f (w .1 .left) _ (w .2 .ensures) (w .4 .left)))
+    (j .if2 .came)
 
 returns-4 : tie.Need-returns-4 Inv-loop μ-loop
 returns-4 c = none-owed (met (c .before .before)) (c .if6 .taken)
