@@ -1,10 +1,9 @@
 -- What the calls reply that build an encoded type anew. Assumes nothing.
-use mathlib.Core.Path.{_≡_, refl, sym, ap, _∙_}
-use mathlib.Core.Bool.{Bool, true, false, cond, not, _&&_}
+use mathlib.Core.Path.{_≡_, sym, ap, _∙_}
+use mathlib.Core.Bool.{Bool, true, false, not, _&&_}
 use mathlib.Core.List.{List, [], _∷_}
 use Prim.Native.Nat.{ℕ, _+_, _-_, _≤_}
 use native.Mathlib.Omega.{arith}
-use lib.Dec.{eqb}
 use lib.ListN.{length, getD, take, drop, length-take}
 use Rattle.flat.specs.Tree.{DataType, leaf, size, headKind, kindsOf, argsOf}
 use Rattle.flat.specs.Reading.{Reading, refused, type, reading, checkedOf}
@@ -22,9 +21,9 @@ use Rattle.encoding.proofs.Plain.{PlainBytes}
 use Rattle.encoding.proofs.Opening.{Opened}
 use Rattle.datatypes.specs.Physical.{toPhysical, physicalLeaf}
 use Rattle.datatypes_build.specs.Build.{orUnknown, materialized, physical}
-use Rattle.datatypes_build.specs.Leaf.{materializedLeaf, leafOf, mapLeaves, keptArg, hasAny, Room, BuiltType}
+use Rattle.datatypes_build.specs.Leaf.{materializedLeaf, leafOf, mapLeaves, hasAny, Room, BuiltType}
 use Rattle.datatypes_build.specs.declared.leaf.Form.{Form}
-use Rattle.datatypes_build.proofs.Leaves.{leaf-is}
+use Rattle.datatypes_build.proofs.Leaves.{zero-is}
 use Rattle.datatypes_build.proofs.Forms.{noneIf, known-is, size-map}
 use Rattle.datatypes_build.proofs.Answers.{physical-type, known-none, known-type, front}
 use Rattle.capi.specs.Reply.{checkReply, bytesReply, EncodeReply}
@@ -93,20 +92,11 @@ module _ {w nodes deep n : ℕ} {s xs : List ℕ} (o : Opened w nodes deep n s x
     materialized-opened h = ap (materialized allow) (o .same) ∙ known-type nodes deep _ _ valid allow (sym e ∙ h)
 
 -- ---- one plain leaf
--- in any form its argument is 0
-zero-kept : (k new : ℕ) → keptArg k new 0 ≡ 0
-unfolding keptArg
-zero-kept k new = go (eqb new k)
-  where
-    go : (b : Bool) → cond b 0 0 ≡ 0
-    go true = refl
-    go false = refl
-
 pub plain-reply : (form : Form) (k : ℕ) {y w : ℕ} {out out′ : List ℕ} {d : Encoded} {a : Reply} → y ≡ headKind (leafOf form k 0) → Puts w (y ∷ []) (0 ∷ []) out out′ d → a ≡ bytesReply d
     → EncodeReply w (fittingBytes w (length out) (type (leafOf form k 0))) out out′ a
 unfolding kindsOf argsOf
 plain-reply form k {y} e p h =
-    let l : leafOf form k 0 ≡ leaf y 0 = leaf-is k 0 form ∙ rw (← e, zero-kept) in
+    let l : leafOf form k 0 ≡ leaf y 0 = zero-is form k ∙ rw (← e) in
     encode-reply (puts-type (leafOf form k 0) (sym (ap kindsOf l)) (sym (ap argsOf l)) p) h
 
 module _ {w nodes : ℕ} (deep : ℕ) {s : List ℕ} (p : PlainBytes w nodes s) where
@@ -117,7 +107,7 @@ module _ {w nodes : ℕ} (deep : ℕ) {s : List ℕ} (p : PlainBytes w nodes s) 
   module _ (allow : Bool) {b : Bool} (e : b ≡ (hasAny (take 1 (drop 2 s)) && not allow)) where
     by-any : materialized allow (decoding w nodes deep s) ≡ orUnknown (noneIf b (materializedLeaf (getD s 2 0) 0))
     unfolding materialized mapLeaves kindsOf
-    by-any = ap (materialized allow) (p .reads deep) ∙ ap orUnknown (known-is allow (leaf (getD s 2 0) 0) ∙ rw (e, kinds-part (p .sized), p .kinds))
+    by-any = rw (p .reads deep, known-is allow (leaf (getD s 2 0) 0), e, kinds-part (p .sized), p .kinds)
 
     pub plain-none : b ≡ true → materialized allow (decoding w nodes deep s) ≡ refused Unknown
     plain-none h = by-any ∙ rw h

@@ -31,8 +31,7 @@ use Rattle.datatypes_cast.specs.Walk.{answer, castAnswer}
 use Rattle.datatypes_cast.specs.Verdict.{verdict, castOf}
 use Rattle.datatypes_cast.specs.declared.Verdict.{Verdict}
 use Rattle.datatypes_cast.specs.declared.dtype.Cast.{Cast}
-use Rattle.datatypes_cast.proofs.Scans.{leaves-yes}
-use Rattle.datatypes_cast.proofs.Entry.{scanned}
+use Rattle.datatypes_cast.proofs.Scans.{leaves-yes, all-yes}
 use Rattle.capi.specs.Reply.{checkReply, answerReply, checkedEqual, verdictOf, verdictReply}
 use Rattle.capi.specs.Lent.{pairOf, OpensBoth, PairReply}
 use Rattle.capi.specs.declared.Reply.{Reply}
@@ -89,7 +88,7 @@ module _ {w nodes deep : ℕ} {s t xs ys xs′ ys′ : List ℕ} {a : Pair} (o :
 
     pub scan-reply : {b : Bool} {reply : Reply} → b ≡ allYes (take (2 + n - 2) (drop 2 s)) (take n xs′) (take (2 + m - 2) (drop 2 t)) (take m ys′) → b ≡ true → reply ≡ verdictReply Verdict.Yes
         → PairReply w nodes s t xs ys xs′ ys′ (verdictReply (castOf (decoding w nodes deep s) (decoding w nodes deep t))) reply
-    scan-reply e f h = record { replies = rw (left-opened .same, right-opened .same) (h ∙ ap verdictReply (scanned (left-opened .parts) (right-opened .parts) e f)); left = o .left; right = o .right }
+    scan-reply e f h = record { replies = rw (left-opened .reads, right-opened .reads, all-yes (left-opened .parts .form) (right-opened .parts .form) (sym e ∙ f)) h; left = o .left; right = o .right }
 
     pub cast-reply : (c : Cast) {reply : Reply} → c ≡ castAnswer (typeAt (take (2 + n - 2) (drop 2 s)) (take n xs′)) (typeAt (take (2 + m - 2) (drop 2 t)) (take m ys′)) → reply ≡ verdictReply (verdictOf c)
         → PairReply w nodes s t xs ys xs′ ys′ (verdictReply (castOf (decoding w nodes deep s) (decoding w nodes deep t))) reply
@@ -114,9 +113,9 @@ module _ {w nodes deep : ℕ} {s t xs ys xs′ ys′ : List ℕ} {a : Pair} (o :
       go (type t) (type u) p = absurd (let z : _≡_ {A = ℕ} 0 1 = cc in omega arith)
 
 -- ---- one check tells of two runs of bytes that are the same
-pub same-reply : {w nodes deep : ℕ} (s t : List ℕ) {b : Bool} {c : Checked} {reply : Reply} → b ≡ same s t → b ≡ true → c ≡ checkedOf (decoding w nodes deep s) → reply ≡ checkedEqual c
+pub same-reply : (w nodes deep : ℕ) (s t : List ℕ) {b : Bool} {c : Checked} {reply : Reply} → b ≡ same s t → b ≡ true → c ≡ checkedOf (decoding w nodes deep s) → reply ≡ checkedEqual c
     → reply ≡ answerReply (answersOf equal (decoding w nodes deep s) (decoding w nodes deep t))
-same-reply {w} {nodes} {deep} s t e f k h = rw (← same-lists s t (sym e ∙ f)) (h ∙ ap checkedEqual k ∙ itself (decoding w nodes deep s) refl)
+same-reply w nodes deep s t e f k h = rw (← same-lists s t (sym e ∙ f)) (h ∙ ap checkedEqual k ∙ itself (decoding w nodes deep s) refl)
   where
     itself : (r : Reading) → decoding w nodes deep s ≡ r → checkedEqual (checkedOf r) ≡ answerReply (answersOf equal r r)
     itself (refused d) q = refl

@@ -6,7 +6,7 @@ use Rattle.capi.proofs.pair.lz_equal.Statement.{statement}
 use Rattle.capi.proofs.pair.lz_equal.Tie as tie
 
 returns : tie.Need-returns
-returns c = same-reply _ _ (c .before .before .before .same-bytes .ensures) (c .before .before .if2 .taken) (c .before .check .ensures) (c .checked-equal .ensures)
+returns c = same-reply _ _ _ _ _ (c .before .before .before .same-bytes .ensures) (c .before .before .if2 .taken) (c .before .check .ensures) (c .checked-equal .ensures)
 
 equal-in-requires : tie.Need-equal-in-requires
 equal-in-requires c κs = few-both (c .before .before .before .both-few .ensures) (c .before .before .if3 .taken)
