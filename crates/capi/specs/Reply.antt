@@ -37,7 +37,7 @@ checkReply c = record { number = checkedNumber c; value = checkedValue c }
 abbrev pub answerReply : Answer → Reply
 answerReply a = record { number = answerNumber a; value = answerValue a }
 
--- whether a type is equal to itself: where there is one
+-- a type is equal to itself; what is no type is refused
 abbrev pub checkedEqual : Checked → Reply
 checkedEqual Checked.Valid = answerReply Answer.Yes
 checkedEqual (Checked.Refused e) = checkReply (Checked.Refused e)

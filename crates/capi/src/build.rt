@@ -44,13 +44,14 @@ fn put_form(
     bytes(encoding::put(&new_kinds[..n], &new_args[..n], out))
 }
 
-// A plain leaf in the given form, encoded: it needs no arrays.
+// A plain leaf in the given form, encoded: it needs no lent arrays.
 fn put_plain(form: Form, kind: u8, out: &mut [u8]) -> Reply
     ensures { λ r. do
       w ← ⟦Encoding::ARGUMENT_BYTES⟧ .entry
       ⌜ EncodeReply w (fittingBytes w (length (now (out .entry))) (type (leafOf form kind 0))) (now (out .entry)) (now (out .exit)) r ⌝ }
 {
-    let kinds = [kind_form(form, kind, 0)];
+    let new = kind_form(form, kind, 0);
+    let kinds = [new];
     let args = [0u64];
     bytes(encoding::put(&kinds, &args, out))
 }

@@ -92,7 +92,7 @@ fn equal_in(left: &[u8], right: &[u8], left_args: &mut [u64], right_args: &mut [
     }
 }
 
-// What a type is to itself, where a check finds one.
+// A type is equal to itself; what is no type is refused.
 fn checked_equal(c: Checked) -> Reply
     ensures { λ r. ⌜ r ≡ checkedEqual c ⌝ }
 {

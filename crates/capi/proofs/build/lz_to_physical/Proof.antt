@@ -9,7 +9,9 @@ use Rattle.capi.proofs.build.lz_to_physical.Statement.{statement}
 use Rattle.capi.proofs.build.lz_to_physical.Tie as tie
 
 returns : tie.Need-returns
-returns c = rw (plain-physical _ (plain-bytes (sym (c .before .before .before .before .before .before .is-plain .ensures) ∙ c .before .before .before .before .before .if1 .taken))) (c .before .before .put-plain .ensures)
+returns c =
+    let at = c .before .before .before .before .before in
+    rw (plain-physical _ (plain-bytes (sym (at .before .is-plain .ensures) ∙ at .if1 .taken))) (c .before .before .put-plain .ensures)
 
 physical-in-requires-2 : tie.Need-physical-in-requires-2
 physical-in-requires-2 c κs = record { args = nodes-few _ _ _; new-kinds = nodes-few _ _ _; new-args = nodes-few _ _ _ }

@@ -5,7 +5,9 @@ use Rattle.capi.proofs.build.put_plain.Statement.{statement}
 use Rattle.capi.proofs.build.put_plain.Tie as tie
 
 returns : tie.Need-returns
-returns c = plain-reply (c .before .before .before .before .before .before .before .before .before .args .form) _ (c .before .before .before .before .before .before .before .kind-form .ensures) (c .before .before .before .put .ensures) (c .bytes .ensures)
+returns c =
+    let at = c .before .before .before .before .before .before .before in
+    plain-reply (at .before .before .args .form) _ (at .kind-form .ensures) (c .before .before .before .put .ensures) (c .bytes .ensures)
 
 pub put-plain-spec : {M : Type 1} → statement M
 put-plain-spec =

@@ -17,16 +17,28 @@ right-fits : (c : tie.After-known-told) → Fits (c .before .n .given .0 .1 .0) 
 right-fits c = fits-of (right-opened (c .before .before .before .before .before .before .before .open-both .ensures) (c .before .n .given .1))
 
 all-yes-requires : tie.Need-all-yes-requires
-all-yes-requires c κs = let at = c .before .before .before .before in let o = at .before .before .before .before .before .before .before .open-both .ensures in let q = at .before .n .given .1 in (left-opened o q .parts .even, right-opened o q .parts .even)
+all-yes-requires c κs =
+    let at = c .before .before .before .before in
+    let o = at .before .before .before .before .before .before .before .open-both .ensures in
+    let q = at .before .n .given .1 in
+    (left-opened o q .parts .even, right-opened o q .parts .even)
 
 returns : tie.Need-returns
-returns c = let at = c .before .before .before .before .before .before .before in scan-reply (at .before .before .before .before .before .before .before .open-both .ensures) (at .before .n .given .1) (c .before .before .all-yes .ensures) (c .before .if1 .taken) (c .verdict-reply .ensures)
+returns c =
+    let at = c .before .before .before .before .before .before .before in
+    scan-reply (at .before .before .before .before .before .before .before .open-both .ensures) (at .before .n .given .1) (c .before .before .all-yes .ensures) (c .before .if1 .taken) (c .verdict-reply .ensures)
 
 node-cast-requires : tie.Need-node-cast-requires
-node-cast-requires c κs = let at = c .before .before .before .before .before .before in let o = at .before .before .before .before .before .before .before .open-both .ensures in let q = at .before .n .given .1 in (left-opened o q .parts .valid, right-opened o q .parts .valid)
+node-cast-requires c κs =
+    let at = c .before .before .before .before .before .before in
+    let o = at .before .before .before .before .before .before .before .open-both .ensures in
+    let q = at .before .n .given .1 in
+    (left-opened o q .parts .valid, right-opened o q .parts .valid)
 
 returns-2 : tie.Need-returns-2
-returns-2 c = let at = c .before .before .before .before .before .before .before .before .before in cast-reply (at .before .before .before .before .before .before .before .open-both .ensures) (at .before .n .given .1) _ (c .before .before .node-cast .ensures) (c .verdict-reply2 .ensures ∙ ap verdictReply (c .before .verdict .ensures))
+returns-2 c =
+    let at = c .before .before .before .before .before .before .before .before .before in
+    cast-reply (at .before .before .before .before .before .before .before .open-both .ensures) (at .before .n .given .1) _ (c .before .before .node-cast .ensures) (c .verdict-reply2 .ensures ∙ ap verdictReply (c .before .verdict .ensures))
 
 returns-3 : tie.Need-returns-3
 returns-3 c = pair-refused (c .before .before .before .before .before .before .before .before .open-both .ensures) (λ r q. verdictReply (castOf r q)) (λ e q. refl) (λ t e. refl) (c .before .before .e .given .1) (c .refusal .ensures)
