@@ -1,11 +1,11 @@
 -- What the calls reply that build an encoded type anew. Assumes nothing.
 use mathlib.Core.Path.{_≡_, sym, ap, _∙_}
 use mathlib.Core.Bool.{Bool, true, false, not, _&&_}
-use mathlib.Core.List.{List}
+use mathlib.Core.List.{List, [], _∷_}
 use Prim.Native.Nat.{ℕ, _+_, _-_, _≤_}
 use native.Mathlib.Omega.{arith}
-use lib.ListN.{length, take, drop, length-take}
-use Rattle.flat.specs.Tree.{DataType, size}
+use lib.ListN.{length, getD, take, drop, length-take}
+use Rattle.flat.specs.Tree.{DataType, leaf, size, headKind, kindsOf, argsOf}
 use Rattle.flat.specs.Reading.{Reading, refused, type, reading, checkedOf}
 use Rattle.flat.specs.Walk.{Valid, typeAt}
 use Rattle.flat.specs.Output.{kindsOver, argsOver}
@@ -14,17 +14,19 @@ use Rattle.flat.specs.declared.error.Error.{Error}
 use Rattle.flat.specs.declared.error.Error.the-variants.{Unknown}
 use Rattle.flat.proofs.Sizes.{length-kinds, length-args}
 use Rattle.encoding.specs.Encoding.{decoding}
-use Rattle.encoding.specs.Answer.{nodesIn, argsOpened, Puts}
+use Rattle.encoding.specs.Answer.{nodesIn, argsOpened, fittingBytes, Puts}
 use Rattle.encoding.specs.declared.Encoded.{Encoded}
-use Rattle.encoding.proofs.Answers.{nodes-sized, puts-type}
+use Rattle.encoding.proofs.Answers.{kinds-part, nodes-sized, puts-type}
+use Rattle.encoding.proofs.Plain.{PlainBytes}
 use Rattle.encoding.proofs.Opening.{Opened}
-use Rattle.datatypes.specs.Physical.{physicalLeaf}
-use Rattle.datatypes_build.specs.Build.{materialized, physical}
+use Rattle.datatypes.specs.Physical.{toPhysical, physicalLeaf}
+use Rattle.datatypes_build.specs.Build.{orUnknown, materialized, physical}
 use Rattle.datatypes_build.specs.Leaf.{materializedLeaf, leafOf, mapLeaves, hasAny, Room, BuiltType}
 use Rattle.datatypes_build.specs.declared.leaf.Form.{Form}
-use Rattle.datatypes_build.proofs.Forms.{size-map}
+use Rattle.datatypes_build.proofs.Leaves.{zero-is}
+use Rattle.datatypes_build.proofs.Forms.{noneIf, known-is, size-map}
 use Rattle.datatypes_build.proofs.Answers.{physical-type, known-none, known-type, front}
-use Rattle.capi.specs.Reply.{checkReply, bytesReply}
+use Rattle.capi.specs.Reply.{checkReply, bytesReply, EncodeReply}
 use Rattle.capi.specs.Lent.{RoomFor, FormReply, BuildReply}
 use Rattle.capi.specs.declared.Reply.{Reply}
 use Rattle.capi.proofs.Replies.{encode-reply, encode-refused}
@@ -88,3 +90,27 @@ module _ {w nodes deep n : ℕ} {s xs : List ℕ} (o : Opened w nodes deep n s x
 
     pub materialized-opened : b ≡ false → materialized allow (decoding w nodes deep s) ≡ type (mapLeaves materializedLeaf (typeAt (take (2 + n - 2) (drop 2 s)) (take n xs)))
     materialized-opened h = ap (materialized allow) (o .same) ∙ known-type nodes deep _ _ valid allow (sym e ∙ h)
+
+-- ---- one plain leaf
+pub plain-reply : (form : Form) (k : ℕ) {y w : ℕ} {out out′ : List ℕ} {d : Encoded} {a : Reply} → y ≡ headKind (leafOf form k 0) → Puts w (y ∷ []) (0 ∷ []) out out′ d → a ≡ bytesReply d
+    → EncodeReply w (fittingBytes w (length out) (type (leafOf form k 0))) out out′ a
+unfolding kindsOf argsOf
+plain-reply form k {y} e p h =
+    let l : leafOf form k 0 ≡ leaf y 0 = zero-is form k ∙ rw (← e) in
+    encode-reply (puts-type (leafOf form k 0) (sym (ap kindsOf l)) (sym (ap argsOf l)) p) h
+
+module _ {w nodes : ℕ} (deep : ℕ) {s : List ℕ} (p : PlainBytes w nodes s) where
+  pub plain-physical : physical (decoding w nodes deep s) ≡ type (physicalLeaf (getD s 2 0) 0)
+  unfolding physical toPhysical
+  plain-physical = ap physical (p .reads deep)
+
+  module _ (allow : Bool) {b : Bool} (e : b ≡ (hasAny (take 1 (drop 2 s)) && not allow)) where
+    by-any : materialized allow (decoding w nodes deep s) ≡ orUnknown (noneIf b (materializedLeaf (getD s 2 0) 0))
+    unfolding materialized mapLeaves kindsOf
+    by-any = rw (p .reads deep, known-is allow (leaf (getD s 2 0) 0), e, kinds-part (p .sized), p .kinds)
+
+    pub plain-none : b ≡ true → materialized allow (decoding w nodes deep s) ≡ refused Unknown
+    plain-none h = by-any ∙ rw h
+
+    pub plain-known : b ≡ false → materialized allow (decoding w nodes deep s) ≡ type (materializedLeaf (getD s 2 0) 0)
+    plain-known h = by-any ∙ rw h

@@ -7,27 +7,32 @@ use Prim.Native.Nat.{ℕ, _+_, _-_, _≤_}
 use native.Mathlib.Omega.{arith}
 use borrow.Author.Tests.{leb-true}
 use lib.Dec.{leb}
-use lib.ListN.{take, drop}
+use lib.ListN.{getD, take, drop}
 use Rattle.flat.specs.Tree.{DataType, size}
-use Rattle.flat.specs.Reading.{Reading, refused, type}
+use Rattle.flat.specs.Reading.{Reading, refused, type, checkedOf}
 use Rattle.flat.specs.Walk.{typeAt}
 use Rattle.flat.specs.Output.{writtenOf}
 use Rattle.flat.specs.declared.Checked.{Checked}
 use Rattle.flat.specs.declared.Written.{Written}
 use Rattle.flat.specs.declared.error.Error.{Error}
-use Rattle.encoding.specs.Encoding.{decoding}
+use Rattle.encoding.specs.Encoding.{kindsIn, argsIn, decoding}
 use Rattle.encoding.specs.Answer.{Opens}
+use Rattle.encoding.proofs.Answers.{decoded-holds}
+use Rattle.encoding.proofs.Plain.{PlainBytes}
 use Rattle.encoding.proofs.Opening.{Opened, opened, unopened, written-type}
 use Rattle.datatypes.specs.Cast.{canCastTo}
 use Rattle.datatypes.specs.Equality.{equal}
 use Rattle.datatypes.specs.Recursive.{containsDtypeRecursive}
 use Rattle.datatypes.specs.Answer.{yesNo, answersOf}
-use Rattle.datatypes_eq.specs.Nodes.{startsWith, occurs}
-use Rattle.datatypes_eq.proofs.Scans.{starts-equal, occurs-contains}
+use Rattle.datatypes_eq.specs.Nodes.{same, startsWith, occurs}
+use Rattle.datatypes_eq.proofs.Scans.{same-lists, starts-self, starts-equal, occurs-contains}
+use Rattle.datatypes_cast.specs.Scan.{nodeYes, allYes}
 use Rattle.datatypes_cast.specs.Walk.{answer, castAnswer}
 use Rattle.datatypes_cast.specs.Verdict.{verdict, castOf}
+use Rattle.datatypes_cast.specs.declared.Verdict.{Verdict}
 use Rattle.datatypes_cast.specs.declared.dtype.Cast.{Cast}
-use Rattle.capi.specs.Reply.{checkReply, answerReply, verdictOf, verdictReply}
+use Rattle.datatypes_cast.proofs.Scans.{leaves-yes, all-yes}
+use Rattle.capi.specs.Reply.{checkReply, answerReply, checkedEqual, verdictOf, verdictReply}
 use Rattle.capi.specs.Lent.{pairOf, OpensBoth, PairReply}
 use Rattle.capi.specs.declared.Reply.{Reply}
 use Rattle.capi.specs.declared.pair.Pair.{Pair}
@@ -81,6 +86,10 @@ module _ {w nodes deep : ℕ} {s t xs ys xs′ ys′ : List ℕ} {a : Pair} (o :
         → PairReply w nodes s t xs ys xs′ ys′ (answerReply (answersOf containsDtypeRecursive (decoding w nodes deep s) (decoding w nodes deep t))) reply
     contains-reply e h = answers-reply containsDtypeRecursive (e ∙ occurs-contains (left-opened .parts .form) (right-opened .parts .form)) h
 
+    pub scan-reply : {b : Bool} {reply : Reply} → b ≡ allYes (take (2 + n - 2) (drop 2 s)) (take n xs′) (take (2 + m - 2) (drop 2 t)) (take m ys′) → b ≡ true → reply ≡ verdictReply Verdict.Yes
+        → PairReply w nodes s t xs ys xs′ ys′ (verdictReply (castOf (decoding w nodes deep s) (decoding w nodes deep t))) reply
+    scan-reply e f h = record { replies = rw (left-opened .reads, right-opened .reads, all-yes (left-opened .parts .form) (right-opened .parts .form) (sym e ∙ f)) h; left = o .left; right = o .right }
+
     pub cast-reply : (c : Cast) {reply : Reply} → c ≡ castAnswer (typeAt (take (2 + n - 2) (drop 2 s)) (take n xs′)) (typeAt (take (2 + m - 2) (drop 2 t)) (take m ys′)) → reply ≡ verdictReply (verdictOf c)
         → PairReply w nodes s t xs ys xs′ ys′ (verdictReply (castOf (decoding w nodes deep s) (decoding w nodes deep t))) reply
     unfolding castAnswer
@@ -102,6 +111,19 @@ module _ {w nodes deep : ℕ} {s t xs ys xs′ ys′ : List ℕ} {a : Pair} (o :
       go (refused d) y p = let z : e ≡ d = cc in rw z (l d y)
       go (type t) (refused d) p = let z : e ≡ d = cc in rw z (r t d)
       go (type t) (type u) p = absurd (let z : _≡_ {A = ℕ} 0 1 = cc in omega arith)
+
+-- ---- one check tells of two runs of bytes that are the same
+pub same-reply : (w nodes deep : ℕ) (s t : List ℕ) {b : Bool} {c : Checked} {reply : Reply} → b ≡ same s t → b ≡ true → c ≡ checkedOf (decoding w nodes deep s) → reply ≡ checkedEqual c
+    → reply ≡ answerReply (answersOf equal (decoding w nodes deep s) (decoding w nodes deep t))
+same-reply w nodes deep s t e f k h = rw (← same-lists s t (sym e ∙ f)) (h ∙ ap checkedEqual k ∙ itself (decoding w nodes deep s) refl)
+  where
+    itself : (r : Reading) → decoding w nodes deep s ≡ r → checkedEqual (checkedOf r) ≡ answerReply (answersOf equal r r)
+    itself (refused d) q = refl
+    itself (type u) q = let v = decoded-holds w nodes deep s u q in ap (λ (x : Bool). answerReply (yesNo x)) (sym (starts-self (kindsIn s) (argsIn w s)) ∙ starts-equal v v)
+
+-- ---- two plain leaves that say yes
+pub plain-cast : {w nodes : ℕ} (deep : ℕ) {s t : List ℕ} → PlainBytes w nodes s → PlainBytes w nodes t → nodeYes (getD s 2 0) 0 (getD t 2 0) 0 ≡ true → Verdict.Yes ≡ castOf (decoding w nodes deep s) (decoding w nodes deep t)
+plain-cast deep p q e = rw (p .reads deep, q .reads deep, leaves-yes _ 0 _ 0 (p .low) e)
 
 -- both have few nodes
 pub few-both : {n m few : ℕ} {b : Bool} → b ≡ (leb n few && leb m few) → b ≡ true → (n ≤ few) × (m ≤ few)

@@ -7,7 +7,7 @@ use Prim.Native.Nat.{ℕ, _+_, _-_, _≤_, _<_}
 use native.Mathlib.Omega.{arith}
 use lib.ListN.{length, take, drop}
 use lib.Seq.{length-take-le}
-use Rattle.flat.specs.Tree.{DataType}
+use Rattle.flat.specs.Tree.{DataType, size}
 use Rattle.flat.specs.Reading.{Reading, refused, checkedOf}
 use Rattle.flat.specs.declared.error.Error.{Error}
 use Rattle.flat.specs.declared.Checked.{Checked}
@@ -19,7 +19,8 @@ use Rattle.flat.specs.Output.{writtenOf, Writes}
 use Rattle.encoding.specs.declared.Encoded.{Encoded}
 use Rattle.encoding.proofs.Laws.{size-parts}
 use Rattle.encoding.proofs.Opening.{Opened, written-refused}
-use Rattle.encoding.proofs.Answers.{Sized, kinds-part, decoding-sized, EncodedForm}
+use Rattle.encoding.proofs.Answers.{Sized, kinds-part, decoding-sized, EncodedForm, type-form}
+use Rattle.encoding.proofs.Plain.{PlainBytes}
 use Rattle.datatypes.specs.Predicates.{predicateOf, toldBy}
 use Rattle.datatypes.specs.Answer.{yesNo, answerOf}
 use Rattle.datatypes.specs.declared.predicate.Predicate.{Predicate}
@@ -69,6 +70,11 @@ answer-refused p q h = h ∙ ap (λ (r : Reading). answerReply (answerOf p r)) (
 
 pub answer-unwritten : (p : DataType → Bool) (r : Reading) {e : Error} {d : Written} {a : Reply} → d ≡ Written.Refused e → d ≡ writtenOf r → a ≡ checkReply (Checked.Refused e) → a ≡ answerReply (answerOf p r)
 answer-unwritten p r q f h = answer-refused p (written-refused r (sym q ∙ f)) h
+
+-- one plain leaf is a type of one node
+pub plain-form : {w nodes : ℕ} (deep : ℕ) {s : List ℕ} → PlainBytes w nodes s → EncodedForm w nodes deep 1 s
+unfolding size
+plain-form deep p = type-form _ (p .reads deep)
 
 -- by the kinds that stand in the bytes
 module _ {w nodes deep n : ℕ} {s : List ℕ} (f : EncodedForm w nodes deep n s) where

@@ -37,6 +37,11 @@ checkReply c = record { number = checkedNumber c; value = checkedValue c }
 abbrev pub answerReply : Answer → Reply
 answerReply a = record { number = answerNumber a; value = answerValue a }
 
+-- a type is equal to itself; what is no type is refused
+abbrev pub checkedEqual : Checked → Reply
+checkedEqual Checked.Valid = answerReply Answer.Yes
+checkedEqual (Checked.Refused e) = checkReply (Checked.Refused e)
+
 -- yes, no or no verdict
 abbrev pub verdictReply : Verdict → Reply
 verdictReply v = record { number = verdictNumber v; value = verdictValue v }

@@ -18,6 +18,7 @@ use crate::refusal;
 use datatypes_build::any_refused;
 use datatypes_build::dtype::node_form;
 use datatypes_build::leaf::Form;
+use datatypes_build::leaf::kind_form;
 use encoding::Encoding;
 use flat::Flat;
 use flat::Written;
@@ -41,6 +42,18 @@ fn put_form(
 {
     let n = node_form(form, kinds, args, new_kinds, new_args);
     bytes(encoding::put(&new_kinds[..n], &new_args[..n], out))
+}
+
+// A plain leaf in the given form, encoded: it needs no lent arrays.
+fn put_plain(form: Form, kind: u8, out: &mut [u8]) -> Reply
+    ensures { λ r. do
+      w ← ⟦Encoding::ARGUMENT_BYTES⟧ .entry
+      ⌜ EncodeReply w (fittingBytes w (length (now (out .entry))) (type (leafOf form kind 0))) (now (out .entry)) (now (out .exit)) r ⌝ }
+{
+    let new = kind_form(form, kind, 0);
+    let kinds = [new];
+    let args = [0u64];
+    bytes(encoding::put(&kinds, &args, out))
 }
 
 fn materialized_in(
@@ -90,6 +103,12 @@ pub extern "C" fn lz_materialize_unknown(encoded: &[u8], allow_unknown: u8, out:
       ⌜ EncodeReply w (fittingBytes w (length (now (out .entry))) (materialized (not (eqb «allow_unknown» 0)) (decoding w nodes deep (now (encoded .entry))))) (now (out .entry)) (now (out .exit)) r ⌝ }
 {
     let allow = allow_unknown != 0;
+    if encoding::is_plain(encoded) {
+        if any_refused(&encoded[2..3], allow) {
+            return refusal(Error::Unknown);
+        }
+        return put_plain(Form::Materialized, encoded[2], out);
+    }
     if encoding::node_count(encoded) <= Encoding::FEW {
         let mut args = [0u64; Encoding::FEW];
         let mut new_kinds = [0u8; Encoding::FEW];
@@ -155,6 +174,9 @@ pub extern "C" fn lz_to_physical(encoded: &[u8], out: &mut [u8]) -> Reply
       w ← ⟦Encoding::ARGUMENT_BYTES⟧ .entry
       ⌜ EncodeReply w (fittingBytes w (length (now (out .entry))) (physical (decoding w nodes deep (now (encoded .entry))))) (now (out .entry)) (now (out .exit)) r ⌝ }
 {
+    if encoding::is_plain(encoded) {
+        return put_plain(Form::Physical, encoded[2], out);
+    }
     if encoding::node_count(encoded) <= Encoding::FEW {
         let mut args = [0u64; Encoding::FEW];
         let mut new_kinds = [0u8; Encoding::FEW];

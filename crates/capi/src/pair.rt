@@ -10,7 +10,7 @@ ghost use Rattle.datatypes.specs.Equality.{equal};
 ghost use Rattle.datatypes.specs.Recursive.{containsDtypeRecursive};
 ghost use Rattle.datatypes.specs.Answer.{answersOf};
 ghost use Rattle.datatypes_cast.specs.Verdict.{castOf};
-ghost use Rattle.capi.specs.Reply.{answerReply, verdictOf, verdictReply};
+ghost use Rattle.capi.specs.Reply.{answerReply, checkedEqual, verdictOf, verdictReply};
 ghost use Rattle.capi.specs.Lent.{OpensBoth, PairReply};
 use crate::Reply;
 use crate::refusal;
@@ -19,8 +19,11 @@ use crate::yes_no;
 use datatypes_cast::Verdict;
 use datatypes_cast::dtype::Cast;
 use datatypes_cast::dtype::node_cast;
+use datatypes_cast::scan::all_yes;
+use datatypes_cast::scan::node_yes;
 use datatypes_eq::nodes;
 use encoding::Encoding;
+use flat::Checked;
 use flat::Flat;
 use flat::Written;
 use flat::error::Error;
@@ -89,6 +92,16 @@ fn equal_in(left: &[u8], right: &[u8], left_args: &mut [u64], right_args: &mut [
     }
 }
 
+// A type is equal to itself; what is no type is refused.
+fn checked_equal(c: Checked) -> Reply
+    ensures { λ r. ⌜ r ≡ checkedEqual c ⌝ }
+{
+    match c {
+        Checked::Valid => yes_no(true),
+        Checked::Refused(e) => refusal(e),
+    }
+}
+
 // Whether two types are equal. `Unknown(Int(_))` are, whatever they hold; field names count.
 #[no_mangle]
 pub extern "C" fn lz_equal(left: &[u8], right: &[u8]) -> Reply
@@ -98,6 +111,12 @@ pub extern "C" fn lz_equal(left: &[u8], right: &[u8]) -> Reply
       w ← ⟦Encoding::ARGUMENT_BYTES⟧ .entry
       ⌜ r ≡ answerReply (answersOf equal (decoding w nodes deep (now (left .entry))) (decoding w nodes deep (now (right .entry)))) ⌝ }
 {
+    // equal bytes are one type, and one check tells of both
+    if left.len() == right.len() {
+        if nodes::same_bytes(left, right) {
+            return checked_equal(encoding::check(left));
+        }
+    }
     if both_few(left, right) {
         let mut left_args = [0u64; Encoding::FEW];
         let mut right_args = [0u64; Encoding::FEW];
@@ -176,12 +195,16 @@ fn can_cast_to_in(left: &[u8], right: &[u8], left_args: &mut [u64], right_args: 
       ⌜ PairReply w nodes (now (left .entry)) (now (right .entry)) (now («left_args» .entry)) (now («right_args» .entry)) (now («left_args» .exit)) (now («right_args» .exit)) (verdictReply (castOf (decoding w nodes deep (now (left .entry))) (decoding w nodes deep (now (right .entry))))) r ⌝ }
 {
     match open_both(left, right, left_args, right_args) {
-        Pair::Nodes(n, m) => verdict_reply(verdict(node_cast(
-            &left[2..2 + n],
-            &left_args[..n],
-            &right[2..2 + m],
-            &right_args[..m],
-        ))),
+        Pair::Nodes(n, m) => {
+            let ks = &left[2..2 + n];
+            let xs = &left_args[..n];
+            let ls = &right[2..2 + m];
+            let ys = &right_args[..m];
+            if all_yes(ks, xs, ls, ys) {
+                return verdict_reply(Verdict::Yes);
+            }
+            verdict_reply(verdict(node_cast(ks, xs, ls, ys)))
+        }
         Pair::Refused(e) => refusal(e),
     }
 }
@@ -195,6 +218,14 @@ pub extern "C" fn lz_can_cast_to(left: &[u8], right: &[u8]) -> Reply
       w ← ⟦Encoding::ARGUMENT_BYTES⟧ .entry
       ⌜ r ≡ verdictReply (castOf (decoding w nodes deep (now (left .entry))) (decoding w nodes deep (now (right .entry)))) ⌝ }
 {
+    // two plain leaves that say yes
+    if encoding::is_plain(left) {
+        if encoding::is_plain(right) {
+            if node_yes(left[2], 0, right[2], 0) {
+                return verdict_reply(Verdict::Yes);
+            }
+        }
+    }
     if both_few(left, right) {
         let mut left_args = [0u64; Encoding::FEW];
         let mut right_args = [0u64; Encoding::FEW];

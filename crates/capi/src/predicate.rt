@@ -39,7 +39,10 @@ fn reply(p: Predicate, encoded: &[u8]) -> Reply
       w ← ⟦Encoding::ARGUMENT_BYTES⟧ .entry
       ⌜ r ≡ answerReply (answerOf (predicateOf p) (decoding w nodes deep (now (encoded .entry)))) ⌝ }
 {
-    match nodes(encoded) {
+    if encoding::is_plain(encoded) {
+        return yes_no(told_by(p, &encoded[2..3]));
+    }
+    match nodes(&encoded[0..]) {
         Written::Nodes(n) => yes_no(told_by(p, &encoded[2..2 + n])),
         Written::Refused(e) => refusal(e),
     }

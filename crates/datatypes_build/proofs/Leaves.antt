@@ -120,3 +120,12 @@ module _ (k a : ℕ) where
   pub leaf-depth : (form : Form) → depth (leafOf form k a) ≡ 0
   unfolding depth
   leaf-depth form = ap depth (leaf-is form)
+
+-- the argument 0 stays, whatever becomes of the kind
+pub zero-is : (form : Form) (k : ℕ) → leafOf form k 0 ≡ leaf (headKind (leafOf form k 0)) 0
+unfolding keptArg
+zero-is form k = leaf-is k 0 form ∙ ap (leaf (headKind (leafOf form k 0))) (go (eqb (headKind (leafOf form k 0)) k))
+  where
+    go : (b : Bool) → _≡_ {A = ℕ} (cond b 0 0) 0
+    go true = refl
+    go false = refl

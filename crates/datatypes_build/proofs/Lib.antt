@@ -1,5 +1,5 @@
 -- The laws of the types that are built anew. Those that other crates' proofs cite are `pub`.
-mod Leaves
+pub mod Leaves
 pub mod Forms
 mod Writes
 mod Builds

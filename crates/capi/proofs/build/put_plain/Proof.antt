@@ -1,0 +1,15 @@
+-- `capi::build::put_plain` meets its contract. Assumes nothing.
+use borrow.Author.Needs.{needs}
+use Rattle.capi.proofs.Builds.{plain-reply}
+use Rattle.capi.proofs.build.put_plain.Statement.{statement}
+use Rattle.capi.proofs.build.put_plain.Tie as tie
+
+returns : tie.Need-returns
+returns c =
+    let at = c .before .before .before .before .before .before .before in
+    plain-reply (at .before .before .args .form) _ (at .kind-form .ensures) (c .before .before .before .put .ensures) (c .bytes .ensures)
+
+pub put-plain-spec : {M : Type 1} → statement M
+put-plain-spec =
+    tie.close
+    (tie.spec (λ c κs. search needs) (λ c. search needs) (λ c. search needs) (λ c κs. search needs) (λ c κs. search needs) (λ c. search needs) returns)
