@@ -1,14 +1,12 @@
 -- The root of a type, as a check gives it, and what it tells of a reading. Assumes nothing.
 use mathlib.Core.Path.{_≡_, refl, sym, ap, ap₂, subst, _∙_}
-use mathlib.Core.Bool.{true, and-eq-true-iff}
-use mathlib.Core.List.{List, [], _∷_}
+use mathlib.Core.Bool.{true}
+use mathlib.Core.List.{List}
 use Prim.Native.Nat.{ℕ, _≤_, _<_}
 use native.Mathlib.Omega.{arith}
-use borrow.Author.Tests.{leb-true}
-use lib.Dec.{leb}
 use lib.ListN.{length, getD}
 use Rattle.flat.specs.Kind
-use Rattle.flat.specs.Argument.{ruleOf, argumentFits, leafFits}
+use Rattle.flat.specs.Argument.{ruleOf, argumentFits}
 use Rattle.flat.specs.Tree.{DataType, leaf, list, array, struct, headKind, headArg}
 use Rattle.flat.specs.Reading.{Reading, reading, checkedOf, rootOf, RootFits, Ruled}
 use Rattle.flat.specs.declared.error.Error.{Error}
@@ -16,7 +14,7 @@ use Rattle.flat.specs.declared.Checked.{Checked}
 use Rattle.flat.specs.declared.Root.{Root}
 use Rattle.flat.proofs.Sizes.{size-pos}
 use Rattle.flat.proofs.Meaning.{Passed, checked-refused, root-kind, root-arg}
-use Rattle.flat.proofs.Plain.{leaf-type, PlainType}
+use Rattle.flat.proofs.Plain.{PlainType}
 
 root-ruled : (t : DataType) → Ruled t → (headKind t ≤ Kind.Struct) × (argumentFits (headKind t) (headArg t) ≡ true)
 unfolding Ruled headKind headArg argumentFits ruleOf
@@ -34,14 +32,6 @@ module _ {nodes deep : ℕ} {ks xs : List ℕ} (p : Passed nodes deep ks xs) whe
 
   pub some-node : (0 < length ks) × (0 < length xs)
   some-node = let h = size-pos (p .tree) in (omega (arith, h, p .whole), omega (arith, h, p .whole, p .even))
-
--- one node that is a type
-pub leaf-root : (nodes deep k a : ℕ) → 1 ≤ nodes → leafFits k a ≡ true → (Root.Node k a ≡ rootOf (reading nodes deep (k ∷ []) (a ∷ []))) × RootFits (Root.Node k a)
-unfolding headKind headArg
-leaf-root nodes deep k a h e =
-    let both = and-eq-true-iff (leb k Kind.UnknownIntNeg) (argumentFits k a) .0 e in
-    let low = leb-true k Kind.UnknownIntNeg (both .0) in
-    (ap rootOf (sym (leaf-type nodes deep k a h (omega arith) (both .1))), (omega arith, both .1))
 
 -- one plain leaf
 pub plain-root : {nodes deep : ℕ} {ks xs : List ℕ} → PlainType nodes deep ks xs → (Root.Node (getD ks 0 0) 0 ≡ rootOf (reading nodes deep ks xs)) × RootFits (Root.Node (getD ks 0 0) 0)
