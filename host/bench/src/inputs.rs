@@ -54,7 +54,9 @@ fn schema(size: usize) -> Flat {
         // A field has two nodes at least, so one may not be left over.
         let taken = 1 + field_type.len();
         if taken == left || taken + 2 <= left {
-            add_field(&mut flat, field_type);
+            flat.push(FIELD, flat.args[0]);
+            flat.extend(&Flat::new(field_type));
+            flat.args[0] += 1;
         }
     }
     flat
@@ -62,15 +64,6 @@ fn schema(size: usize) -> Flat {
 
 /// A Struct of so many fields, the leaves of a schema in turn.
 fn struct_of_leaves(fields: usize) -> Flat {
-    let mut flat = Flat::new(&[(STRUCT, 0)]);
     let leaves = FIELD_TYPES.into_iter().filter(|field_type| field_type.len() == 1);
-    leaves.cycle().take(fields).for_each(|leaf| add_field(&mut flat, leaf));
-    flat
-}
-
-/// Adds a field to a Struct.
-fn add_field(flat: &mut Flat, field_type: &[(u8, u64)]) {
-    flat.push(FIELD, flat.args[0]);
-    flat.extend(&Flat::new(field_type));
-    flat.args[0] += 1;
+    Flat::fields(leaves.map(Flat::new).collect::<Vec<Flat>>().iter().cycle().take(fields))
 }

@@ -9,41 +9,21 @@ use trials::flat::Flat;
 
 const SAFE_CRATE: &str = include_str!("../../../lomzegash/src/lib.rs");
 
-type Node = (u8, u64);
-
-/// These nodes so many times over, and then a type.
-fn repeated(nodes: &[Node], times: usize, inner: &Flat) -> Flat {
-    let mut flat = Flat::new(&nodes.repeat(times));
-    flat.extend(inner);
-    flat
-}
-
-/// A Struct of these types.
-fn fields<'a>(types: impl IntoIterator<Item = &'a Flat>) -> Flat {
-    let mut flat = Flat::new(&[(STRUCT, 0)]);
-    for dtype in types {
-        flat.push(FIELD, flat.args[0]);
-        flat.extend(dtype);
-        flat.args[0] += 1;
-    }
-    flat
-}
-
 /// Types of 512 nodes or of depth 32, or near both.
 fn types() -> Vec<Flat> {
     let leaf = Flat::int8();
     let (deepest, deep) = (Flat::structs(16, &leaf), Flat::structs(15, &leaf));
-    let largest = repeated(&[(LIST, 0)], 1, &Flat::wide_struct(255));
+    let largest = Flat::repeated(&[(LIST, 0)], 1, &Flat::wide_struct(255));
     let mut types = vec![
         Flat::lists(32),
-        repeated(&[(ARRAY, 9)], 32, &leaf),
+        Flat::repeated(&[(ARRAY, 9)], 32, &leaf),
         Flat::structs(16, &Flat::wide_struct(0)),
         Flat::structs(15, &Flat::lists(2)),
-        repeated(&[(LIST, 0), (STRUCT, 1), (FIELD, 0)], 10, &Flat::lists(2)),
-        fields([&deep; 15]),
-        fields([&leaf; 224].into_iter().chain([&deep])),
-        fields([&deep].into_iter().chain([&leaf; 224])),
-        fields([&Flat::lists(30); 15]),
+        Flat::repeated(&[(LIST, 0), (STRUCT, 1), (FIELD, 0)], 10, &Flat::lists(2)),
+        Flat::fields([&deep; 15]),
+        Flat::fields([&leaf; 224].into_iter().chain([&deep])),
+        Flat::fields([&deep].into_iter().chain([&leaf; 224])),
+        Flat::fields([&Flat::lists(30); 15]),
         leaf.clone(),
     ];
     // The same with leaves that casts, materialising and the physical form change.
@@ -62,13 +42,13 @@ fn no_types() -> Vec<Flat> {
         nested.clone(),
         Flat::lists(511),
         Flat::structs(256, &none),
-        repeated(&[(LIST, 0)], 512, &none),
-        repeated(&[(STRUCT, 255)], 512, &none),
-        repeated(&[(STRUCT, 255), (FIELD, 0)], 256, &none),
-        repeated(&[(STRUCT, 2), (FIELD, 0)], 255, &Flat::lists(1)),
-        repeated(&[(LIST, 0), (STRUCT, 1), (FIELD, 0)], 170, &Flat::lists(1)),
-        repeated(&[(FIELD, 0)], 512, &none),
-        repeated(&[(INT8, 0)], 512, &none),
+        Flat::repeated(&[(LIST, 0)], 512, &none),
+        Flat::repeated(&[(STRUCT, 255)], 512, &none),
+        Flat::repeated(&[(STRUCT, 255), (FIELD, 0)], 256, &none),
+        Flat::repeated(&[(STRUCT, 2), (FIELD, 0)], 255, &Flat::lists(1)),
+        Flat::repeated(&[(LIST, 0), (STRUCT, 1), (FIELD, 0)], 170, &Flat::lists(1)),
+        Flat::repeated(&[(FIELD, 0)], 512, &none),
+        Flat::repeated(&[(INT8, 0)], 512, &none),
     ];
     for flat in [&types()[0], &types()[5], &types()[6], &nested] {
         for (kind, arg) in [(FIELD, 0), (FIELD + 1, 0), (INT8, 1), (LIST, 0)] {
