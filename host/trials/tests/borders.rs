@@ -200,10 +200,19 @@ fn one_field_too_many_or_too_few() -> Cases {
     cases
 }
 
-/// Of about 20 and 500 nodes: no type in a field, a second one, a List over nothing, and a type where a field is due.
+/// Of about 20 and 500 nodes: no type in a field, a second one, a List over nothing, a field in a type's place, also with the
+/// argument of a Struct, and a type in a field's place.
 fn nodes_too_many_or_too_few_in_a_field() -> Cases {
     let mut cases = vec![];
-    let types = [&[][..], &[(INT8, 0), (INT8, 0)], &[(LIST, 0)], &[(STRUCT, 1), (FIELD, 0)], &[(FIELD, 0), (INT8, 0)]];
+    let types: [&[(u8, u64)]; 7] = [
+        &[],
+        &[(INT8, 0), (INT8, 0)],
+        &[(LIST, 0)],
+        &[(STRUCT, 1), (FIELD, 0)],
+        &[(FIELD, 0)],
+        &[(FIELD, 0), (INT8, 0)],
+        &[(FIELD, 1), (FIELD, 0), (INT8, 0)],
+    ];
     for (fields, at) in places([9, 249]) {
         cases.extend(types.map(|nodes| (4, wide(fields, at, &Flat::new(nodes)))));
         let mut no_field = wide(fields, at, &Flat::int8());
