@@ -92,6 +92,7 @@ fn no_call_needs_more_stack_than_is_said() {
     for (name, bytes) in &of_all {
         println!("{name} needs {bytes} bytes of stack, {} where it is given types", of_types[name]);
     }
+    assert_eq!(of_all, of_types, "what is no type needs no more than a type");
     let most = of_all.values().copied().max().expect("there are functions");
     let bound = stated(HEADER);
     assert_eq!(stated(SAFE_CRATE), bound, "the safe crate says the same");
