@@ -9,7 +9,8 @@
  * Every array passes as a pointer and its number of elements, but for the codes of the
  * channels, which are always LZ_CHANNELS. An array of length 0 may have any pointer, null
  * included. An output never overlaps an input or another output. No function keeps a
- * pointer, allocates or has state of its own.
+ * pointer, allocates or has state of its own. No call needs more than 16384 bytes of stack,
+ * whatever the arrays say.
  */
 #ifndef LOMZEGASH_H
 #define LOMZEGASH_H

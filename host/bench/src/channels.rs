@@ -1,13 +1,13 @@
-//! Merges of columns into channels, in each form, beside plain Rust of the same rule.
+//! Merges of columns into channels, in each form, beside plain Rust of the same rule behind calls like the port's.
 //!
 //! A time is that of one merge, over a list of them from empty channels.
 
-use crate::rules::Times;
-use crate::timing::best;
+use crate::rows::{Row, BYTES, PLAIN};
+use crate::timing::{best_of_each, Times};
 use lomzegash::flat;
 use lomzegash::kind::*;
 use lomzegash::ChannelTypes;
-use plain::Refusal;
+use plain::by_kinds::{self, Types};
 use std::hint::black_box;
 use trials::merges::{Column, Merge};
 use trials::random::Random;
@@ -15,16 +15,23 @@ use trials::random::Random;
 /// How many merges a list has.
 const MERGES: usize = 1024;
 
-/// The codes of the channels in plain Rust.
-type Codes = [u8; ChannelTypes::CHANNELS];
+/// Integer types of which any two have a common one.
+const WIDENING: [u8; 9] = [UINT8, UINT16, UINT32, UINT64, INT8, INT16, INT32, INT64, INT128];
 
-/// A list of merges by its name, and the times of each form on it.
-pub type Set = (&'static str, [(&'static str, Times); 3]);
+/// Times a form of the call on a list of merges.
+type Time = fn(&[Merge]) -> Times;
 
-/// Every timed list: none of its merges is refused.
-pub fn sets() -> [Set; 2] {
-    let widening = [UINT8, UINT16, UINT32, UINT64, INT8, INT16, INT32, INT64, INT128];
-    [("columns of 9 integer types", rows(&list(&widening))), ("columns of one type", rows(&list(&[INT32])))]
+/// Each form on every list, of whose merges none is refused.
+pub fn rows() -> Vec<Row> {
+    let lists = [("columns of 9 integer types", list(&WIDENING)), ("columns of one type", list(&[INT32]))];
+    let forms: [(&str, Time); 3] = [("flat by value", by_value), ("flat lent", lent), (BYTES, of_bytes)];
+    let mut rows = vec![];
+    for (form, time) in forms {
+        for (input, merges) in &lists {
+            rows.push(Row { call: "merge", form, input, nodes: 1, beside: PLAIN, times: time(merges) });
+        }
+    }
+    rows
 }
 
 /// Columns of these kinds, at random, into all channels.
@@ -37,107 +44,61 @@ fn list(kinds: &[u8]) -> Vec<Merge> {
     (0..MERGES).map(|_| merge()).collect()
 }
 
-fn rows(merges: &[Merge]) -> [(&'static str, Times); 3] {
-    [
-        ("flat, by value", times(merges, port::by_value, written::by_value)),
-        ("flat, lent", times(merges, port::lent, written::lent)),
-        ("bytes, lent", times(merges, port::of_bytes, written::of_bytes)),
-    ]
+fn by_value(merges: &[Merge]) -> Times {
+    times(
+        merges,
+        |types, Merge { channel, column }| {
+            let answer;
+            (answer, *types) = flat::merged(*types, black_box(*channel), black_box(column.flat.parts()));
+            answer.is_ok()
+        },
+        |types, Merge { channel, column }| {
+            let (kinds, args) = black_box(column.flat.parts());
+            let next = by_kinds::merged(*types, black_box(*channel), kinds, args);
+            *types = next.types;
+            next.reply.number == 0
+        },
+    )
 }
 
-/// Nanoseconds of one merge of the port and of the plain Rust.
+fn lent(merges: &[Merge]) -> Times {
+    times(
+        merges,
+        |types, Merge { channel, column }| {
+            flat::merge(types, black_box(*channel), black_box(column.flat.parts())).is_ok()
+        },
+        |types, Merge { channel, column }| {
+            let (kinds, args) = black_box(column.flat.parts());
+            by_kinds::merge(types, black_box(*channel), kinds, args).number == 0
+        },
+    )
+}
+
+fn of_bytes(merges: &[Merge]) -> Times {
+    times(
+        merges,
+        |types, Merge { channel, column }| types.merge(black_box(*channel), black_box(&column.bytes)).is_ok(),
+        |types, Merge { channel, column }| {
+            by_kinds::merge_encoded(&mut types.codes, black_box(*channel), black_box(&column.bytes)).number == 0
+        },
+    )
+}
+
+/// The times of one merge, of the port and of the plain Rust.
 fn times(
     merges: &[Merge],
     port: impl Fn(&mut ChannelTypes, &Merge) -> bool,
-    plain: impl Fn(&mut Codes, &Merge) -> bool,
+    plain: impl Fn(&mut Types, &Merge) -> bool,
 ) -> Times {
-    let (of_port, of_plain) = best(
+    best_of_each(
+        merges.len(),
         || {
             let mut types = ChannelTypes::new();
             merges.iter().all(|merge| port(black_box(&mut types), merge))
         },
         || {
-            let mut codes = [0; ChannelTypes::CHANNELS];
-            merges.iter().all(|merge| plain(black_box(&mut codes), merge))
+            let mut types = Types { codes: [0; ChannelTypes::CHANNELS] };
+            merges.iter().all(|merge| plain(black_box(&mut types), merge))
         },
-    );
-    let count = merges.len() as f64;
-    (of_port / count, of_plain / count)
-}
-
-/// The forms of the port.
-mod port {
-    use super::*;
-
-    pub fn by_value(types: &mut ChannelTypes, Merge { channel, column }: &Merge) -> bool {
-        let answer;
-        (answer, *types) = flat::merged(*types, black_box(*channel), black_box(column.flat.parts()));
-        answer.is_ok()
-    }
-
-    pub fn lent(types: &mut ChannelTypes, Merge { channel, column }: &Merge) -> bool {
-        flat::merge(types, black_box(*channel), black_box(column.flat.parts())).is_ok()
-    }
-
-    pub fn of_bytes(types: &mut ChannelTypes, Merge { channel, column }: &Merge) -> bool {
-        types.merge(black_box(*channel), black_box(&column.bytes)).is_ok()
-    }
-}
-
-/// The same in plain Rust, with the rule as it is written by kinds, without a search.
-mod written {
-    use super::*;
-
-    pub fn by_value(codes: &mut Codes, Merge { channel, column }: &Merge) -> bool {
-        let (mut next, (kinds, args)) = (*codes, black_box(column.flat.parts()));
-        let answer = plain::check(kinds, args).and_then(|()| merge(&mut next, black_box(*channel), kinds[0]));
-        *codes = next;
-        answer.is_ok()
-    }
-
-    pub fn lent(codes: &mut Codes, Merge { channel, column }: &Merge) -> bool {
-        let (kinds, args) = black_box(column.flat.parts());
-        plain::check(kinds, args).and_then(|()| merge(codes, black_box(*channel), kinds[0])).is_ok()
-    }
-
-    pub fn of_bytes(codes: &mut Codes, Merge { channel, column }: &Merge) -> bool {
-        let bytes = black_box(&column.bytes);
-        plain::check_encoded(bytes).and_then(|()| merge(codes, black_box(*channel), bytes[2])).is_ok()
-    }
-
-    fn merge(codes: &mut Codes, channel: usize, kind: u8) -> Result<u8, Refusal> {
-        let held = codes.get_mut(channel).ok_or(Refusal::Channel)?;
-        *held = merged(*held, kind)?;
-        Ok(*held)
-    }
-
-    pub fn merged(held: u8, kind: u8) -> Result<u8, Refusal> {
-        let is_listed = |code| (UINT8..=INT128).contains(&code);
-        if held != 0 && !is_listed(held) {
-            return Err(Refusal::ChannelCode);
-        }
-        if !is_listed(kind) {
-            return Err(Refusal::NotInteger);
-        }
-        let (low, high) = (held.min(kind), held.max(kind));
-        match low {
-            UINT128 if high != UINT128 => Err(Refusal::NoUpcast),
-            UINT8..=UINT128 if high >= INT8 => Ok(high.max(low + 6)),
-            _ => Ok(high),
-        }
-    }
-}
-
-#[cfg(test)]
-mod tests {
-    use super::*;
-
-    #[test]
-    fn the_rule_is_that_of_the_search() {
-        for held in 0..=u8::MAX {
-            for kind in 0..=u8::MAX {
-                assert_eq!(written::merged(held, kind), plain::channels::merged(held, kind), "{kind} into {held}");
-            }
-        }
-    }
+    )
 }

@@ -3,6 +3,9 @@
 use lomzegash::kind::*;
 use trials::flat::Flat;
 
+/// A type by its name.
+pub type Input = (&'static str, Flat);
+
 /// Types of fields as they come in a logged schema, in turn: mostly leaves, some Lists, an Array, a Struct.
 const FIELD_TYPES: [&[(u8, u64)]; 12] = [
     &[(INT64, 0)],
@@ -19,15 +22,20 @@ const FIELD_TYPES: [&[(u8, u64)]; 12] = [
     &[(LIST, 0), (STRING, 0)],
 ];
 
-/// Types of 1, 20 and 500 nodes.
-pub fn schemas() -> [(&'static str, Flat); 3] {
-    [("Int64", Flat::new(&[(INT64, 0)])), ("a schema", schema(20)), ("a schema", schema(500))]
+/// Schemas of 20 and 500 nodes, a leaf, and the commonest nested types.
+pub fn common() -> Vec<Input> {
+    vec![
+        ("Int64", Flat::new(&[(INT64, 0)])),
+        ("List(Int8)", Flat::lists(1)),
+        ("a schema", schema(20)),
+        ("a Struct of 20 leaves", struct_of_leaves(20)),
+        ("a schema", schema(500)),
+    ]
 }
 
 /// Types of other shapes.
-pub fn shapes() -> [(&'static str, Flat); 5] {
-    [
-        ("a List of Int8", Flat::lists(1)),
+pub fn shapes() -> Vec<Input> {
+    vec![
         ("a Struct of one Int8 field", Flat::structs(1, &Flat::int8())),
         ("32 Lists over Int8", Flat::lists(32)),
         ("16 Structs over Int8", Flat::structs(16, &Flat::int8())),
@@ -52,4 +60,10 @@ fn schema(size: usize) -> Flat {
         }
     }
     flat
+}
+
+/// A Struct of so many fields, the leaves of a schema in turn.
+fn struct_of_leaves(fields: usize) -> Flat {
+    let leaves = FIELD_TYPES.into_iter().filter(|field_type| field_type.len() == 1);
+    Flat::fields(leaves.map(Flat::new).collect::<Vec<Flat>>().iter().cycle().take(fields))
 }

@@ -3,21 +3,39 @@
 //! Each is timed as those of `rules` are, from bytes and from what either keeps a type in; where there is no result, none
 //! is made. A time is that of one pair, over all pairs of the set in turn.
 
-use crate::rules::{Row, Times};
-use crate::timing::best;
+use crate::rows::{Row, BYTES, CRATE, FLAT};
+use crate::timing::{best_of_each, Times};
 use lomzegash::kind::*;
 use oracle::Type;
 use std::hint::black_box;
 use trials::flat::Flat;
 use trials::joins::{supertype, Join};
 
-/// A set of pairs by its name, and the times of both rules on it.
-pub type Set = (&'static str, [Row; 2]);
+/// A rule of the crate.
+type OfCrate = fn(&Type, &Type) -> Option<Type>;
 
-/// Every timed set of pairs.
-pub fn sets() -> [Set; 2] {
-    let probes = [Pair::new((INT32, 0), (UINT64, 0))];
-    [("Int32 with UInt64", rows(&probes)), ("every two kinds of leaves", rows(&every_two_kinds()))]
+/// Times a rule from one form of these pairs.
+type Time = fn(Join, OfCrate, &[Pair]) -> Times;
+
+/// Both rules, the supertype with the source's own default of its flags.
+const RULES: [(&str, Join, OfCrate); 2] = [
+    ("supertype", supertype(false, true), |l, r| l.get_supertype_with_options(r, false, true)),
+    ("lossless upcast", Join::Lossless, Type::get_numeric_upcast_supertype_lossless),
+];
+
+/// Both rules from either form on every set of pairs.
+pub fn rows() -> Vec<Row> {
+    let probes = vec![Pair::new((INT32, 0), (UINT64, 0))];
+    let sets = [("Int32 with UInt64", probes), ("every two kinds of leaves", every_two_kinds())];
+    let mut rows = vec![];
+    for (call, join, crates) in RULES {
+        for (form, time) in [(BYTES, from_bytes as Time), (FLAT, from_kept)] {
+            for (input, pairs) in &sets {
+                rows.push(Row { call, form, input, nodes: 1, beside: CRATE, times: time(join, crates, pairs) });
+            }
+        }
+    }
+    rows
 }
 
 /// Two types of one node, in every form that is timed.
@@ -56,18 +74,10 @@ fn argument(kind: u8) -> u64 {
     }
 }
 
-/// Both rules; the supertype with the source's own default of its flags.
-fn rows(pairs: &[Pair]) -> [Row; 2] {
-    let upcast = Type::get_numeric_upcast_supertype_lossless;
-    [
-        row("supertype", supertype(false, true), |l, r| l.get_supertype_with_options(r, false, true), pairs),
-        row("lossless upcast", Join::Lossless, upcast, pairs),
-    ]
-}
-
-fn row(name: &'static str, join: Join, crates: fn(&Type, &Type) -> Option<Type>, pairs: &[Pair]) -> Row {
-    let (mut out, mut kinds, mut args) = ([0; 11], [0; 1], [0; 1]);
-    let bytes = best(
+fn from_bytes(join: Join, crates: OfCrate, pairs: &[Pair]) -> Times {
+    let mut out = [0; 11];
+    best_of_each(
+        pairs.len(),
         || pairs.iter().all(|Pair { bytes: [l, r], .. }| join.on_bytes(black_box(l), black_box(r), &mut out).is_ok()),
         || {
             pairs.iter().for_each(|Pair { bytes: [l, r], .. }| {
@@ -76,8 +86,13 @@ fn row(name: &'static str, join: Join, crates: fn(&Type, &Type) -> Option<Type>,
             });
             true
         },
-    );
-    let kept = best(
+    )
+}
+
+fn from_kept(join: Join, crates: OfCrate, pairs: &[Pair]) -> Times {
+    let (mut kinds, mut args) = ([0; 1], [0; 1]);
+    best_of_each(
+        pairs.len(),
         || {
             pairs.iter().all(|Pair { flat: [l, r], .. }| {
                 join.on_nodes(black_box(l).parts(), black_box(r).parts(), (&mut kinds, &mut args)).is_ok()
@@ -89,12 +104,5 @@ fn row(name: &'static str, join: Join, crates: fn(&Type, &Type) -> Option<Type>,
             });
             true
         },
-    );
-    (name, of_one(bytes, pairs), of_one(kept, pairs))
-}
-
-/// The times of one pair from those of all.
-fn of_one(times: Times, pairs: &[Pair]) -> Times {
-    let count = pairs.len() as f64;
-    (times.0 / count, times.1 / count)
+    )
 }

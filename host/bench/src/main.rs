@@ -1,98 +1,66 @@
-//! `bench [--shapes]`: nanoseconds a call, the proved code beside the plain Rust and beside the crate's own text, on the
-//! same inputs.
+//! `bench [--shapes]`: times every call of the port beside the plain Rust or the crate's own text, on the same inputs, and
+//! prints a row for each. `bench --table FILE..` prints the table of such rows, those of one run in each file.
 //!
-//! All are built for release. Outputs are exactly long enough and not cleared between calls. A ratio below 1 says that
-//! the proved code is the faster one. `--shapes` adds inputs of other shapes. The rows of one build depend on where its
-//! linker put the archive's code: `layouts` runs them at every place.
+//! All are built for release. Outputs are exactly long enough and not cleared between calls. `--shapes` adds inputs of other
+//! shapes. The rows of one build depend on where its linker put the archive's code: `layouts` runs them at every place, and
+//! prints the table.
 
 #![forbid(unsafe_code)]
 
 mod channels;
+mod encoding;
 mod inputs;
 mod joins;
+mod rows;
 mod rules;
+mod table;
 mod timing;
 
-use rules::Row;
-use std::env;
-use std::hint::black_box;
-use timing::best;
+use inputs::Input;
+use rows::{Call, Row};
+use std::process::ExitCode;
+use std::{env, fs};
 use trials::differential::NO_ORACLE;
-use trials::flat::Flat;
 
-fn main() {
-    let mut inputs = inputs::schemas().to_vec();
-    if env::args().any(|word| word == "--shapes") {
-        inputs.extend(inputs::shapes());
+fn main() -> ExitCode {
+    let words: Vec<String> = env::args().skip(1).collect();
+    match words.iter().map(String::as_str).collect::<Vec<_>>()[..] {
+        [] => time(&inputs::common()),
+        ["--shapes"] => time(&[inputs::common(), inputs::shapes()].concat()),
+        ["--table", ref files @ ..] if !files.is_empty() => join(files),
+        _ => {
+            eprintln!("usage: bench [--shapes] | --table FILE..");
+            return ExitCode::from(2);
+        }
     }
-    beside_plain(&inputs);
-    merges();
+    ExitCode::SUCCESS
+}
+
+/// Times all, and prints the rows.
+fn time(inputs: &[Input]) {
+    time_calls(&encoding::CALLS, inputs);
     if oracle::AVAILABLE {
-        beside_the_crate(&inputs);
+        time_calls(&rules::CALLS, inputs);
+        print(joins::rows());
     } else {
-        println!("{NO_ORACLE}");
+        eprintln!("{NO_ORACLE}");
+    }
+    print(channels::rows());
+}
+
+/// Each of these calls on each input.
+fn time_calls(calls: &[Call], inputs: &[Input]) {
+    for call in calls {
+        print(inputs.iter().map(|input| call.row(input)));
     }
 }
 
-fn beside_plain(inputs: &[(&str, Flat)]) {
-    println!("{:<28} {:>5}  {:<6} {:>9} {:>9} {:>6}", "input", "nodes", "call", "proved ns", "plain ns", "ratio");
-    for (name, flat) in inputs {
-        for (call, time) in [("check", check as fn(&Flat) -> (f64, f64)), ("decode", decode), ("encode", encode)] {
-            let ((proved, plain), nodes) = (time(flat), flat.kinds.len());
-            println!("{name:<28} {nodes:>5}  {call:<6} {proved:>9.1} {plain:>9.1} {:>6.2}", proved / plain);
-        }
-    }
+fn print(rows: impl IntoIterator<Item = Row>) {
+    rows.into_iter().for_each(|row| println!("{row}"));
 }
 
-fn merges() {
-    println!("{:<28} {:<14} {:>11} {:>11} {:>6}", "merges", "form", "proved M/s", "plain M/s", "ratio");
-    for (name, rows) in channels::sets() {
-        for (form, (proved, plain)) in rows {
-            println!("{name:<28} {form:<14} {:>11.1} {:>11.1} {:>6.2}", 1e3 / proved, 1e3 / plain, proved / plain);
-        }
-    }
-}
-
-fn beside_the_crate(inputs: &[(&str, Flat)]) {
-    println!(
-        "{:<28} {:>5}  {:<19} {:>9} {:>9} {:>6} {:>9} {:>9} {:>6}",
-        "input", "nodes", "call", "bytes ns", "crate ns", "ratio", "flat ns", "crate ns", "ratio"
-    );
-    for (name, flat) in inputs {
-        rules::rows(flat).iter().for_each(|row| print(name, flat.kinds.len(), row));
-    }
-    for (name, rows) in joins::sets() {
-        rows.iter().for_each(|row| print(name, 1, row));
-    }
-}
-
-fn print(input: &str, nodes: usize, (call, bytes, kept): &Row) {
-    let [bytes_ratio, kept_ratio] = [bytes, kept].map(|(port, crates)| port / crates);
-    println!(
-        "{input:<28} {nodes:>5}  {call:<19} {:>9.1} {:>9.1} {bytes_ratio:>6.2} {:>9.1} {:>9.1} {kept_ratio:>6.2}",
-        bytes.0, bytes.1, kept.0, kept.1
-    );
-}
-
-fn check(flat: &Flat) -> (f64, f64) {
-    let encoded = &flat.laid_out();
-    best(|| lomzegash::check(black_box(encoded)).is_ok(), || plain::check_encoded(black_box(encoded)).is_ok())
-}
-
-fn decode(flat: &Flat) -> (f64, f64) {
-    let encoded = &flat.laid_out();
-    let [mut to, mut other] = [flat.clone(), flat.clone()];
-    best(
-        || lomzegash::decode(black_box(encoded), black_box(&mut to.kinds), black_box(&mut to.args)).is_ok(),
-        || plain::decode(black_box(encoded), black_box(&mut other.kinds), black_box(&mut other.args)).is_ok(),
-    )
-}
-
-fn encode(flat: &Flat) -> (f64, f64) {
-    let Flat { kinds, args } = flat;
-    let [mut out, mut other] = [flat.laid_out(), flat.laid_out()];
-    best(
-        || lomzegash::encode(black_box(kinds), black_box(args), black_box(&mut out)).is_ok(),
-        || plain::encode(black_box(kinds), black_box(args), black_box(&mut other)).is_ok(),
-    )
+/// Prints the table of the runs in these files.
+fn join(files: &[&str]) {
+    let read = |file: &&str| fs::read_to_string(file).unwrap_or_else(|error| panic!("{file}: {error}"));
+    print!("{}", table::table(&files.iter().map(read).collect::<Vec<String>>()));
 }

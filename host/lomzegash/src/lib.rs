@@ -11,7 +11,8 @@
 //! fields, field a name's number. All others have 0. List, Array and field have one child; a Struct's children are its
 //! fields.
 //!
-//! Any input gets an answer or an [`Error`], and a refused call writes nothing.
+//! Any input gets an answer or an [`Error`], and a refused call writes nothing. No call needs more than 16384 bytes of stack,
+//! whatever the arrays say.
 //!
 //! ```
 //! use lomzegash::kind::{INT16, LIST};

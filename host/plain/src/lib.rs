@@ -6,6 +6,7 @@
 #![forbid(unsafe_code)]
 #![deny(missing_docs)]
 
+pub mod by_kinds;
 pub mod channels;
 pub mod inner;
 pub mod sheet;

@@ -24,28 +24,37 @@ impl Flat {
         Flat::new(&[(INT8, 0)])
     }
 
+    /// These nodes so many times over, with `inner` behind them.
+    pub fn repeated(nodes: &[(u8, u64)], times: usize, inner: &Flat) -> Flat {
+        let mut flat = Flat::new(&nodes.repeat(times));
+        flat.extend(inner);
+        flat
+    }
+
     /// So many Lists over Int8.
     pub fn lists(count: usize) -> Flat {
-        let mut flat = Flat::new(&[(LIST, 0)].repeat(count));
-        flat.extend(&Flat::int8());
-        flat
+        Flat::repeated(&[(LIST, 0)], count, &Flat::int8())
     }
 
     /// So many Structs of one field, one inside the other, with `inner` in the last.
     pub fn structs(count: usize, inner: &Flat) -> Flat {
-        let mut flat = Flat::new(&[(STRUCT, 1), (FIELD, 0)].repeat(count));
-        flat.extend(inner);
+        Flat::repeated(&[(STRUCT, 1), (FIELD, 0)], count, inner)
+    }
+
+    /// A Struct of these types, with names from 0 on.
+    pub fn fields<'a>(types: impl IntoIterator<Item = &'a Flat>) -> Flat {
+        let mut flat = Flat::new(&[(STRUCT, 0)]);
+        for dtype in types {
+            flat.push(FIELD, flat.args[0]);
+            flat.extend(dtype);
+            flat.args[0] += 1;
+        }
         flat
     }
 
     /// A Struct of so many Int8 fields.
     pub fn wide_struct(fields: usize) -> Flat {
-        let mut flat = Flat::new(&[(STRUCT, fields as u64)]);
-        for name in 0..fields as u64 {
-            flat.push(FIELD, name);
-            flat.extend(&Flat::int8());
-        }
-        flat
+        Flat::fields(&vec![Flat::int8(); fields])
     }
 
     /// Both slices, as the calls on flat types take them.

@@ -72,9 +72,7 @@ fn leaf(kind: u8) -> Flat {
 }
 
 fn over(node: (u8, u64), inner: &Flat) -> Flat {
-    let mut flat = Flat::new(&[node]);
-    flat.extend(inner);
-    flat
+    Flat::repeated(&[node], 1, inner)
 }
 
 fn list(inner: &Flat) -> Flat {

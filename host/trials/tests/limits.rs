@@ -24,9 +24,7 @@ fn bytes(what: &str, cases: &[(u64, Vec<u8>)]) {
 
 /// A List over a type.
 fn list(inner: &Flat) -> Flat {
-    let mut flat = Flat::new(&[(LIST, 0)]);
-    flat.extend(inner);
-    flat
+    Flat::repeated(&[(LIST, 0)], 1, inner)
 }
 
 /// List(Int16) as document 01 has it.

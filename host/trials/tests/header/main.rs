@@ -1,5 +1,7 @@
 //! The C header compiles without a warning, declares what the archive exports, says of each constant what it means, and a
-//! caller in C that uses all of it gets the right answers.
+//! caller in C that uses all of it gets the right answers; no call needs more stack than it says.
+
+mod stack;
 
 use std::collections::BTreeSet;
 use std::env;
@@ -7,16 +9,16 @@ use std::path::PathBuf;
 use std::process::{Command, Output};
 
 const ROOT: &str = concat!(env!("CARGO_MANIFEST_DIR"), "/../..");
-const HEADER: &str = include_str!("../../../include/lomzegash.h");
-const CALLER: &str = include_str!("header.c");
+const HEADER: &str = include_str!("../../../../include/lomzegash.h");
+const CALLER: &str = include_str!("caller.c");
 
 /// The safe crate's declarations.
 const FFI: [&str; 5] = [
-    include_str!("../../lomzegash/src/ffi.rs"),
-    include_str!("../../lomzegash/src/ffi/channels.rs"),
-    include_str!("../../lomzegash/src/ffi/dtype.rs"),
-    include_str!("../../lomzegash/src/ffi/flat.rs"),
-    include_str!("../../lomzegash/src/ffi/supertype.rs"),
+    include_str!("../../../lomzegash/src/ffi.rs"),
+    include_str!("../../../lomzegash/src/ffi/channels.rs"),
+    include_str!("../../../lomzegash/src/ffi/dtype.rs"),
+    include_str!("../../../lomzegash/src/ffi/flat.rs"),
+    include_str!("../../../lomzegash/src/ffi/supertype.rs"),
 ];
 
 /// Every constant of the header in its order, and what is said of it there. The caller in C holds them to their numbers.
@@ -100,8 +102,8 @@ fn the_header_is_cpp11() {
 
 #[test]
 fn a_caller_in_c99_gets_the_right_answers() {
-    let caller = concat!(env!("CARGO_MANIFEST_DIR"), "/tests/header.c");
-    let program = concat!(env!("CARGO_TARGET_TMPDIR"), "/header");
+    let caller = concat!(env!("CARGO_MANIFEST_DIR"), "/tests/header/caller.c");
+    let program = concat!(env!("CARGO_TARGET_TMPDIR"), "/caller");
     compile(&["-std=c99", caller, &archive().to_string_lossy(), "-o", program]);
     run(&mut Command::new(program));
 }
