@@ -139,7 +139,7 @@ impl ChannelTypes {
     }
 }
 
-// The same with the types lent: they are taken apart, the column is merged by value, and they are put back.
+// The same with the types lent: their codes are lent on, of which a merge reads one and writes one.
 pub fn merge_in_place(
     types: &mut ChannelTypes,
     channel: usize,
@@ -152,7 +152,5 @@ pub fn merge_in_place(
       deep ← ⟦Flat::MAX_DEPTH⟧ .entry
       ⌜ record { types = now (types .exit); answer = a } ≡ outcomeOf channels (now (types .entry)) channel (reading nodes deep (now (kinds .entry)) (now (args .entry))) ⌝ }
 {
-    let next = (*types).merge(channel, kinds, args);
-    *types = next.types;
-    next.answer
+    merge_codes(&mut types.codes, channel, flat::check_root(kinds, args))
 }

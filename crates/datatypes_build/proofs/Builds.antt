@@ -9,8 +9,11 @@ use lib.ListN.{length, getD, set, take-append-drop}
 use Rattle.flat.specs.Kind
 use Rattle.flat.specs.Tree.{DataType, leaf, Fields, size, sizes, count, kindsOf, kindsOfs, argsOf, argsOfs, headKind}
 use Rattle.flat.specs.Walk.{Valid, ValidRun, typeAt, runAt}
-use Rattle.flat.specs.Output.{over}
+use Rattle.flat.specs.Reading.{type}
+use Rattle.flat.specs.Output.{fitting, over, Writes}
+use Rattle.flat.specs.declared.Written.{Written}
 use Rattle.flat.proofs.Sizes.{length-kinds, length-kindss, length-args}
+use Rattle.flat.proofs.Outputs.{writes-type, room}
 use Rattle.flat.proofs.Walks.{from, Unary, is-list, is-array, type-leaf, type-one, one-nodes, type-struct, struct-nodes, struct-count, run-end}
 use Rattle.flat.proofs.Onward.{from-zero, next-run, next-field, next-nodes}
 use Rattle.datatypes_build.specs.Leaf.{leafOf, mapLeaves, mapFields, keptArg, Room, Built, BuiltType, BuiltFields}
@@ -26,6 +29,22 @@ built-size form t w = w .nodes ∙ length-kinds (mapLeaves (leafOf form) t) ∙ 
 pub built-sizes : (form : Form) (fs : Fields) {K A K′ A′ : List ℕ} {r : ℕ} → BuiltFields (mapFields (leafOf form) fs) K A K′ A′ r → r ≡ sizes fs
 built-sizes form fs w = w .nodes ∙ length-kindss (mapFields (leafOf form) fs) ∙ sizes-map form fs
 
+-- what was built where both arrays have room for it was written
+pub built-writes : (form : Form) (t : DataType) {K A K′ A′ : List ℕ} {r : ℕ} → Room (size t) K A → BuiltType (mapLeaves (leafOf form) t) K A K′ A′ r → Writes (fitting (length K) (length A) (type (mapLeaves (leafOf form) t))) K A K′ A′ (Written.Nodes r)
+built-writes form t o w = writes-type (room _ _ _ (rw size-map (o .kinds)) (rw size-map (o .args))) (w .nodes ∙ length-kinds _) (w .kinds) (w .args)
+
+-- ---- a leaf, its kind and its argument stored
+pub leaf-stored : (form : Form) (k a : ℕ) {K A : List ℕ} → Room 1 K A → (y z : ℕ) → y ≡ headKind (leafOf form k a) → z ≡ keptArg k y a → BuiltType (leafOf form k a) K A (set K 0 y) (set A 0 z) 1
+unfolding kindsOf argsOf
+leaf-stored form k a {K} {A} o y z p q =
+    let e : leafOf form k a ≡ leaf y z = leaf-is k a form ∙ rw (← p, ← q) in
+    rw e record { nodes = refl; kinds = over-one K (omega arith) y; args = over-one A (omega arith) z }
+
+-- where a type is a leaf, that is all of it
+pub leaf-built : (form : Form) {ks xs : List ℕ} → Valid ks xs → getD ks 0 0 < Kind.List → {K A K′ A′ : List ℕ} {r : ℕ} → BuiltType (leafOf form (getD ks 0 0) (getD xs 0 0)) K A K′ A′ r → BuiltType (mapLeaves (leafOf form) (typeAt ks xs)) K A K′ A′ r
+unfolding mapLeaves
+leaf-built form {ks} {xs} v l w = rw (type-leaf ks xs v l) w
+
 -- ---- the node walk
 
 -- y and z stored, and a child's kinds P and arguments Q written after them
@@ -39,12 +58,6 @@ unary-map rule is-list t = (refl, refl)
 unary-map rule is-array t = (refl, refl)
 
 module _ (form : Form) {ks xs : List ℕ} (v : Valid ks xs) {K A : List ℕ} (o : Room (size (typeAt ks xs)) K A) where
-  pub leaf-built : getD ks 0 0 < Kind.List → (y z : ℕ) → y ≡ headKind (leafOf form (getD ks 0 0) (getD xs 0 0)) → z ≡ keptArg (getD ks 0 0) y (getD xs 0 0) → BuiltType (mapLeaves (leafOf form) (typeAt ks xs)) K A (set K 0 y) (set A 0 z) 1
-  unfolding kindsOf argsOf mapLeaves
-  leaf-built l y z p q =
-      let e : leafOf form (getD ks 0 0) (getD xs 0 0) ≡ leaf y z = leaf-is (getD ks 0 0) (getD xs 0 0) form ∙ rw (← p, ← q) in
-      rw (type-leaf ks xs v l, e) record { nodes = refl; kinds = over-one K (omega arith) y; args = over-one A (omega arith) z }
-
   module _ (l : Kind.List ≤ getD ks 0 0) (s : getD ks 0 0 ≡ Kind.Struct → ⊥) where
     pub one-room : Room (size (typeAt (from 1 ks) (from 1 xs))) (from 1 (set K 0 (getD ks 0 0))) (from 1 (set A 0 (getD xs 0 0)))
     one-room = let n = one-nodes ks xs v l s in record { kinds = omega (arith, part-set K 0 (getD ks 0 0) 1); args = omega (arith, part-set A 0 (getD xs 0 0) 1) }

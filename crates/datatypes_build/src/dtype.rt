@@ -22,9 +22,7 @@ pub fn node_form(
     let k = kinds[0];
     let a = args[0];
     if k < Kind::LIST {
-        let new = leaf::kind_form(form, k, a);
-        out_kinds[0] = new;
-        out_args[0] = leaf::argument_form(k, new, a);
+        leaf::leaf_form(form, k, a, out_kinds, out_args);
         return 1;
     }
     out_kinds[0] = k;

@@ -2,7 +2,7 @@
 ghost use mathlib.Core.Path.{_≡_};
 ghost use Rattle.flat.specs.Tree.{headKind};
 ghost use Rattle.datatypes.specs.Physical.{physicalKind};
-ghost use Rattle.datatypes_build.specs.Leaf.{materializedLeaf, leafOf, keptArg};
+ghost use Rattle.datatypes_build.specs.Leaf.{materializedLeaf, leafOf, keptArg, Room, BuiltType};
 use flat::kind::Kind;
 use utils_numbers::dyn_int::materialize_dyn_int;
 
@@ -44,8 +44,18 @@ pub fn kind_form(form: Form, k: u8, a: u64) -> u8
 }
 
 // Its argument: a leaf whose kind stays keeps it, one whose kind changes has 0.
-pub fn argument_form(k: u8, new: u8, a: u64) -> u64
+fn argument_form(k: u8, new: u8, a: u64) -> u64
     ensures { λ r. ⌜ r ≡ keptArg k new a ⌝ }
 {
     if new == k { a } else { 0 }
+}
+
+// Writes a leaf in the given form to the front of out_kinds and out_args.
+pub fn leaf_form(form: Form, k: u8, a: u64, out_kinds: &mut [u8], out_args: &mut [u64])
+    requires { ⌜ Room 1 (now «out_kinds») (now «out_args») ⌝ }
+    ensures { λ _. ⌜ BuiltType (leafOf form k a) (now («out_kinds» .entry)) (now («out_args» .entry)) (now («out_kinds» .exit)) (now («out_args» .exit)) 1 ⌝ }
+{
+    let new = kind_form(form, k, a);
+    out_kinds[0] = new;
+    out_args[0] = argument_form(k, new, a);
 }

@@ -37,6 +37,11 @@ fn build(
     if out_args.len() < kinds.len() {
         return Written::Refused(Error::OutputTooShort);
     }
+    // a leaf needs no walk
+    if kinds[0] < Kind::LIST {
+        leaf::leaf_form(form, kinds[0], args[0], out_kinds, out_args);
+        return Written::Nodes(1);
+    }
     let n = dtype::node_form(form, kinds, args, out_kinds, out_args);
     Written::Nodes(n)
 }

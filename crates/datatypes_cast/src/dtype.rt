@@ -25,9 +25,10 @@ fn nodes(kinds: &[u8], args: &[u64]) -> usize
     if kinds[0] < Kind::LIST {
         return 1;
     }
-    match flat::span::node_span(kinds, args) {
-        Span::Ends(n, _) => n,
-        Span::Broken => 0,
+    // no type is deeper than it has nodes
+    match flat::span::node_span(kinds, args, kinds.len()) {
+        Span::Ends(n) => n,
+        Span::TooDeep => 0,
     }
 }
 

@@ -2,19 +2,20 @@
 use mathlib.Core.Path.{_≡_, sym, _∙_}
 use mathlib.Core.Bool.{Bool, true, false, and-eq-true-iff}
 use mathlib.Core.List.{List}
-use Prim.Native.Nat.{ℕ}
+use Prim.Native.Nat.{ℕ, _≤_, _<_}
 use native.Mathlib.Omega.{arith}
 use lib.ListN.{length, getD}
 use borrow.Author.Tests.{eqb-true}
-use Rattle.flat.specs.Reading.{reading, checkedOf}
+use Rattle.flat.specs.Reading.{reading, onePlain, checkedOf}
 use Rattle.flat.specs.declared.Checked.{Checked}
 use Rattle.flat.specs.declared.Checked.the-variants.{Valid}
 use Rattle.flat.proofs.Meaning.{Passed, check-passed}
-use Rattle.flat.proofs.Plain.{PlainType}
+use Rattle.flat.proofs.Plain.{plain-type}
 use Rattle.datatypes.specs.Equality.{equalNode, equal}
 use Rattle.datatypes.specs.Recursive.{containsDtypeRecursive}
 use Rattle.datatypes.specs.Answer.{yesNo, answersOf}
 use Rattle.datatypes.specs.declared.answer.Answer.{Answer}
+use Rattle.datatypes.proofs.Answers.{some-node}
 use Rattle.datatypes_eq.specs.Nodes.{alike, occurs}
 use Rattle.datatypes_eq.proofs.Alike.{valid-alike}
 use Rattle.datatypes_eq.proofs.Scans.{occurs-contains, alike-equal}
@@ -31,9 +32,13 @@ module _ {nodes deep : ℕ} {ks xs ls ys : List ℕ} (left : Passed nodes deep k
   unlike e f = rw (left .reads, right .reads, ← alike-equal (left .form) (right .form), ← e, f)
 
 -- two plain leaves
-pub plain-equal : {nodes deep : ℕ} {ks xs ls ys : List ℕ} → PlainType nodes deep ks xs → PlainType nodes deep ls ys → {b : Bool} {a : Answer} → b ≡ equalNode (getD ks 0 0) 0 (getD ls 0 0) 0 → a ≡ yesNo b → a ≡ answersOf equal (reading nodes deep ks xs) (reading nodes deep ls ys)
-unfolding equal
-plain-equal left right e q = rw (left .reads, right .reads, ← e) q
+module _ (ks xs ls ys : List ℕ) (p : onePlain ks xs ≡ true) (q : onePlain ls ys ≡ true) where
+  pub both-some : (0 < length ks) × (0 < length ls)
+  both-some = (some-node (plain-type 1 0 ks xs (omega arith) p .passed), some-node (plain-type 1 0 ls ys (omega arith) q .passed))
+
+  pub plain-equal : (nodes deep : ℕ) → 1 ≤ nodes → {b : Bool} {a : Answer} → b ≡ equalNode (getD ks 0 0) 0 (getD ls 0 0) 0 → a ≡ yesNo b → a ≡ answersOf equal (reading nodes deep ks xs) (reading nodes deep ls ys)
+  unfolding equal
+  plain-equal nodes deep h e f = rw (plain-type nodes deep ks xs h p .reads, plain-type nodes deep ls ys h q .reads, ← e) f
 
 -- the right type need not be checked where it is alike
 pub alike-valid : {nodes deep : ℕ} {ks xs : List ℕ} (ls ys : List ℕ) (left : Passed nodes deep ks xs) {r : Bool} → r ≡ alike ks xs ls ys → r ≡ true → Answer.Yes ≡ answersOf equal (reading nodes deep ks xs) (reading nodes deep ls ys)

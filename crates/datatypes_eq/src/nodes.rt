@@ -23,14 +23,14 @@ pub fn starts_with(kinds: &[u8], args: &[u64], pattern_kinds: &[u8], pattern_arg
 }
 
 // Whether two runs of bytes, of one length, are the same. Without an early exit the loop is vectorised.
-pub fn same_bytes(left: &[u8], right: &[u8]) -> bool
-    requires { ⌜ length (now left) ≡ length (now right) ⌝ }
-    ensures { λ r. ⌜ r ≡ same (now (left .entry)) (now (right .entry)) ⌝ }
+pub fn same_bytes(bytes: &[u8], others: &[u8]) -> bool
+    requires { ⌜ length (now bytes) ≡ length (now others) ⌝ }
+    ensures { λ r. ⌜ r ≡ same (now (bytes .entry)) (now (others .entry)) ⌝ }
 {
     let mut same = true;
     let mut i = 0;
-    while i < left.len() {
-        if left[i] != right[i] {
+    while i < bytes.len() {
+        if bytes[i] != others[i] {
             same = false;
         }
         i += 1;
@@ -39,14 +39,14 @@ pub fn same_bytes(left: &[u8], right: &[u8]) -> bool
 }
 
 // Likewise of arguments.
-fn same_args(left: &[u64], right: &[u64]) -> bool
-    requires { ⌜ length (now left) ≡ length (now right) ⌝ }
-    ensures { λ r. ⌜ r ≡ same (now (left .entry)) (now (right .entry)) ⌝ }
+fn same_args(args: &[u64], other_args: &[u64]) -> bool
+    requires { ⌜ length (now args) ≡ length (now «other_args») ⌝ }
+    ensures { λ r. ⌜ r ≡ same (now (args .entry)) (now («other_args» .entry)) ⌝ }
 {
     let mut same = true;
     let mut i = 0;
-    while i < left.len() {
-        if left[i] != right[i] {
+    while i < args.len() {
+        if args[i] != other_args[i] {
             same = false;
         }
         i += 1;
@@ -65,7 +65,7 @@ pub fn alike(kinds: &[u8], args: &[u64], other_kinds: &[u8], other_args: &[u64])
     if other_kinds.len() != other_args.len() {
         return false;
     }
-    // most types that are equal are the same
+    // equal types are the same, unknown ints apart, so two quick scans find most of them
     if same_bytes(kinds, other_kinds) {
         if same_args(args, other_args) {
             return true;

@@ -1,46 +1,53 @@
 -- Which answer each way out of the check gives. Assumes nothing.
 use mathlib.Core.Path.{_≡_, refl, sym, ap, _∙_}
 use mathlib.Core.Bool.{Bool, true, false}
-use mathlib.Core.List.{List, [], _∷_}
+use mathlib.Core.List.{List}
 use mathlib.Core.Option.{Option, none, some}
-use Prim.Native.Nat.{ℕ, _≤_, _<_}
+use Prim.Native.Nat.{ℕ, _*_, _≤_, _<_}
 use native.Mathlib.Omega.{arith}
-use borrow.Author.Tests.{le-leb, lt-leb, lt-ltb, le-ltb, eq-eqb, ne-eqb}
-use lib.ListN.{length, getD}
-use Rattle.flat.specs.Kind
-use Rattle.flat.specs.Argument.{argumentFits}
-use Rattle.flat.specs.Tree.{DataType, leaf, list, array, struct, empty, size, depth}
-use Rattle.flat.specs.Reader.{Children, no-child, under-list, under-array, fields, no-type, children, mapO, underNode, nodeAt, fieldsAt}
-use Rattle.flat.specs.Reading.{lengthFits, kindsFit, argumentsFit, shaped, reading, checkedOf}
-use Rattle.flat.specs.Span.{spanOf}
-use Rattle.flat.specs.declared.span.Span.the-variants.{Ends, Broken}
+use borrow.Author.Tests.{le-leb, lt-leb, lt-ltb, le-ltb, eq-eqb, ne-eqb, eqb-true}
+use lib.Dec.{eqb, leb}
+use lib.ListN.{length}
+use Rattle.flat.specs.Tree.{DataType, size, depth}
+use Rattle.flat.specs.Reader.{nodeAt}
+use Rattle.flat.specs.Reading.{type, unless, lengthFits, kindsFit, argumentsFit, shaped, reading, checkedOf}
+use Rattle.flat.specs.Refusals.{FlatForm}
+use Rattle.flat.specs.Walk.{typeAt}
+use Rattle.flat.specs.Scan.{start, scanType}
+use Rattle.flat.specs.Span.{spanWithin}
+use Rattle.flat.specs.declared.span.Span.the-variants.{Ends, TooDeep}
 use Rattle.flat.specs.declared.error.Error.the-variants.{Length, Kind, Argument, Shape, Depth}
 use Rattle.flat.specs.declared.Checked.the-variants.{Valid, Refused}
 use Rattle.flat.proofs.Scans.{arguments-kinds}
-use Rattle.flat.proofs.ReadBack.{View, is-leaf, is-list, is-array, is-struct, is-other, view}
-use Rattle.flat.proofs.Positions.{node-at, node-end, children-leaf, children-struct, fields-zero, fields-end}
-use Rattle.flat.proofs.Spans.{ended, broken}
+use Rattle.flat.proofs.Meaning.{form-length, form-read, form-stands, read-form}
+use Rattle.flat.proofs.Spans.{type-ended, type-deeper}
+use Rattle.flat.proofs.Complete.{complete}
 
--- 4 and 5, from the walk's answer
-module _ (deep l : ℕ) (p : Option DataType) where
-  pub no-tree : Broken ≡ spanOf p → Refused Shape ≡ checkedOf (shaped deep l p)
-  no-tree e = rw (broken p e)
+-- 4, where the scan passes none
+pub no-shape : (nodes deep : ℕ) (ks xs : List ℕ) → length ks ≡ length xs → length ks ≤ nodes → argumentsFit ks xs ≡ true → scanType (2 * nodes) start ks xs ≡ false → Refused Shape ≡ checkedOf (shaped deep (length ks) (nodeAt ks xs))
+no-shape nodes deep ks xs e h a f = go (nodeAt ks xs) refl
+  where
+    never : (t : DataType) → nodeAt ks xs ≡ some t → size t ≡ length ks → ⊥
+    never t q n = let p = complete nodes (read-form t q n e a) (omega arith) in let z : _≡_ {A = ℕ} 0 1 = cc in omega arith
 
-  module _ (n d : ℕ) (e : Ends n d ≡ spanOf p) where
-    pub not-all : (n ≡ l → ⊥) → Refused Shape ≡ checkedOf (shaped deep l p)
-    not-all h = let t = ended p n d e in rw (t .1, ← t .2, ne-eqb n l h)
+    whole : (t : DataType) → nodeAt ks xs ≡ some t → (b : Bool) → eqb (size t) (length ks) ≡ b → Refused Shape ≡ checkedOf (unless b Shape (unless (leb (depth t) deep) Depth (type t)))
+    whole t q true n = absurd (never t q (eqb-true (size t) (length ks) n))
+    whole t q false n = refl
 
-    module _ (h : n ≡ l) where
-      pub too-deep : deep < d → Refused Depth ≡ checkedOf (shaped deep l p)
-      too-deep g = let t = ended p n d e in rw (t .1, ← t .2, ← t .3, eq-eqb n l h, lt-leb d deep g)
+    go : (p : Option DataType) → nodeAt ks xs ≡ p → Refused Shape ≡ checkedOf (shaped deep (length ks) p)
+    go none q = refl
+    go (some t) q = whole t q (eqb (size t) (length ks)) refl
 
-      pub one-type : d ≤ deep → Valid ≡ checkedOf (shaped deep l p)
-      one-type g = let t = ended p n d e in rw (t .1, ← t .2, ← t .3, eq-eqb n l h, le-leb d deep g)
+-- 5, where the walk goes too deep for the limit
+module _ (deep : ℕ) {ks xs : List ℕ} {t : DataType} (f : FlatForm ks xs t) where
+  whole-form : shaped deep (length ks) (nodeAt ks xs) ≡ unless (leb (depth t) deep) Depth (type t)
+  whole-form = rw (form-read f, eq-eqb (size t) (length ks) (sym (form-length f)))
 
--- a leaf alone
-pub leaf-alone : (deep : ℕ) (ks xs : List ℕ) → length ks ≡ length xs → length ks ≡ 1 → getD ks 0 0 < Kind.List → Valid ≡ checkedOf (shaped deep (length ks) (nodeAt ks xs))
-unfolding size depth
-leaf-alone deep ks xs e o h = rw (node-at ks xs 0 (omega arith) (omega arith) no-child (children-leaf _ _ (omega arith)), eq-eqb 1 (length ks) (sym o), le-leb 0 deep (omega arith))
+  pub too-deep : TooDeep ≡ spanWithin deep (typeAt ks xs) → Refused Depth ≡ checkedOf (shaped deep (length ks) (nodeAt ks xs))
+  too-deep e = rw (whole-form, lt-leb (depth t) deep (type-deeper deep t (e ∙ ap (spanWithin deep) (form-stands f .1))))
+
+  pub one-type : (n : ℕ) → Ends n ≡ spanWithin deep (typeAt ks xs) → Valid ≡ checkedOf (shaped deep (length ks) (nodeAt ks xs))
+  one-type n e = rw (whole-form, le-leb (depth t) deep (type-ended deep t n (e ∙ ap (spanWithin deep) (form-stands f .1)) .1))
 
 -- 1 to 3, and then the rest
 module _ (nodes deep : ℕ) (ks xs : List ℕ) where
@@ -76,43 +83,3 @@ module _ (nodes deep : ℕ) (ks xs : List ℕ) where
         pub fit-nodes : argumentsFit ks xs ≡ true → checkedOf (shaped deep (length ks) (nodeAt ks xs)) ≡ checkedOf (reading nodes deep ks xs)
         unfolding reading
         fit-nodes a = rw (fits, arguments-kinds ks xs e a, a)
-
--- ---- one node
-module _ (nodes deep k a : ℕ) (h : 1 ≤ nodes) where
-  fits-alone : (b : Bool) → argumentFits k a ≡ b → argumentsFit (k ∷ []) (a ∷ []) ≡ b
-  unfolding argumentsFit
-  fits-alone true e = rw e
-  fits-alone false e = rw e
-
-  pub one-bad-kind : Kind.Field < k → Refused Kind ≡ checkedOf (reading nodes deep (k ∷ []) (a ∷ []))
-  unfolding kindsFit
-  one-bad-kind g = bad-kind nodes deep (k ∷ []) (a ∷ []) refl (omega arith) h (rw (lt-leb k Kind.Field g))
-
-  pub one-bad-argument : k ≤ Kind.Field → argumentFits k a ≡ false → Refused Argument ≡ checkedOf (reading nodes deep (k ∷ []) (a ∷ []))
-  unfolding kindsFit
-  one-bad-argument g e = bad-argument nodes deep (k ∷ []) (a ∷ []) refl (omega arith) h (rw (le-leb k Kind.Field g)) (fits-alone false e)
-
-  module _ (e : argumentFits k a ≡ true) where
-    alone : (p : Option DataType) → nodeAt (k ∷ []) (a ∷ []) ≡ p → checkedOf (shaped deep 1 p) ≡ checkedOf (reading nodes deep (k ∷ []) (a ∷ []))
-    alone p q = ap (λ (r : Option DataType). checkedOf (shaped deep 1 r)) (sym q) ∙ fit-nodes nodes deep (k ∷ []) (a ∷ []) refl (omega arith) h (fits-alone true e)
-
-    pub one-leaf : k < Kind.List → Valid ≡ checkedOf (reading nodes deep (k ∷ []) (a ∷ []))
-    unfolding size depth
-    one-leaf l = rw (le-leb 0 deep (omega arith)) at (alone (some (leaf k a)) (node-at (k ∷ []) (a ∷ []) 0 (omega arith) (omega arith) no-child (children-leaf k a (omega arith))))
-
-    pub one-struct : k ≡ Kind.Struct → a ≡ 0 → Valid ≡ checkedOf (reading nodes deep (k ∷ []) (a ∷ []))
-    unfolding size depth
-    one-struct s z = rw (le-leb 0 deep (omega arith)) at (alone (some (struct empty)) (node-at (k ∷ []) (a ∷ []) 0 (omega arith) (omega arith) fields (children-struct k a s) ∙ ap (mapO struct) (ap (λ (i : ℕ). fieldsAt i [] []) z ∙ fields-zero [] [])))
-
-    pub one-short-struct : k ≡ Kind.Struct → (a ≡ 0 → ⊥) → Refused Shape ≡ checkedOf (reading nodes deep (k ∷ []) (a ∷ []))
-    one-short-struct s z = alone none (node-at (k ∷ []) (a ∷ []) 0 (omega arith) (omega arith) fields (children-struct k a s) ∙ ap (mapO struct) (fields-end a [] [] (omega arith) refl))
-
-    pub one-other : Kind.UnknownIntNeg < k → (k ≡ Kind.Struct → ⊥) → Refused Shape ≡ checkedOf (reading nodes deep (k ∷ []) (a ∷ []))
-    one-other l s = alone none (node-at (k ∷ []) (a ∷ []) 0 (omega arith) (omega arith) (children k a) refl ∙ go (children k a) (view k a) l s)
-      where
-        go : {j b : ℕ} (c : Children) → View j b c → Kind.UnknownIntNeg < j → (j ≡ Kind.Struct → ⊥) → underNode nodeAt fieldsAt c j b [] [] ≡ none
-        go no-child (is-leaf i) l s = absurd (omega arith)
-        go under-list is-list l s = ap (mapO list) (node-end [] [] refl)
-        go under-array (is-array {a = b}) l s = ap (mapO (array b)) (node-end [] [] refl)
-        go fields is-struct l s = absurd (s refl)
-        go no-type is-other l s = refl

@@ -9,8 +9,12 @@ pub mod Roots
 pub mod Onward
 pub mod Outputs
 pub mod Rules
-mod Scans
-mod Spans
-mod Checks
 pub mod Plain
+mod Scans
+mod States
+mod Scanned
+mod Complete
+mod Scanning
+pub mod Spans
+mod Checks
 mod LimitCases

@@ -74,14 +74,18 @@ module _ {ks xs : List ℕ} {t : DataType} (f : FlatForm ks xs t) where
   form-even = form-length ∙ sym (ap length (f .args) ∙ length-args t)
 
   -- with nothing after it
-  at-kinds : ks ≡ kindsOf t ++ []
+  pub at-kinds : ks ≡ kindsOf t ++ []
   at-kinds = f .kinds ∙ sym (append-nil (kindsOf t))
 
-  at-args : xs ≡ argsOf t ++ []
+  pub at-args : xs ≡ argsOf t ++ []
   at-args = f .args ∙ sym (append-nil (argsOf t))
 
   pub form-read : nodeAt ks xs ≡ some t
   form-read = ap₂ nodeAt at-kinds at-args ∙ read-back t (good t (f .ruled)) [] []
+
+  -- So a walk may start: the type stands at the front.
+  pub form-stands : Valid ks xs × (typeAt ks xs ≡ t)
+  form-stands = (valid-of (node-of ks xs t form-even form-read), type-is ks xs t form-read)
 
   pub form-fits : {nodes : ℕ} → size t ≤ nodes → NodesFit nodes ks xs
   unfolding lengthFits kindsFit argumentsFit
@@ -185,12 +189,8 @@ module _ (nodes deep : ℕ) (ks xs : List ℕ) (t : DataType) where
       let three = passed (argumentsFit ks xs) Argument (shaped deep (length ks) (nodeAt ks xs)) t (two .1) in
       one-type (record { lengths = one .0; kinds = two .0; args = three .0 }) (nodeAt ks xs) refl (three .1)
 
-  -- So a walk may start: the type stands at the front.
   pub stands : reading nodes deep ks xs ≡ type t → Valid ks xs × (typeAt ks xs ≡ t)
-  stands q =
-      let f = holds-form (holds q) in
-      let r = form-read f in
-      (valid-of (node-of ks xs t (form-even f) r), type-is ks xs t r)
+  stands q = form-stands (holds-form (holds q))
 
 -- What the check's answer tells of the reading.
 pub checked-type : (r : Reading) → answer.Valid ≡ checkedOf r → (t : DataType) × (r ≡ type t)

@@ -12,13 +12,13 @@ use Rattle.flat.proofs.Positions.{rest}
 use Rattle.flat.proofs.Walks.{from, field-valid, others-valid, run-field, field-nodes}
 
 -- parts of parts
-onward : (i j k : ℕ) (l : List ℕ) → i + j ≡ k → from j (from i l) ≡ from k l
+pub onward : (i j k : ℕ) (l : List ℕ) → i + j ≡ k → from j (from i l) ≡ from k l
 onward i j k l e = rest (from i l) j ∙ ap (drop j) (rest l i) ∙ drop-drop j i l ∙ ap (λ (n : ℕ). drop n l) e ∙ sym (rest l k)
 
 pub from-zero : (l : List ℕ) → from 0 l ≡ l
 from-zero l = rest l 0
 
-from-first : (j : ℕ) (l : List ℕ) → getD (from j l) 0 0 ≡ getD l j 0
+pub from-first : (j : ℕ) (l : List ℕ) → getD (from j l) 0 0 ≡ getD l j 0
 from-first j l = ap (λ (d : List ℕ). getD d 0 0) (rest l j) ∙ getD-drop j l 0 0 ∙ ap (λ (i : ℕ). getD l i 0) (add-zero j)
 
 module _ (left at : ℕ) (ks xs : List ℕ) (v : ValidRun left (from at ks) (from at xs)) (p : left ≡ 0 → ⊥) where

@@ -1,10 +1,10 @@
 -- One plain leaf: what its test tells, and that it is a type. Assumes nothing.
-use mathlib.Core.Path.{_≡_, refl, sym, ap, ap₂, subst, _∙_}
+use mathlib.Core.Path.{_≡_, refl, sym, ap, ap₂, _∙_}
 use mathlib.Core.Bool.{Bool, true, false, _&&_, _||_, and-eq-true-iff}
 use mathlib.Core.List.{List, [], _∷_}
 use Prim.Native.Nat.{ℕ, _≤_, _<_}
 use native.Mathlib.Omega.{arith}
-use borrow.Author.Tests.{eq-eqb, ne-eqb, lt-ltb, le-ltb, lt-leb, leb-true, eqb-true, ltb-true, ltb-false}
+use borrow.Author.Tests.{eq-eqb, ne-eqb, lt-leb, leb-true, eqb-true, ltb-true, ltb-false}
 use lib.Dec.{T, leb, ltb, eqb}
 use lib.ListN.{length, getD}
 use Rattle.flat.specs.Kind
@@ -65,24 +65,28 @@ plain-fits k a e =
     let fits = and-eq-true-iff (leb k Kind.UnknownIntNeg) (argumentFits k a) .0 (both .1) in
     (eqb-true a 0 (both .0), omega (arith, leb-true k Kind.UnknownIntNeg (fits .0)), fits .1)
 
+-- a leaf that follows its rule is a type
+pub leaf-type : (nodes deep k a : ℕ) → 1 ≤ nodes → k < Kind.List → argumentFits k a ≡ true → reading nodes deep (k ∷ []) (a ∷ []) ≡ type (leaf k a)
+unfolding kindsOf argsOf Ruled size depth
+leaf-type nodes deep k a h l f = type-passes nodes deep (leaf k a) (record { ruled = (omega arith, f); within = h; shallow = omega arith })
+
 -- What the test of two arrays tells: they are the one leaf, with the argument 0, and that is a type.
 pub record PlainType (nodes deep : ℕ) (ks xs : List ℕ) : Type 0 where
   pub kinds : ks ≡ getD ks 0 0 ∷ []
   pub args : xs ≡ 0 ∷ []
   pub low : getD ks 0 0 < Kind.List
+  pub fits : argumentFits (getD ks 0 0) 0 ≡ true
   pub reads : reading nodes deep ks xs ≡ type (leaf (getD ks 0 0) 0)
   pub passed : Passed nodes deep ks xs
 
 pub plain-type : (nodes deep : ℕ) (ks xs : List ℕ) → 1 ≤ nodes → onePlain ks xs ≡ true → PlainType nodes deep ks xs
-unfolding onePlain kindsOf argsOf Ruled size depth
+unfolding onePlain
 plain-type nodes deep ks xs h e =
     let both = and-eq-true-iff (eqb (length ks) 1 && eqb (length xs) 1) (plainLeaf (getD ks 0 0) (getD xs 0 0)) .0 e in
     let lengths = and-eq-true-iff (eqb (length ks) 1) (eqb (length xs) 1) .0 (both .0) in
     let fits = plain-fits (getD ks 0 0) (getD xs 0 0) (both .1) in
     let one = sym (alone ks (eqb-true (length ks) 1 (lengths .0))) in
     let zero = sym (alone xs (eqb-true (length xs) 1 (lengths .1))) ∙ ap (λ (a : ℕ). a ∷ []) (fits .0) in
-    let r = ap₂ (reading nodes deep) one zero ∙ leaf-read (getD ks 0 0) (fits .1) (rw (fits .0) at (fits .2)) in
-    record { kinds = one; args = zero; low = fits .1; reads = r; passed = check-passed (ap checkedOf (sym r)) }
-  where
-    leaf-read : (k : ℕ) → k < Kind.List → argumentFits k 0 ≡ true → reading nodes deep (k ∷ []) (0 ∷ []) ≡ type (leaf k 0)
-    leaf-read k l f = type-passes nodes deep (leaf k 0) (record { ruled = (omega arith, f); within = h; shallow = omega arith })
+    let rule = rw (fits .0) at (fits .2) in
+    let r = ap₂ (reading nodes deep) one zero ∙ leaf-type nodes deep (getD ks 0 0) 0 h (fits .1) rule in
+    record { kinds = one; args = zero; low = fits .1; fits = rule; reads = r; passed = check-passed (ap checkedOf (sym r)) }

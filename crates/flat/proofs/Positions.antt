@@ -9,8 +9,8 @@ use native.Mathlib.Omega.{arith}
 use native.Mathlib.Numerals.{sub-one, add-one}
 use lib.Dec.{eqb}
 use lib.ListN.{length, getD, take, drop, length-drop}
-use lib.Seq.{drop-cons, drop-drop, take-all}
-use borrow.Author.Tests.{le-leb, eq-eqb, ne-eqb}
+use lib.Seq.{drop-cons, take-all}
+use borrow.Author.Tests.{le-leb, ne-eqb}
 use Rattle.flat.specs.Kind
 use Rattle.flat.specs.Tree.{DataType, list, array, struct, Fields, empty, field, size}
 use Rattle.flat.specs.Reader.{Children, no-child, under-list, under-array, fields, no-type, children, mapO, bindO, Reads, underNode, stepNode, underField, stepFields, nodeIn, fieldsIn, nodeAt, fieldsAt}
@@ -83,10 +83,6 @@ fields-step (suc m) (k ∷ ks) (a ∷ xs) =
 pub node-at : (ks xs : List ℕ) (at : ℕ) → at < length ks → at < length xs → (s : Children) → children (getD ks at 0) (getD xs at 0) ≡ s → nodeAt (drop at ks) (drop at xs) ≡ underNode nodeAt fieldsAt s (getD ks at 0) (getD xs at 0) (drop (at + 1) ks) (drop (at + 1) xs)
 node-at ks xs at h h′ s e = ap₂ nodeAt (drop-cons ks at 0 h) (drop-cons xs at 0 h′) ∙ node-step _ _ ∙ rw (add-one, e)
 
-pub node-end : (ks xs : List ℕ) → length ks ≡ 0 → nodeAt ks xs ≡ none
-node-end [] xs h = node-step [] xs
-node-end (k ∷ ks) xs h = absurd (omega arith)
-
 -- fields at a position
 pub fields-zero : (ks xs : List ℕ) → fieldsAt 0 ks xs ≡ some empty
 fields-zero ks xs = fields-step 0 ks xs
@@ -103,20 +99,6 @@ module _ (m : ℕ) (ks xs : List ℕ) (at : ℕ) (p : 0 < m) (h : at < length ks
       go : (n : ℕ) → 0 < n → fieldsAt n (getD ks at 0 ∷ drop (suc at) ks) (getD xs at 0 ∷ drop (suc at) xs) ≡ underField nodeAt fieldsAt (eqb (getD ks at 0) Kind.Field) (n - 1) (getD xs at 0) (drop (suc at) ks) (drop (suc at) xs)
       go zero q = absurd (omega arith)
       go (suc n) q = fields-step (suc n) _ _ ∙ rw (sub-one (suc n))
-
-  -- The first field's type was read: the others start at its end.
-  pub fields-some : getD ks at 0 ≡ Kind.Field → (t : DataType) → nodeAt (drop (at + 1) ks) (drop (at + 1) xs) ≡ some t → (j : ℕ) → j ≡ at + 1 + size t → fieldsAt m (drop at ks) (drop at xs) ≡ mapO (field (getD xs at 0) t) (fieldsAt (m - 1) (drop j ks) (drop j xs))
-  fields-some e t q j r = fields-at true (eq-eqb _ _ e) ∙ rw (q, drop-drop (size t) (at + 1) ks, drop-drop (size t) (at + 1) xs, r)
-
-  pub fields-none : nodeAt (drop (at + 1) ks) (drop (at + 1) xs) ≡ none → fieldsAt m (drop at ks) (drop at xs) ≡ none
-  fields-none q = fields-at (eqb (getD ks at 0) Kind.Field) refl ∙ go (eqb (getD ks at 0) Kind.Field)
-    where
-      go : (b : Bool) → underField nodeAt fieldsAt b (m - 1) (getD xs at 0) (drop (at + 1) ks) (drop (at + 1) xs) ≡ none
-      go true = rw q
-      go false = refl
-
-  pub fields-other : (getD ks at 0 ≡ Kind.Field → ⊥) → fieldsAt m (drop at ks) (drop at xs) ≡ none
-  fields-other e = fields-at false (ne-eqb _ _ e)
 
 -- what a kind and its argument have under them
 pub children-leaf : (k a : ℕ) → k ≤ Kind.UnknownIntNeg → children k a ≡ no-child

@@ -1,47 +1,79 @@
--- How the answers of the check's walk follow from one another. Each loop keeps to one equation: the answer for all is that for what is left at a position,
--- moved on by what lies before it. Assumes nothing.
-use mathlib.Core.Path.{_≡_, refl, sym, ap, ap₂, subst, _∙_}
+-- How the answers of the check's walk follow from one another: what stands under the Lists and Arrays at the front, and the fields that are left. Assumes nothing.
+use mathlib.Core.Path.{_≡_, refl, sym, ap, subst, _∙_}
+use mathlib.Core.Bool.{Bool, true, false, cond}
 use mathlib.Core.List.{List, [], _∷_}
-use mathlib.Core.Option.{Option, none, some}
 use Prim.Native.Nat.{ℕ, suc, _+_, _-_, _≤_, _<_, max}
 use native.Mathlib.Omega.{arith}
+use native.Mathlib.Nat.{zero-add}
 use native.Mathlib.Numerals.{add-one}
-use lib.ListN.{length, getD, drop, length-drop, drop-of-length-le}
+use borrow.Author.Tests.{le-leb, lt-leb, leb-true, leb-false}
+use lib.Dec.{leb}
+use lib.ListN.{length, getD, drop, drop-of-length-le}
 use lib.Seq.{drop-cons}
 use Rattle.flat.specs.Kind
-use Rattle.flat.specs.Tree.{DataType, list, array, struct, Fields, field, size, sizes, depth, depths}
-use Rattle.flat.specs.Reader.{Children, no-child, under-list, under-array, fields, no-type, mapO, children, underNode, nodeAt, fieldsAt}
-use Rattle.flat.specs.Span.{spanOf, spansOf, wrapping, wrappersOf, spanUnder, Within}
+use Rattle.flat.specs.Tree.{DataType, Fields, size, sizes, depth, depths}
+use Rattle.flat.specs.Reader.{Children, no-child, under-list, under-array, fields, no-type, children}
+use Rattle.flat.specs.Walk.{Node, Valid, ValidRun, typeAt, runAt}
+use Rattle.flat.specs.Span.{spanWithin, spansWithin, wrapping, wrappersOf}
 use Rattle.flat.specs.declared.span.Span.{Span}
-use Rattle.flat.specs.declared.span.Span.the-variants.{Ends, Broken}
-use Rattle.flat.proofs.Sizes.{depth-lt, depths-le}
-use Rattle.flat.proofs.ReadBack.{View, is-leaf, is-list, is-array, is-struct, is-other, view, bounded, bounds}
-use Rattle.flat.proofs.Positions.{rest, node-at, node-end, children-leaf, children-struct, fields-zero, fields-end, fields-some, fields-none, fields-other}
-use Rattle.flat.proofs.Walks.{from, length-from}
+use Rattle.flat.specs.declared.span.Span.the-variants.{Ends, TooDeep}
+use Rattle.flat.proofs.ReadBack.{View, is-leaf, is-struct, is-other, view}
+use Rattle.flat.proofs.Positions.{rest, children-leaf, children-struct}
+use Rattle.flat.proofs.Walks.{from, Unary, AtNode, at-leaf, at-one, at-struct, at-node, unary-size, valid-of, type-is, type-leaf, type-struct, struct-valid, run-end}
+use Rattle.flat.proofs.Onward.{from-zero, from-first, onward, next-run, next-field}
 
--- an answer for a part is no larger than the part
-pub within : (j : ℕ) (ks xs : List ℕ) (l : ℕ) (r : Span) → r ≡ spanOf (nodeAt (from j ks) (from j xs)) → length ks - j ≤ l → Within l r
-within j ks xs l r e h = rw e (go (nodeAt (from j ks) (from j xs)) refl)
+-- ---- an answer
+-- the answer for n nodes that are as deep as d
+abbrev held : ℕ → ℕ → ℕ → Span
+held levels n d = cond (leb d levels) (Ends n) TooDeep
+
+ended : (levels m d n : ℕ) → Ends n ≡ held levels m d → (n ≡ m) × (d ≤ levels)
+ended levels m d n e = go (leb d levels) refl e
   where
-    go : (p : Option DataType) → nodeAt (from j ks) (from j xs) ≡ p → Within l (spanOf p)
-    go none q = tt
-    go (some t) q = omega (arith, bounded (from j ks) (from j xs) t q, length-from j ks, depth-lt t)
+    go : (b : Bool) → leb d levels ≡ b → Ends n ≡ cond b (Ends m) TooDeep → (n ≡ m) × (d ≤ levels)
+    go true l q = (cc, leb-true d levels l)
+    go false l q = absurd (let z : _≡_ {A = ℕ} 0 1 = cc in omega arith)
 
-pub withins : (m j : ℕ) (ks xs : List ℕ) (l : ℕ) (r : Span) → r ≡ spansOf (fieldsAt m (from j ks) (from j xs)) → length ks - j ≤ l → Within l r
-withins m j ks xs l r e h = rw e (go (fieldsAt m (from j ks) (from j xs)) refl)
+deeper : (levels m d : ℕ) → TooDeep ≡ held levels m d → levels < d
+deeper levels m d e = go (leb d levels) refl e
   where
-    go : (p : Option Fields) → fieldsAt m (from j ks) (from j xs) ≡ p → Within l (spansOf p)
-    go none q = tt
-    go (some fs) q = omega (arith, bounds m (from j ks) (from j xs) fs q, length-from j ks, depths-le fs)
+    go : (b : Bool) → leb d levels ≡ b → TooDeep ≡ cond b (Ends m) TooDeep → levels < d
+    go true l q = absurd (let z : _≡_ {A = ℕ} 0 1 = cc in omega arith)
+    go false l q = leb-false d levels l
 
--- what an answer says of what was read
-pub ended : (p : Option DataType) (n d : ℕ) → Ends n d ≡ spanOf p → (t : DataType) × (p ≡ some t) × (n ≡ size t) × (d ≡ depth t)
-ended none n d e = absurd (let z : _≡_ {A = ℕ} 0 1 = cc in omega arith)
-ended (some t) n d e = (t, refl, cc, cc)
+module _ (levels : ℕ) (t : DataType) where
+  pub type-ended : (n : ℕ) → Ends n ≡ spanWithin levels t → (n ≡ size t) × (depth t ≤ levels)
+  unfolding spanWithin
+  type-ended n e = ended levels (size t) (depth t) n e
 
-pub broken : (p : Option DataType) → Broken ≡ spanOf p → p ≡ none
-broken none e = refl
-broken (some t) e = absurd (let z : _≡_ {A = ℕ} 0 1 = cc in omega arith)
+  pub type-deeper : TooDeep ≡ spanWithin levels t → levels < depth t
+  unfolding spanWithin
+  type-deeper e = deeper levels (size t) (depth t) e
+
+  type-ends : (n : ℕ) → n ≡ size t → depth t ≤ levels → Ends n ≡ spanWithin levels t
+  unfolding spanWithin
+  type-ends n e h = rw (e, le-leb (depth t) levels h)
+
+  type-deep : levels < depth t → TooDeep ≡ spanWithin levels t
+  unfolding spanWithin
+  type-deep h = rw (lt-leb (depth t) levels h)
+
+module _ (levels : ℕ) (fs : Fields) where
+  fields-ended : (n : ℕ) → Ends n ≡ spansWithin levels fs → (n ≡ sizes fs) × (depths fs ≤ levels)
+  unfolding spansWithin
+  fields-ended n e = ended levels (sizes fs) (depths fs) n e
+
+  fields-deeper : TooDeep ≡ spansWithin levels fs → levels < depths fs
+  unfolding spansWithin
+  fields-deeper e = deeper levels (sizes fs) (depths fs) e
+
+  fields-end : (n : ℕ) → n ≡ sizes fs → depths fs ≤ levels → Ends n ≡ spansWithin levels fs
+  unfolding spansWithin
+  fields-end n e h = rw (e, le-leb (depths fs) levels h)
+
+  fields-deep : levels < depths fs → TooDeep ≡ spansWithin levels fs
+  unfolding spansWithin
+  fields-deep h = rw (lt-leb (depths fs) levels h)
 
 -- ---- the Lists and Arrays at the front, of which all down to `at` were seen
 module _ (ks xs : List ℕ) (at : ℕ) (e : wrappersOf ks xs ≡ at + wrappersOf (drop at ks) (drop at xs)) where
@@ -65,145 +97,173 @@ no-wrapper k a n l r = go (children k a) (view k a) l r
   where
     go : {j b : ℕ} (c : Children) → View j b c → (j ≡ Kind.List → ⊥) → (j ≡ Kind.Array → ⊥) → wrapping c n ≡ 0
     go no-child (is-leaf h) l r = refl
-    go under-list is-list l r = absurd (l refl)
-    go under-array is-array l r = absurd (r refl)
+    go under-list View.is-list l r = absurd (l refl)
+    go under-array View.is-array l r = absurd (r refl)
     go fields is-struct l r = refl
     go no-type is-other l r = refl
 
--- under them stands neither
-lowest : (ks xs : List ℕ) → wrappersOf ks xs < length ks → wrappersOf ks xs < length xs → wrapping (children (getD ks (wrappersOf ks xs) 0) (getD xs (wrappersOf ks xs) 0)) 0 ≡ 0
-unfolding wrappersOf
-lowest [] xs h h′ = absurd (omega arith)
-lowest (k ∷ ks) [] h h′ = absurd (omega arith)
-lowest (k ∷ ks) (a ∷ xs) h h′ = go (children k a) refl h h′ (lowest ks xs)
-  where
-    go : (s : Children) → children k a ≡ s → wrapping s (wrappersOf ks xs) < suc (length ks) → wrapping s (wrappersOf ks xs) < suc (length xs) → (wrappersOf ks xs < length ks → wrappersOf ks xs < length xs → wrapping (children (getD ks (wrappersOf ks xs) 0) (getD xs (wrappersOf ks xs) 0)) 0 ≡ 0) → wrapping (children (getD (k ∷ ks) (wrapping s (wrappersOf ks xs)) 0) (getD (a ∷ xs) (wrapping s (wrappersOf ks xs)) 0)) 0 ≡ 0
-    go no-child c h h′ r = rw c
-    go under-list c h h′ r = r (omega arith) (omega arith)
-    go under-array c h h′ r = r (omega arith) (omega arith)
-    go fields c h h′ r = rw c
-    go no-type c h h′ r = rw c
+-- ---- what stands under them
+-- Under the n Lists and Arrays at the front, where the type t stands: a leaf or a Struct.
+pub record Lowest (ks xs : List ℕ) (t : DataType) (n : ℕ) : Type 0 where
+  pub inside : n < length ks
+  pub stands : Valid (from n ks) (from n xs)
+  pub nodes : size t ≡ n + size (typeAt (from n ks) (from n xs))
+  pub levels : depth t ≡ n + depth (typeAt (from n ks) (from n xs))
+  pub last : Kind.List ≤ getD ks n 0 → getD ks n 0 ≡ Kind.Struct
 
--- so what is no leaf and no Struct there is no type
-no-other : (k a : ℕ) → Kind.UnknownIntNeg < k → (k ≡ Kind.Struct → ⊥) → wrapping (children k a) 0 ≡ 0 → children k a ≡ no-type
-no-other k a l s w = go (children k a) (view k a) l s w
+no-more : {ks xs : List ℕ} {t : DataType} → Node ks xs t → (Kind.List ≤ getD ks 0 0 → getD ks 0 0 ≡ Kind.Struct) → Lowest ks xs t 0
+no-more {ks} {xs} {t} n h =
+    let e = type-is ks xs t (n .read) in
+    record {
+      inside = omega arith;
+      stands = rw (from-zero ks, from-zero xs) (valid-of n);
+      nodes = rw (from-zero ks, from-zero xs, e) (sym (zero-add (size t)));
+      levels = rw (from-zero ks, from-zero xs, e) (sym (zero-add (depth t)));
+      last = h;
+    }
+
+unary-depth : {k a : ℕ} {f : DataType → DataType} → Unary k a f → (t : DataType) → depth (f t) ≡ suc (depth t)
+unfolding depth
+unary-depth Unary.is-list t = refl
+unary-depth Unary.is-array t = refl
+
+one-more : {k a n : ℕ} {f : DataType → DataType} {ks xs : List ℕ} {u : DataType} → Unary k a f → Lowest ks xs u n → Lowest (k ∷ ks) (a ∷ xs) (f u) (suc n)
+one-more {k} {a} {n} {f} {ks} {xs} {u} w b =
+    record {
+      inside = omega arith;
+      stands = rw (past k ks, past a xs) (b .stands);
+      nodes = rw (past k ks, past a xs) (omega (arith, unary-size w u, b .nodes));
+      levels = rw (past k ks, past a xs) (omega (arith, unary-depth w u, b .levels));
+      last = b .last;
+    }
   where
-    go : {j b : ℕ} (c : Children) → View j b c → Kind.UnknownIntNeg < j → (j ≡ Kind.Struct → ⊥) → wrapping c 0 ≡ 0 → c ≡ no-type
-    go no-child (is-leaf h) l s w = absurd (omega arith)
-    go under-list is-list l s w = absurd (omega arith)
-    go under-array is-array l s w = absurd (omega arith)
-    go fields is-struct l s w = absurd (s refl)
-    go no-type is-other l s w = refl
+    past : (j : ℕ) (l : List ℕ) → from (suc n) (j ∷ l) ≡ from n l
+    past j l = rest (j ∷ l) (suc n) ∙ sym (rest l n)
+
+lowest : (ks xs : List ℕ) (t : DataType) → Node ks xs t → Lowest ks xs t (wrappersOf ks xs)
+unfolding wrappersOf children
+lowest [] xs t n = absurd (omega arith)
+lowest (k ∷ ks) [] t n = absurd (omega arith)
+lowest (k ∷ ks) (a ∷ xs) t n = go t (at-node (k ∷ ks) (a ∷ xs) t n) n (lowest ks xs)
+  where
+    unary : {j b : ℕ} {f : DataType → DataType} → Unary j b f → wrapping (children j b) (wrappersOf ks xs) ≡ suc (wrappersOf ks xs)
+    unary Unary.is-list = refl
+    unary Unary.is-array = refl
+
+    go : (t : DataType) → AtNode (k ∷ ks) (a ∷ xs) t → Node (k ∷ ks) (a ∷ xs) t → ((u : DataType) → Node ks xs u → Lowest ks xs u (wrappersOf ks xs)) → Lowest (k ∷ ks) (a ∷ xs) t (wrapping (children k a) (wrappersOf ks xs))
+    go t (at-leaf h) n r = rw (children-leaf k a h) (no-more n (λ g. absurd (omega arith)))
+    go t (at-one {f} {u} w m) n r = rw (unary w) (one-more w (r u (rw (rest, rest) at m)))
+    go t (at-struct e m) n r = rw (children-struct k a e) (no-more n (λ g. e))
 
 -- ---- the node walk
--- the answer for a type under n Lists and Arrays
-abbrev below : ℕ → Option DataType → Span
-below n none = Broken
-below n (some t) = Ends (n + size t) (n + depth t)
+-- the fields of the n-th node, where it is a Struct
+abbrev fieldsUnder : List ℕ → List ℕ → ℕ → Fields
+fieldsUnder ks xs n = runAt (getD xs n 0) (from (n + 1) ks) (from (n + 1) xs)
 
-none-over : (p : Option DataType) → spanOf p ≡ below 0 p
-none-over none = refl
-none-over (some t) = ap₂ Ends (let z : size t ≡ 0 + size t = omega arith in z) (let z : depth t ≡ 0 + depth t = omega arith in z)
+-- under n Lists and Arrays
+module _ {ks xs : List ℕ} (v : Valid ks xs) {n : ℕ} (w : n ≡ wrappersOf ks xs) where
+  pub under : Lowest ks xs (typeAt ks xs) n
+  under = subst (Lowest ks xs (typeAt ks xs)) (sym w) (lowest ks xs (typeAt ks xs) v)
 
-one-less : (f : DataType → DataType) → ((t : DataType) → size (f t) ≡ suc (size t)) → ((t : DataType) → depth (f t) ≡ suc (depth t)) → (p q : Option DataType) (w : ℕ) → spanOf p ≡ below w q → spanOf (mapO f p) ≡ below (suc w) q
-one-less f s d none none w e = refl
-one-less f s d none (some u) w e = absurd (let z : _≡_ {A = ℕ} 0 1 = cc in omega arith)
-one-less f s d (some t) none w e = absurd (let z : _≡_ {A = ℕ} 0 1 = cc in omega arith)
-one-less f s d (some t) (some u) w e =
-    let y : size t ≡ w + size u = cc in
-    let z : depth t ≡ w + depth u = cc in
-    ap₂ Ends (omega (arith, s t)) (omega (arith, d t))
+  -- a Struct
+  module _ (k : Kind.List ≤ getD ks n 0) where
+    at-bottom : getD (from n ks) 0 0 ≡ Kind.Struct
+    at-bottom = from-first n ks ∙ under .last k
 
--- the answer is that for what stands under the Lists and Arrays at the front
-wrapped : (ks xs : List ℕ) → spanOf (nodeAt ks xs) ≡ below (wrappersOf ks xs) (nodeAt (drop (wrappersOf ks xs) ks) (drop (wrappersOf ks xs) xs))
-unfolding wrappersOf size depth
-wrapped [] xs = none-over (nodeAt [] xs)
-wrapped (k ∷ ks) [] = none-over (nodeAt (k ∷ ks) [])
-wrapped (k ∷ ks) (a ∷ xs) = go (children k a) refl (wrapped ks xs)
-  where
-    at-front : (s : Children) → children k a ≡ s → nodeAt (k ∷ ks) (a ∷ xs) ≡ underNode nodeAt fieldsAt s k a ks xs
-    at-front s c = node-at (k ∷ ks) (a ∷ xs) 0 (omega arith) (omega arith) s c
+    pub fields-stand : ValidRun (getD xs n 0) (from (n + 1) ks) (from (n + 1) xs)
+    fields-stand = rw (from-first n xs, onward n 1 (n + 1) ks refl, onward n 1 (n + 1) xs refl) at (struct-valid (from n ks) (from n xs) (under .stands) at-bottom)
 
-    go : (s : Children) → children k a ≡ s → spanOf (nodeAt ks xs) ≡ below (wrappersOf ks xs) (nodeAt (drop (wrappersOf ks xs) ks) (drop (wrappersOf ks xs) xs)) → spanOf (nodeAt (k ∷ ks) (a ∷ xs)) ≡ below (wrapping s (wrappersOf ks xs)) (nodeAt (drop (wrapping s (wrappersOf ks xs)) (k ∷ ks)) (drop (wrapping s (wrappersOf ks xs)) (a ∷ xs)))
-    go no-child c r = none-over (nodeAt (k ∷ ks) (a ∷ xs))
-    go under-list c r = ap spanOf (at-front under-list c) ∙ one-less list (λ t. refl) (λ t. refl) (nodeAt ks xs) (nodeAt (drop (wrappersOf ks xs) ks) (drop (wrappersOf ks xs) xs)) (wrappersOf ks xs) r
-    go under-array c r = ap spanOf (at-front under-array c) ∙ one-less (array a) (λ t. refl) (λ t. refl) (nodeAt ks xs) (nodeAt (drop (wrappersOf ks xs) ks) (drop (wrappersOf ks xs) xs)) (wrappersOf ks xs) r
-    go fields c r = none-over (nodeAt (k ∷ ks) (a ∷ xs))
-    go no-type c r = none-over (nodeAt (k ∷ ks) (a ∷ xs))
-
--- n Lists and Arrays stand at the front
-module _ (ks xs : List ℕ) (n : ℕ) (w : n ≡ wrappersOf ks xs) where
-  down : spanOf (nodeAt ks xs) ≡ below n (nodeAt (drop n ks) (drop n xs))
-  down = wrapped ks xs ∙ ap (λ (i : ℕ). below i (nodeAt (drop i ks) (drop i xs))) (sym w)
-
-  pub node-ends : n ≡ length ks → Broken ≡ spanOf (nodeAt ks xs)
-  node-ends h = sym (down ∙ ap (below n) (node-end (drop n ks) (drop n xs) (rw length-drop (omega arith))))
-
-  module _ (h : n < length ks) (h′ : n < length xs) where
-    pub node-leaf : getD ks n 0 < Kind.List → Ends (n + 1) n ≡ spanOf (nodeAt ks xs)
+    over : (size (typeAt ks xs) ≡ n + 1 + sizes (fieldsUnder ks xs n)) × (depth (typeAt ks xs) ≡ n + depths (fieldsUnder ks xs n))
     unfolding size depth
-    node-leaf k = sym (down ∙ ap (below n) (node-at ks xs n h h′ no-child (children-leaf _ _ (omega arith))) ∙ ap (Ends (n + 1)) (let z : n + 0 ≡ n = omega arith in z))
+    over =
+        let t = rw (from-first n xs, onward n 1 (n + 1) ks refl, onward n 1 (n + 1) xs refl) at (type-struct (from n ks) (from n xs) (under .stands) at-bottom) in
+        (omega (arith, under .nodes, ap size t), omega (arith, under .levels, ap depth t))
 
-    pub node-none : Kind.UnknownIntNeg < getD ks n 0 → (getD ks n 0 ≡ Kind.Struct → ⊥) → Broken ≡ spanOf (nodeAt ks xs)
-    node-none l o = sym (down ∙ ap (below n) (node-at ks xs n h h′ no-type (no-other _ _ l o low)))
-      where
-        low : wrapping (children (getD ks n 0) (getD xs n 0)) 0 ≡ 0
-        low = subst (λ (i : ℕ). wrapping (children (getD ks i 0) (getD xs i 0)) 0 ≡ 0) (sym w) (lowest ks xs (omega arith) (omega arith))
+    pub all-inside : (levels m : ℕ) → Ends m ≡ spansWithin levels (fieldsUnder ks xs n) → n + 1 + m ≤ length ks
+    all-inside levels m e = let f = fields-ended levels (fieldsUnder ks xs n) m e in omega (arith, over .0)
 
-    pub node-struct : getD ks n 0 ≡ Kind.Struct → (r : Span) → r ≡ spansOf (fieldsAt (getD xs n 0) (from (n + 1) ks) (from (n + 1) xs)) → spanUnder n r ≡ spanOf (nodeAt ks xs)
-    unfolding size depth
-    node-struct k r q = ap (spanUnder n) q ∙ rw (rest, rest) (go (fieldsAt (getD xs n 0) (drop (n + 1) ks) (drop (n + 1) xs))) ∙ sym (down ∙ ap (below n) (node-at ks xs n h h′ fields (children-struct _ _ k)))
-      where
-        go : (p : Option Fields) → spanUnder n (spansOf p) ≡ below n (mapO struct p)
-        go none = refl
-        go (some fs) = ap (λ (i : ℕ). Ends i (n + depths fs)) (let z : n + 1 + sizes fs ≡ n + suc (sizes fs) = omega arith in z)
+  module _ (levels : ℕ) where
+    pub node-deep : levels < n → TooDeep ≡ spanWithin levels (typeAt ks xs)
+    node-deep h = type-deep levels (typeAt ks xs) (omega (arith, under .levels))
+
+    module _ (h : n ≤ levels) where
+      pub node-leaf : getD ks n 0 < Kind.List → Ends (n + 1) ≡ spanWithin levels (typeAt ks xs)
+      unfolding size depth
+      node-leaf k =
+          let e = type-leaf (from n ks) (from n xs) (under .stands) (rw (from-first n ks) k) in
+          type-ends levels (typeAt ks xs) (n + 1) (omega (arith, under .nodes, ap size e)) (omega (arith, under .levels, ap depth e))
+
+      module _ (k : Kind.List ≤ getD ks n 0) where
+        pub node-fields : (m : ℕ) → Ends m ≡ spansWithin (levels - n) (fieldsUnder ks xs n) → Ends (n + 1 + m) ≡ spanWithin levels (typeAt ks xs)
+        node-fields m e =
+            let f = fields-ended (levels - n) (fieldsUnder ks xs n) m e in
+            type-ends levels (typeAt ks xs) (n + 1 + m) (omega (arith, over k .0)) (omega (arith, over k .1))
+
+        pub node-deeper : TooDeep ≡ spansWithin (levels - n) (fieldsUnder ks xs n) → TooDeep ≡ spanWithin levels (typeAt ks xs)
+        node-deeper e =
+            let f = fields-deeper (levels - n) (fieldsUnder ks xs n) e in
+            type-deep levels (typeAt ks xs) (omega (arith, over k .1))
 
 -- ---- the field walk
--- the answer for fields of which some are done: n nodes, as deep as d, stand before the others
-abbrev after : ℕ → ℕ → Option Fields → Span
-after n d none = Broken
-after n d (some fs) = Ends (n + sizes fs) (max d (depths fs))
+-- so many fields from a place on, and the type of the first
+abbrev fieldsFrom : ℕ → List ℕ → List ℕ → ℕ → Fields
+fieldsFrom m ks xs at = runAt m (from at ks) (from at xs)
 
--- of m fields at the front all but `left` are done, and end at `at`
-abbrev pub Along : (ks xs : List ℕ) (m at d left : ℕ) → Type 0
-Along ks xs m at d left = spansOf (fieldsAt m ks xs) ≡ after at d (fieldsAt left (drop at ks) (drop at xs))
+abbrev fieldType : List ℕ → List ℕ → ℕ → DataType
+fieldType ks xs at = typeAt (from (at + 1) ks) (from (at + 1) xs)
 
-pub start : (ks xs : List ℕ) (m : ℕ) → Along ks xs m 0 0 m
-start ks xs m = go (fieldsAt m ks xs)
-  where
-    go : (p : Option Fields) → spansOf p ≡ after 0 0 p
-    go none = refl
-    go (some fs) = ap₂ Ends (let z : sizes fs ≡ 0 + sizes fs = omega arith in z) (let z : depths fs ≡ max 0 (depths fs) = omega arith in z)
+-- Of the m fields at the front all but `left` are done: they end at `at`, and are as deep as `done`, which is within the levels asked for.
+pub record Along (levels m : ℕ) (ks xs : List ℕ) (at left : ℕ) : Type 0 where
+  pub done : ℕ
+  pub others : ValidRun left (from at ks) (from at xs)
+  pub nodes : sizes (runAt m ks xs) ≡ at + sizes (fieldsFrom left ks xs at)
+  pub deepest : depths (runAt m ks xs) ≡ max done (depths (fieldsFrom left ks xs at))
+  pub shallow : done ≤ levels
 
-module _ (ks xs : List ℕ) (even : length ks ≡ length xs) (m at d left : ℕ) (e : Along ks xs m at d left) where
-  pub fields-done : left ≡ 0 → Ends at d ≡ spansOf (fieldsAt m ks xs)
+pub start : (levels : ℕ) {m : ℕ} {ks xs : List ℕ} → ValidRun m ks xs → Along levels m ks xs 0 m
+start levels {m} {ks} {xs} v =
+    record {
+      done = 0;
+      others = rw (from-zero ks, from-zero xs) v;
+      nodes = rw (from-zero ks, from-zero xs) (omega arith);
+      deepest = rw (from-zero ks, from-zero xs) (omega arith);
+      shallow = omega arith;
+    }
+
+module _ {levels m : ℕ} {ks xs : List ℕ} {at left : ℕ} (a : Along levels m ks xs at left) where
+  pub fields-done : left ≡ 0 → Ends at ≡ spansWithin levels (runAt m ks xs)
   unfolding size depth
-  fields-done z = sym (e ∙ ap (after at d) (ap (λ (i : ℕ). fieldsAt i (drop at ks) (drop at xs)) z ∙ fields-zero (drop at ks) (drop at xs)) ∙ ap₂ Ends (let y : at + 0 ≡ at = omega arith in y) (let y : max d 0 ≡ d = omega arith in y))
+  fields-done z =
+      let e = run-end left (from at ks) (from at xs) z in
+      fields-end levels (runAt m ks xs) at (omega (arith, a .nodes, ap sizes e)) (omega (arith, a .deepest, ap depths e))
 
-  stop : fieldsAt left (drop at ks) (drop at xs) ≡ none → Broken ≡ spansOf (fieldsAt m ks xs)
-  stop f = sym (e ∙ ap (after at d) f)
+  module _ (p : left ≡ 0 → ⊥) where
+    -- all fields, the next of n nodes
+    pub all-nodes : (n : ℕ) → n ≡ size (fieldType ks xs at) → sizes (runAt m ks xs) ≡ at + 1 + n + sizes (fieldsFrom (left - 1) ks xs (at + 1 + n))
+    unfolding size
+    all-nodes n e = omega (arith, a .nodes, ap sizes (next-field left at ks xs (a .others) p n e))
 
-  module _ (p : 0 < left) where
-    pub fields-short : at ≡ length ks → Broken ≡ spansOf (fieldsAt m ks xs)
-    fields-short h = stop (fields-end left (drop at ks) (drop at xs) p (rw length-drop (omega arith)))
+    all-levels : (n : ℕ) → n ≡ size (fieldType ks xs at) → depths (runAt m ks xs) ≡ max (max (a .done) (2 + depth (fieldType ks xs at))) (depths (fieldsFrom (left - 1) ks xs (at + 1 + n)))
+    unfolding depth
+    all-levels n e = omega (arith, a .deepest, ap depths (next-field left at ks xs (a .others) p n e))
 
-    module _ (h : at < length ks) where
-      -- no field stands there
-      pub fields-stray : (getD ks at 0 ≡ Kind.Field → ⊥) → Broken ≡ spansOf (fieldsAt m ks xs)
-      fields-stray k = stop (fields-other left ks xs at p h (omega arith) k)
+    pub no-level : levels < 2 → TooDeep ≡ spansWithin levels (runAt m ks xs)
+    no-level h = fields-deep levels (runAt m ks xs) (omega (arith, all-levels (size (fieldType ks xs at)) refl))
 
-      -- a field without a type
-      pub fields-broken : Broken ≡ spanOf (nodeAt (from (at + 1) ks) (from (at + 1) xs)) → Broken ≡ spansOf (fieldsAt m ks xs)
-      fields-broken q = stop (fields-none left ks xs at p h (omega arith) (broken (nodeAt (drop (at + 1) ks) (drop (at + 1) xs)) (rw (rest ks, rest xs) at q)))
+    module _ (h : 2 ≤ levels) where
+      pub field-deep : TooDeep ≡ spanWithin (levels - 2) (fieldType ks xs at) → TooDeep ≡ spansWithin levels (runAt m ks xs)
+      field-deep e =
+          let d = type-deeper (levels - 2) (fieldType ks xs at) e in
+          fields-deep levels (runAt m ks xs) (omega (arith, all-levels (size (fieldType ks xs at)) refl))
 
       -- a field is done
-      pub field-done : getD ks at 0 ≡ Kind.Field → (n d′ : ℕ) → Ends n d′ ≡ spanOf (nodeAt (from (at + 1) ks) (from (at + 1) xs)) → Along ks xs m (at + 1 + n) (max d (d′ + 2)) (left - 1)
-      unfolding size depth
-      field-done k n d′ q =
-          let s = ended (nodeAt (drop (at + 1) ks) (drop (at + 1) xs)) n d′ (rw (rest ks, rest xs) at q) in
-          e ∙ ap (after at d) (fields-some left ks xs at p h (omega arith) k (s .0) (s .1) (at + 1 + n) (ap (λ (i : ℕ). at + 1 + i) (s .2)))
-          ∙ go (s .0) (s .2) (s .3) (fieldsAt (left - 1) (drop (at + 1 + n) ks) (drop (at + 1 + n) xs))
-        where
-          go : (t : DataType) → n ≡ size t → d′ ≡ depth t → (f : Option Fields) → after at d (mapO (field (getD xs at 0) t) f) ≡ after (at + 1 + n) (max d (d′ + 2)) f
-          go t y z none = refl
-          go t y z (some fs) = ap₂ Ends (let w : at + suc (size t + sizes fs) ≡ at + 1 + n + sizes fs = omega arith in w) (let w : max d (max (suc (suc (depth t))) (depths fs)) ≡ max (max d (d′ + 2)) (depths fs) = omega arith in w)
+      pub field-done : (n : ℕ) → Ends n ≡ spanWithin (levels - 2) (fieldType ks xs at) → Along levels m ks xs (at + 1 + n) (left - 1)
+      field-done n e =
+          let t = type-ended (levels - 2) (fieldType ks xs at) n e in
+          record {
+            done = max (a .done) (2 + depth (fieldType ks xs at));
+            others = next-run left at ks xs (a .others) p n (t .0);
+            nodes = all-nodes n (t .0);
+            deepest = all-levels n (t .0);
+            shallow = omega arith;
+          }

@@ -8,5 +8,6 @@ pub mod Reading
 pub mod Refusals
 pub mod Limits
 pub mod Output
+pub mod Scan
 pub mod Span
 pub mod Walk

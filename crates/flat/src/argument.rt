@@ -1,6 +1,6 @@
 // The rule of each kind's argument.
 ghost use mathlib.Core.Path.{_≡_};
-ghost use Rattle.flat.specs.Argument.{argumentFits, decimalFits, datetimeFits, leafFits, plainLeaf};
+ghost use Rattle.flat.specs.Argument.{argumentFits, decimalFits, datetimeFits, plainLeaf};
 use crate::kind::Kind;
 
 // Units of time: 0 ns, 1 µs, 2 ms.
@@ -51,16 +51,6 @@ pub fn argument_fits(kind: u8, arg: u64) -> bool
         Kind::FIELD => arg < 0x1_0000_0000,
         _ => false,
     }
-}
-
-// Whether one node is a type, with no child.
-pub fn leaf_fits(kind: u8, arg: u64) -> bool
-    ensures { λ r. ⌜ r ≡ leafFits kind arg ⌝ }
-{
-    if kind <= Kind::UNKNOWN_INT_NEG {
-        return argument_fits(kind, arg);
-    }
-    false
 }
 
 // Whether one node is a leaf whose argument is 0, as most leaves are.

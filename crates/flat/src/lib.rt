@@ -3,14 +3,16 @@ pub mod argument;
 pub mod error;
 pub mod kind;
 mod limits;
+mod scan;
 pub mod span;
 
 ghost use mathlib.Core.Path.{_≡_};
-ghost use mathlib.Core.List.{_∷_, []};
-ghost use Prim.Native.Nat.{_<_};
+ghost use mathlib.Core.Bool.{true};
+ghost use Prim.Native.Nat.{_≤_};
 ghost use lib.ListN.{length};
 ghost use Rattle.flat.specs.Reader.{nodeAt};
 ghost use Rattle.flat.specs.Reading.{kindsFit, argumentsFit, shaped, reading, onePlain, checkedOf, checkedNumber, checkedValue, rootOf, rootNumber, rootKind, rootArg, RootFits};
+ghost use Rattle.flat.specs.Scan.{accepted};
 ghost use Rattle.flat.specs.Output.{writtenNumber, writtenValue};
 use argument::argument_fits;
 use error::Error;
@@ -150,60 +152,26 @@ fn arguments_fit(kinds: &[u8], args: &[u64]) -> bool
     true
 }
 
-// Refusals 4 and 5. A leaf alone needs no walk.
+// Refusals 4 and 5. No type of so few nodes has more nested than twice their number, so there the scan tells of the shape alone.
 fn check_shape(kinds: &[u8], args: &[u64]) -> Checked
-    requires { ⌜ (length (now kinds) ≡ length (now args)) × (0 < length (now kinds)) ⌝ }
+    requires { do
+      nodes ← ⟦Flat::MAX_NODES⟧
+      ⌜ (length (now kinds) ≡ length (now args)) × (length (now kinds) ≤ nodes) × (argumentsFit (now kinds) (now args) ≡ true) ⌝ }
     ensures { λ r. do
       deep ← ⟦Flat::MAX_DEPTH⟧ .entry
       ⌜ r ≡ checkedOf (shaped deep (length (now (kinds .entry))) (nodeAt (now (kinds .entry)) (now (args .entry)))) ⌝ }
 {
-    if kinds.len() == 1 {
-        if kinds[0] < Kind::LIST {
-            return Checked::Valid;
-        }
+    if !scan::passes(kinds, args, 2 * Flat::MAX_NODES) {
+        return Checked::Refused(Error::Shape);
     }
-    match span::node_span(kinds, args) {
-        Span::Ends(n, depth) => {
-            if n != kinds.len() {
-                return Checked::Refused(Error::Shape);
-            }
-            if depth > Flat::MAX_DEPTH {
-                return Checked::Refused(Error::Depth);
-            }
-            Checked::Valid
-        }
-        Span::Broken => Checked::Refused(Error::Shape),
+    match span::node_span(kinds, args, Flat::MAX_DEPTH) {
+        Span::Ends(_) => Checked::Valid,
+        Span::TooDeep => Checked::Refused(Error::Depth),
     }
 }
 
-// Whether one node is a type, without a walk.
-pub fn check_one(kind: u8, arg: u64) -> Checked
-    ensures { λ r. do
-      nodes ← ⟦Flat::MAX_NODES⟧ .entry
-      deep ← ⟦Flat::MAX_DEPTH⟧ .entry
-      ⌜ r ≡ checkedOf (reading nodes deep (kind ∷ []) (arg ∷ [])) ⌝ }
-{
-    if kind > Kind::FIELD {
-        return Checked::Refused(Error::Kind);
-    }
-    if !argument_fits(kind, arg) {
-        return Checked::Refused(Error::Argument);
-    }
-    match kind {
-        Kind::NULL..=Kind::UNKNOWN_INT_NEG => Checked::Valid,
-        Kind::STRUCT => {
-            if arg == 0 {
-                Checked::Valid
-            } else {
-                Checked::Refused(Error::Shape)
-            }
-        }
-        _ => Checked::Refused(Error::Shape),
-    }
-}
-
-// Whether two arrays are a type: refusals 1 to 5, each looking at the whole type before the next.
-pub fn check(kinds: &[u8], args: &[u64]) -> Checked
+// Whether two arrays are a type: refusals 1 to 5, each looking at the whole type before the next. For arrays that the scan didn't accept.
+fn examine(kinds: &[u8], args: &[u64]) -> Checked
     ensures { λ r. do
       nodes ← ⟦Flat::MAX_NODES⟧ .entry
       deep ← ⟦Flat::MAX_DEPTH⟧ .entry
@@ -241,6 +209,63 @@ pub fn is_plain(kinds: &[u8], args: &[u64]) -> bool
     argument::is_plain(kinds[0], args[0])
 }
 
+fn accepts_nodes(kinds: &[u8], args: &[u64]) -> bool
+    ensures { λ r. do
+      nodes ← ⟦Flat::MAX_NODES⟧ .entry
+      deep ← ⟦Flat::MAX_DEPTH⟧ .entry
+      ⌜ r ≡ accepted nodes deep (now (kinds .entry)) (now (args .entry)) ⌝ }
+{
+    if kinds.len() != args.len() {
+        return false;
+    }
+    if kinds.len() > Flat::MAX_NODES {
+        return false;
+    }
+    scan::passes(kinds, args, Flat::MAX_DEPTH)
+}
+
+// Whether the scan accepts two arrays: it accepts types only, and nearly every one. What it doesn't accept goes on to `examine`.
+fn accepts(kinds: &[u8], args: &[u64]) -> bool
+    ensures { λ r. do
+      nodes ← ⟦Flat::MAX_NODES⟧ .entry
+      deep ← ⟦Flat::MAX_DEPTH⟧ .entry
+      ⌜ r ≡ accepted nodes deep (now (kinds .entry)) (now (args .entry)) ⌝ }
+{
+    if is_plain(kinds, args) {
+        return true;
+    }
+    accepts_nodes(&kinds[0..], &args[0..])
+}
+
+// Whether two arrays are a type: refusals 1 to 5.
+pub fn check(kinds: &[u8], args: &[u64]) -> Checked
+    ensures { λ r. do
+      nodes ← ⟦Flat::MAX_NODES⟧ .entry
+      deep ← ⟦Flat::MAX_DEPTH⟧ .entry
+      ⌜ r ≡ checkedOf (reading nodes deep (now (kinds .entry)) (now (args .entry))) ⌝ }
+{
+    if accepts(kinds, args) {
+        return Checked::Valid;
+    }
+    examine(&kinds[0..], &args[0..])
+}
+
+// The root of arrays that are not one plain leaf.
+fn root_of(kinds: &[u8], args: &[u64]) -> Root
+    ensures { λ r. do
+      nodes ← ⟦Flat::MAX_NODES⟧ .entry
+      deep ← ⟦Flat::MAX_DEPTH⟧ .entry
+      ⌜ (r ≡ rootOf (reading nodes deep (now (kinds .entry)) (now (args .entry)))) × RootFits r ⌝ }
+{
+    if accepts_nodes(kinds, args) {
+        return Root::Node(kinds[0], args[0]);
+    }
+    match examine(kinds, args) {
+        Checked::Valid => Root::Node(kinds[0], args[0]),
+        Checked::Refused(e) => Root::Refused(e),
+    }
+}
+
 // Checks a type, and gives its root: refusals 1 to 5.
 pub fn check_root(kinds: &[u8], args: &[u64]) -> Root
     ensures { λ r. do
@@ -248,19 +273,8 @@ pub fn check_root(kinds: &[u8], args: &[u64]) -> Root
       deep ← ⟦Flat::MAX_DEPTH⟧ .entry
       ⌜ (r ≡ rootOf (reading nodes deep (now (kinds .entry)) (now (args .entry)))) × RootFits r ⌝ }
 {
-    // the common case needs no scan and no walk: one node of a kind before Decimal, whose argument is 0; so short a test is compiled into its callers
-    if kinds.len() == 1 {
-        if args.len() == 1 {
-            let kind = kinds[0];
-            if kind < Kind::DECIMAL {
-                if args[0] == 0 {
-                    return Root::Node(kind, 0);
-                }
-            }
-        }
+    if is_plain(kinds, args) {
+        return Root::Node(kinds[0], 0);
     }
-    match check(kinds, args) {
-        Checked::Valid => Root::Node(kinds[0], args[0]),
-        Checked::Refused(e) => Root::Refused(e),
-    }
+    root_of(&kinds[0..], &args[0..])
 }

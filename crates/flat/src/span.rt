@@ -1,21 +1,15 @@
-// The walk of the check: a node hands its fields to a walk over fields, which hands each field back.
+// The walk of the check: a node hands its fields to a walk over fields, which hands each field back. It goes no deeper than it is asked to.
 ghost use mathlib.Core.Path.{_≡_};
 ghost use lib.ListN.{length};
-ghost use Prim.Native.Nat.{_^_, _≤_, max};
-ghost use Rattle.flat.specs.Reader.{nodeAt, fieldsAt};
-ghost use Rattle.flat.specs.Span.{spanOf, spansOf, wrappersOf, spanUnder, Within};
+ghost use Prim.Native.Nat.{_≤_};
+ghost use Rattle.flat.specs.Span.{spanWithin, spansWithin, wrappersOf};
+ghost use Rattle.flat.specs.Walk.{Valid, typeAt, ValidRun, runAt};
 use crate::kind::Kind;
 
-// How many nodes what stands at the front has and how deep it is, or that no type stands there.
+// How many nodes the type at the front has, or that it is deeper than asked.
 pub enum Span {
-    Ends(usize, usize),
-    Broken,
-}
-
-fn larger(a: usize, b: usize) -> usize
-    ensures { λ r. ⌜ r ≡ max a b ⌝ }
-{
-    if a < b { b } else { a }
+    Ends(usize),
+    TooDeep,
 }
 
 // Where the Lists and Arrays end that stand at the front, one under the other.
@@ -40,61 +34,45 @@ fn bottom(kinds: &[u8], args: &[u64]) -> usize
     at
 }
 
-// What s spans, under one node more and as many levels below the front as there are nodes before that one.
-fn under(s: Span, levels: usize) -> Span
-    requires { ⌜ Within (2 ^ 62) s × (levels ≤ 2 ^ 62) ⌝ }
-    ensures { λ r. ⌜ r ≡ spanUnder levels s ⌝ }
-{
-    match s {
-        Span::Ends(n, d) => Span::Ends(levels + 1 + n, levels + d),
-        Span::Broken => Span::Broken,
-    }
-}
-
-// The type at the front of the two arrays.
-pub fn node_span(kinds: &[u8], args: &[u64]) -> Span
-    requires { ⌜ length (now kinds) ≡ length (now args) ⌝ }
-    ensures { λ r. ⌜ r ≡ spanOf (nodeAt (now (kinds .entry)) (now (args .entry))) ⌝ }
+// The type at the front of the two arrays, if it is no deeper than so many levels.
+pub fn node_span(kinds: &[u8], args: &[u64], levels: usize) -> Span
+    requires { ⌜ Valid (now kinds) (now args) ⌝ }
+    ensures { λ r. ⌜ r ≡ spanWithin levels (typeAt (now (kinds .entry)) (now (args .entry))) ⌝ }
 {
     let at = bottom(kinds, args);
-    if at == kinds.len() {
-        return Span::Broken;
+    if at > levels {
+        return Span::TooDeep;
     }
-    let k = kinds[at];
-    let a = args[at];
     let next = at + 1;
-    match k {
-        Kind::NULL..=Kind::UNKNOWN_INT_NEG => Span::Ends(next, at),
-        Kind::STRUCT => under(field_span(&kinds[next..], &args[next..], a), at),
-        _ => Span::Broken,
+    match kinds[at] {
+        Kind::NULL..=Kind::UNKNOWN_INT_NEG => Span::Ends(next),
+        _ => match field_span(&kinds[next..], &args[next..], args[at], levels - at) {
+            Span::Ends(n) => Span::Ends(next + n),
+            Span::TooDeep => Span::TooDeep,
+        },
     }
 }
 
-// The given number of fields at the front of the two arrays.
-pub fn field_span(kinds: &[u8], args: &[u64], count: u64) -> Span
-    requires { ⌜ length (now kinds) ≡ length (now args) ⌝ }
-    ensures { λ r. ⌜ r ≡ spansOf (fieldsAt count (now (kinds .entry)) (now (args .entry))) ⌝ }
+// The given number of fields at the front of the two arrays, if none is deeper than so many levels below their Struct.
+pub fn field_span(kinds: &[u8], args: &[u64], count: u64, levels: usize) -> Span
+    requires { ⌜ ValidRun count (now kinds) (now args) ⌝ }
+    ensures { λ r. ⌜ r ≡ spansWithin levels (runAt count (now (kinds .entry)) (now (args .entry))) ⌝ }
 {
     let mut at = 0;
-    let mut depth = 0;
     let mut left = count;
     while left > 0 {
-        if at == kinds.len() {
-            return Span::Broken;
-        }
-        if kinds[at] != Kind::FIELD {
-            return Span::Broken;
+        // the Struct and the field stand above the field's type
+        if levels < 2 {
+            return Span::TooDeep;
         }
         let next = at + 1;
-        match node_span(&kinds[next..], &args[next..]) {
-            Span::Ends(n, d) => {
+        match node_span(&kinds[next..], &args[next..], levels - 2) {
+            Span::Ends(n) => {
                 at = next + n;
-                // the Struct and the field stand above the field's type: two levels more
-                depth = larger(depth, d + 2);
                 left = left - 1;
             }
-            Span::Broken => return Span::Broken,
+            Span::TooDeep => return Span::TooDeep,
         }
     }
-    Span::Ends(at, depth)
+    Span::Ends(at)
 }

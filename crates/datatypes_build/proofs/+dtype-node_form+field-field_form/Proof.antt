@@ -17,8 +17,7 @@ use Rattle.datatypes_build.proofs.+dtype-node_form+field-field_form.Lts
 use Rattle.datatypes_build.proofs.field.field_form.Reads as field-form
 use Rattle.datatypes_build.proofs.field.field_form.Kinds as field-form-kinds
 use Rattle.datatypes_build.proofs.+dtype-node_form+field-field_form.Lts-field-field_form as field-form-lts
-use Rattle.datatypes_build.proofs.leaf.argument_form.Reads as argument-form-reads
-use Rattle.datatypes_build.proofs.leaf.kind_form.Reads as kind-form-reads
+use Rattle.datatypes_build.proofs.leaf.leaf_form.Reads as leaf-form-reads
 use Rattle.datatypes_build.proofs.+dtype-node_form+field-field_form.{statement}
 use Rattle.datatypes_build.proofs.+dtype-node_form+field-field_form.Tie.{close}
 
@@ -41,7 +40,7 @@ abbrev field-form-below : ℕ → In 4 field-form-kinds.ps
 field-form-below t = and 4 field-form-kinds.ps (falls 4 field-form-kinds.ps _<_ μ-field-form t) field-form.Pre
 
 abbrev node-form-claims : ℕ → node-form-lts.Claims
-node-form-claims t = (kind-form-reads.Asked, kind-form-reads.Learnt, argument-form-reads.Asked, argument-form-reads.Learnt, field-form-below t, field-form.Post, node-form-below t, node-form.Post)
+node-form-claims t = (leaf-form-reads.Asked, leaf-form-reads.Learnt, field-form-below t, field-form.Post, node-form-below t, node-form.Post)
 
 abbrev field-form-claims : ℕ → field-form-lts.Claims
 field-form-claims t = (node-form-below t, node-form.Post)
@@ -55,8 +54,9 @@ field-form-μ-loop form kinds args count out-kinds₀ out-args₀ at₀ left₀ 
 
 node-form-returns : (t : ℕ) → node-form-lts.Need-returns (node-form-claims t) (node-form-at t) node-form.Post
 node-form-returns t c =
-    let s = c .before .before .before .before .before .before .before .before .before in
-    leaf-built (s .args .form) (s .pre .1 .0) (s .pre .1 .1) (c .before .before .if1 .taken) _ _ (c .before .kind-form .ensures) (c .argument-form .ensures)
+    let at = c .before .before .before .before in
+    let s = at .before .before .before .before .before .before .before .before .before .before in
+    leaf-built (s .args .form) (s .pre .1 .0) (at .before .before .before .if1 .taken) (at .leaf-form .ensures)
 
 node-form-field-form-requires : (t : ℕ) → node-form-lts.Need-field-form-requires (node-form-claims t) (node-form-at t) node-form.Post
 node-form-field-form-requires t c κs =
@@ -114,17 +114,17 @@ pub +dtype·node-form+field·field-form-spec : {M : Type 1} → statement M
 +dtype·node-form+field·field-form-spec = close μ-node-form μ-field-form (λ t. node-form-lts.spec (node-form-claims t)
     (node-form-at t)
     node-form.Post
-    (λ c. search needs) (λ c. search needs) (λ c κs. search needs) (λ c. search needs) (λ c κs. search needs) (λ c. search needs) (λ c. search needs) (λ c. search needs)
+    (λ c. search needs) (λ c. search needs) (λ c κs. record { kinds = omega arith; args = omega arith }) (λ c. search needs) (λ c. search needs)
     (node-form-returns t)
     (λ c. search needs) (λ c. search needs) (λ c. search needs) (λ c. search needs) (λ c. search needs) (λ c. search needs) (λ c. search needs) (λ c. search needs) (λ c. simp length-set (omega arith)) (λ c. simp length-set (omega arith)) (λ c. search needs) (λ c. simp length-set (omega arith)) (λ c. simp length-set (omega arith)) (λ c. search needs)
     (node-form-field-form-requires t)
     (node-form-add-result t)
-    (λ c. c .before .before .before .out-kinds .given .1 ∙ simp length-set) (λ c. c .before .out-args .given .1 ∙ simp length-set)
+    (λ c. c .before .before .before .out-kinds2 .given .1 ∙ simp length-set) (λ c. c .before .out-args2 .given .1 ∙ simp length-set)
     (node-form-returns-2 t)
     (λ c. simp length-set (omega arith)) (λ c. simp length-set (omega arith)) (λ c. search needs) (λ c. simp length-set (omega arith)) (λ c. simp length-set (omega arith)) (λ c. search needs)
     (node-form-node-form-requires t)
     (node-form-add-result-2 t)
-    (λ c. c .before .before .before .out-kinds2 .given .1 ∙ simp length-set) (λ c. c .before .out-args2 .given .1 ∙ simp length-set)
+    (λ c. c .before .before .before .out-kinds3 .given .1 ∙ simp length-set) (λ c. c .before .out-args3 .given .1 ∙ simp length-set)
     (node-form-returns-3 t))
     λ t. field-form-lts.spec (field-form-claims t)
     (field-form-at t)

@@ -4,26 +4,20 @@ use native.Mathlib.Omega.{arith}
 use borrow.Author.Needs.{needs}
 use Rattle.flat.specs.Reading.{reading}
 use Rattle.flat.proofs.Meaning.{checked-refused}
-use Rattle.flat.proofs.Plain.{plain-type}
-use Rattle.datatypes.proofs.Answers.{some-node}
-use Rattle.datatypes_eq.proofs.Answers.{form, plain-equal, alike-valid, unlike}
+use Rattle.datatypes_eq.proofs.Answers.{form, both-some, plain-equal, alike-valid, unlike}
 use Rattle.datatypes_eq.proofs.equal.Statement.{statement}
 use Rattle.datatypes_eq.proofs.equal.Tie as tie
 
 shared-slice-read-equal-node : tie.Need-shared-slice-read-equal-node
-shared-slice-read-equal-node c = search (needs, some-node (plain-type 1 0 _ _ (omega arith) (sym (c .before .before .before .before .is-plain .ensures) ∙ c .before .before .before .if1 .taken) .passed))
+shared-slice-read-equal-node c = let at = c .before in search (needs, both-some _ _ _ _ (sym (at .before .before .before .is-plain .ensures) ∙ at .before .before .if1 .taken) (sym (at .before .is-plain2 .ensures) ∙ at .if2 .taken))
 
 shared-slice-read-equal-node-2 : tie.Need-shared-slice-read-equal-node-2
-shared-slice-read-equal-node-2 c = search (needs, some-node (plain-type 1 0 _ _ (omega arith) (sym (c .before .before .before .is-plain2 .ensures) ∙ c .before .before .if2 .taken) .passed))
+shared-slice-read-equal-node-2 c = let at = c .before .before in search (needs, both-some _ _ _ _ (sym (at .before .before .before .is-plain .ensures) ∙ at .before .before .if1 .taken) (sym (at .before .is-plain2 .ensures) ∙ at .if2 .taken))
 
 returns : tie.Need-returns
 returns c =
     let at = c .before .before .before .before in
-    plain-equal
-    (plain-type _ _ _ _ (omega arith) (sym (at .before .before .before .is-plain .ensures) ∙ at .before .before .if1 .taken))
-    (plain-type _ _ _ _ (omega arith) (sym (at .before .is-plain2 .ensures) ∙ at .if2 .taken))
-    (c .before .equal-node .ensures)
-    (c .yes-no .ensures)
+    plain-equal _ _ _ _ (sym (at .before .before .before .is-plain .ensures) ∙ at .before .before .if1 .taken) (sym (at .before .is-plain2 .ensures) ∙ at .if2 .taken) _ _ (omega arith) (c .before .equal-node .ensures) (c .yes-no .ensures)
 
 returns-2 : tie.Need-returns-2
 returns-2 c = rw (checked-refused (reading _ _ _ _) _ (sym (c .before .e .given .1) ∙ c .before .before .before .check .ensures))

@@ -1,49 +1,23 @@
--- `flat::check` meets its contract: a law for each way out. Assumes nothing.
-use mathlib.Core.Path.{sym, _∙_}
-use denote.Ref.{now}
-use borrow.Author.Tests.{not-true, not-false}
+-- `flat::check` meets its contract: what the scan accepts is a type. Assumes nothing.
+use mathlib.Core.Path.{sym, ap, _∙_}
 use borrow.Author.Needs.{needs}
-use Rattle.flat.proofs.Checks.{uneven, no-node, too-many, bad-kind, bad-argument, fit-nodes}
+use Rattle.flat.specs.Reading.{checkedOf}
+use Rattle.flat.proofs.Positions.{rest}
+use Rattle.flat.proofs.Scanned.{accepted-passed}
 use Rattle.flat.proofs.check.Statement.{statement}
 use Rattle.flat.proofs.check.Tie as tie
 
 returns : tie.Need-returns
-returns c = uneven _ _ (now (c .before .before .before .args .kinds)) (now (c .before .before .before .args .args)) (c .if1 .taken)
+returns c = ap checkedOf (sym (accepted-passed _ _ _ _ (sym (c .before .accepts .ensures) ∙ c .if1 .taken) .reads))
 
 returns-2 : tie.Need-returns-2
-returns-2 c =
-    let s = c .before .before .before .before in
-    no-node _ _ (now (s .args .kinds)) (now (s .args .args)) (c .before .if1 .left) (c .if2 .taken)
-
-returns-3 : tie.Need-returns-3
-returns-3 c =
-    let s = c .before .before .before .before .before in
-    too-many _ _ (now (s .args .kinds)) (now (s .args .args)) (c .before .before .if1 .left) (c .before .if2 .left) (c .if3 .taken)
-
-returns-4 : tie.Need-returns-4
-returns-4 c =
-    let s = c .before .before .before .before .before .before .before .before .before in
-    bad-kind _ _ (now (s .args .kinds)) (now (s .args .args)) (c .before .before .before .before .before .before .if1 .left) (c .before .before .before .before .before .if2 .left) (c .before .before .before .before .if3 .left) (sym (c .before .kinds-fit .ensures) ∙ not-true _ (c .if5 .taken))
-
-returns-5 : tie.Need-returns-5
-returns-5 c =
-    let s = c .before .before .before .before .before .before .before .before .before in
-    bad-argument _ _ (now (s .args .kinds)) (now (s .args .args)) (c .before .before .before .before .before .before .if1 .left) (c .before .before .before .before .before .if2 .left) (c .before .before .before .before .if3 .left) (sym (c .before .kinds-fit .ensures) ∙ not-false _ (c .if5 .left)) (sym (c .before .before .before .arguments-fit .ensures) ∙ not-true _ (c .before .before .if4 .taken))
-
-returns-6 : tie.Need-returns-6
-returns-6 c =
-    let s = c .before .before .before .before .before .before .before .before in
-    c .check-shape .ensures ∙ fit-nodes _ _ (now (s .args .kinds)) (now (s .args .args)) (c .before .before .before .before .before .if1 .left) (c .before .before .before .before .if2 .left) (c .before .before .before .if3 .left) (sym (c .before .before .arguments-fit .ensures) ∙ not-false _ (c .before .if4 .left))
+returns-2 c = rw (rest, rest) at (c .examine .ensures)
 
 pub check-spec : {M : Type 1} → statement M
 check-spec =
     tie.close
     (tie.spec
-    returns
-    returns-2
-    returns-3
-    (λ c κs. search needs) (λ c κs. search needs)
-    returns-4
-    returns-5
     (λ c κs. search needs)
-    returns-6)
+    returns
+    (λ c. search needs) (λ c. search needs) (λ c. search needs) (λ c. search needs) (λ c. search needs) (λ c. search needs) (λ c κs. search needs)
+    returns-2)

@@ -5,5 +5,8 @@ use Rattle.datatypes.proofs.Scans.{scan-list}
 use Rattle.datatypes.proofs.scan.contains_list.Statement.{statement}
 use Rattle.datatypes.proofs.scan.contains_list.Tie as tie
 
+returns : tie.Need-returns
+returns c = c .any-between .ensures ∙ scan-list _
+
 pub contains-list-spec : {M : Type 1} → statement M
-contains-list-spec = tie.close (tie.spec (λ c κs. search needs) (λ c. c .any-between .ensures ∙ scan-list _))
+contains-list-spec = tie.close (tie.spec (λ c κs. search needs) returns)

@@ -5,5 +5,8 @@ use Rattle.datatypes.proofs.Scans.{scan-unknown}
 use Rattle.datatypes.proofs.scan.contains_unknown.Statement.{statement}
 use Rattle.datatypes.proofs.scan.contains_unknown.Tie as tie
 
+returns : tie.Need-returns
+returns c = c .any-between .ensures ∙ scan-unknown _
+
 pub contains-unknown-spec : {M : Type 1} → statement M
-contains-unknown-spec = tie.close (tie.spec (λ c κs. search needs) (λ c. c .any-between .ensures ∙ scan-unknown _))
+contains-unknown-spec = tie.close (tie.spec (λ c κs. search needs) returns)

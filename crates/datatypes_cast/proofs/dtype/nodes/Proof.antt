@@ -1,32 +1,32 @@
--- `datatypes_cast::dtype::nodes` meets its contract. Assumes nothing.
+-- `datatypes_cast::dtype::nodes` meets its contract: no type is deeper than it has nodes. Assumes nothing.
 use mathlib.Core.Path.{_≡_, sym, ap, _∙_}
-use mathlib.Core.Option.{some}
+use mathlib.Core.List.{List}
 use Prim.Native.Nat.{ℕ}
 use native.Mathlib.Omega.{arith}
-use denote.Ref.{now}
+use lib.ListN.{length}
 use borrow.Author.Needs.{needs}
-use Rattle.flat.specs.Tree.{DataType, size}
-use Rattle.flat.specs.Span.{spanOf}
-use Rattle.flat.specs.declared.span.Span.the-variants.{Ends, Broken}
+use Rattle.flat.specs.Tree.{size}
+use Rattle.flat.specs.Walk.{Valid, typeAt}
+use Rattle.flat.specs.Span.{spanWithin}
+use Rattle.flat.specs.declared.span.Span.the-variants.{TooDeep}
+use Rattle.flat.proofs.Sizes.{depth-lt}
 use Rattle.flat.proofs.Walks.{type-leaf}
+use Rattle.flat.proofs.Spans.{type-ended, type-deeper}
 use Rattle.datatypes_cast.proofs.dtype.nodes.Statement.{statement}
 use Rattle.datatypes_cast.proofs.dtype.nodes.Tie as tie
 
-span-nodes : (n d : ℕ) (t : DataType) → Ends n d ≡ spanOf (some t) → n ≡ size t
-span-nodes n d t e = cc
-
-span-none : (t : DataType) → Broken ≡ spanOf (some t) → 0 ≡ size t
-span-none t e = absurd (let y : _≡_ {A = ℕ} 0 1 = cc in omega arith)
+no-deeper : {ks xs : List ℕ} → Valid ks xs → TooDeep ≡ spanWithin (length ks) (typeAt ks xs) → ⊥
+no-deeper {ks} {xs} v e = omega (arith, type-deeper (length ks) (typeAt ks xs) e, depth-lt (typeAt ks xs))
 
 returns : tie.Need-returns
 unfolding size
-returns c = sym (ap size (type-leaf (now (c .before .before .before .before .args .kinds)) (now (c .before .before .before .before .args .args)) (c .before .before .before .before .pre) (c .if1 .taken)))
+returns c = sym (ap size (type-leaf _ _ (c .before .before .before .before .pre) (c .if1 .taken)))
 
 returns-2 : tie.Need-returns-2
-returns-2 c = span-nodes _ _ _ (sym (c .before .n .given .1) ∙ c .before .before .before .node-span .ensures ∙ ap spanOf (c .before .before .before .before .before .before .before .before .pre .read))
+returns-2 c = type-ended _ _ _ (sym (c .before .n .given .1) ∙ c .before .before .before .node-span .ensures) .0
 
 returns-3 : tie.Need-returns-3
-returns-3 c = span-none _ (sym (c .enum-told .given .1) ∙ c .before .before .node-span .ensures ∙ ap spanOf (c .before .before .before .before .before .before .before .pre .read))
+returns-3 c = absurd (no-deeper (c .before .before .before .before .before .before .before .pre) (sym (c .enum-told .given .1) ∙ c .before .before .node-span .ensures))
 
 pub nodes-spec : {M : Type 1} → statement M
 nodes-spec =

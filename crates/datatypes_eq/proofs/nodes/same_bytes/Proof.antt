@@ -12,15 +12,17 @@ use Rattle.datatypes_eq.proofs.nodes.same_bytes.Statement.{statement}
 use Rattle.datatypes_eq.proofs.nodes.same_bytes.Tie as tie
 
 abbrev Inv-loop : tie.InvT-loop
-Inv-loop left right same₀ i₀ so-far i = (i ≤ length left) × (same left right ≡ (so-far && same (drop i left) (drop i right)))
+Inv-loop bytes others same₀ i₀ so-far i = (i ≤ length bytes) × (same bytes others ≡ (so-far && same (drop i bytes) (drop i others)))
 
 abbrev μ-loop : tie.MeasureT-loop
-μ-loop left right same₀ i₀ so-far i = length left - i
+μ-loop bytes others same₀ i₀ so-far i = length bytes - i
 
 loop-again : tie.Need-loop-again Inv-loop μ-loop
 loop-again c =
     let l = c .before .before .before .before .loop in
-    (omega arith, ⊎-elim (λ w. rw (w .1) (same-stop _ _ (l .i) (l .same) (l .inv .1) (omega arith) (omega arith) (w .0 .taken))) (λ w. rw (w .1) (same-on _ _ (l .i) (l .same) (l .inv .1) (omega arith) (omega arith) (w .0 .left))) (c .if1 .came))
+    let stop = same-stop _ _ (l .i) (l .same) (l .inv .1) (omega arith) (omega arith) in
+    let on = same-on _ _ (l .i) (l .same) (l .inv .1) (omega arith) (omega arith) in
+    (omega arith, ⊎-elim (λ w. let h = w .0 .taken in rw (w .1) (stop (omega arith))) (λ w. let h = w .0 .left in rw (w .1) (on (omega arith))) (c .if1 .came))
 
 returns : tie.Need-returns Inv-loop μ-loop
 returns c = let l = c .before .loop in same-end _ _ (l .i) (l .same) (l .inv .1) (omega arith) (omega arith)

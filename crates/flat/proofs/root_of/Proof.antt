@@ -1,0 +1,45 @@
+-- `flat::root_of` meets its contract: the scan accepts, or the arrays are examined. Assumes nothing.
+use mathlib.Core.Path.{sym, _∙_}
+use borrow.Author.Needs.{needs}
+use Rattle.flat.specs.Reading.{reading}
+use Rattle.flat.proofs.Meaning.{check-passed}
+use Rattle.flat.proofs.Scanned.{accepted-passed}
+use Rattle.flat.proofs.Roots.{root-read, some-node, root-refused}
+use Rattle.flat.proofs.root_of.Statement.{statement}
+use Rattle.flat.proofs.root_of.Tie as tie
+
+shared-slice-read-t6 : tie.Need-shared-slice-read-t6
+shared-slice-read-t6 c = search (needs, some-node (accepted-passed _ _ _ _ (sym (c .before .before .accepts-nodes .ensures) ∙ c .before .if1 .taken)) .0)
+
+shared-slice-read-t8 : tie.Need-shared-slice-read-t8
+shared-slice-read-t8 c = search (needs, some-node (accepted-passed _ _ _ _ (sym (c .before .before .before .accepts-nodes .ensures) ∙ c .before .before .if1 .taken)) .1)
+
+returns : tie.Need-returns
+returns c = root-read (accepted-passed _ _ _ _ (sym (c .before .before .before .accepts-nodes .ensures) ∙ c .before .before .if1 .taken))
+
+shared-slice-read-t12 : tie.Need-shared-slice-read-t12
+shared-slice-read-t12 c = search (needs, some-node (check-passed (sym (c .before .enum-told .given .1) ∙ c .before .before .before .examine .ensures)) .0)
+
+shared-slice-read-t14 : tie.Need-shared-slice-read-t14
+shared-slice-read-t14 c = search (needs, some-node (check-passed (sym (c .before .before .enum-told .given .1) ∙ c .before .before .before .before .examine .ensures)) .1)
+
+returns-2 : tie.Need-returns-2
+returns-2 c = root-read (check-passed (sym (c .before .before .enum-told .given .1) ∙ c .before .before .before .before .examine .ensures))
+
+returns-3 : tie.Need-returns-3
+returns-3 c = root-refused (reading _ _ _ _) (sym (c .before .e .given .1) ∙ c .before .before .before .examine .ensures)
+
+pub root-of-spec : {M : Type 1} → statement M
+root-of-spec =
+    tie.close
+    (tie.spec
+    (λ c κs. search needs)
+    shared-slice-read-t6
+    shared-slice-read-t8
+    returns
+    (λ c κs. search needs) (λ c. search needs)
+    shared-slice-read-t12
+    shared-slice-read-t14
+    (λ c. search needs)
+    returns-2
+    returns-3)
