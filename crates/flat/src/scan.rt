@@ -122,7 +122,7 @@ fn field_fits(kind: u8, arg: u64) -> bool
     argument_fits(Kind::FIELD, arg)
 }
 
-// Whether the nodes form exactly one type, with no more nested than so many levels.
+// Whether the nodes form exactly one type, with no more nested than so many levels. The numbers in what is asked, here and above, keep sums from overflowing.
 pub fn passes(kinds: &[u8], args: &[u64], deep: usize) -> bool
     requires { ⌜ (length (now kinds) ≡ length (now args)) × (length (now kinds) ≤ 65536) × (deep ≤ 65536) ⌝ }
     ensures { λ r. ⌜ r ≡ scanType deep start (now (kinds .entry)) (now (args .entry)) ⌝ }
