@@ -19,8 +19,9 @@ use Rattle.flat.specs.declared.span.Span.the-variants.{Ends, TooDeep}
 use Rattle.flat.specs.declared.error.Error.the-variants.{Length, Kind, Argument, Shape, Depth}
 use Rattle.flat.specs.declared.Checked.the-variants.{Valid, Refused}
 use Rattle.flat.proofs.Scans.{arguments-kinds}
-use Rattle.flat.proofs.Meaning.{form-length, form-read, form-stands, read-form}
+use Rattle.flat.proofs.Meaning.{form-length, form-read, form-stands, form-fits, read-form}
 use Rattle.flat.proofs.Spans.{type-ended, type-deeper}
+use Rattle.flat.proofs.Scanned.{scanned}
 use Rattle.flat.proofs.Complete.{complete}
 
 -- 4, where the scan passes none
@@ -37,6 +38,10 @@ no-shape nodes deep ks xs e h a f = go (nodeAt ks xs) refl
     go : (p : Option DataType) → nodeAt ks xs ≡ p → Refused Shape ≡ checkedOf (shaped deep (length ks) p)
     go none q = refl
     go (some t) q = whole t q (eqb (size t) (length ks)) refl
+
+-- where it passes one, all arguments fit
+pub type-fits : (nodes : ℕ) (ks xs : List ℕ) → length ks ≤ nodes → scanType (2 * nodes) start ks xs ≡ true → argumentsFit ks xs ≡ true
+type-fits nodes ks xs h s = let f = scanned (2 * nodes) ks xs s .1 in form-fits f {nodes = nodes} (omega (arith, form-length f)) .args
 
 -- 5, where the walk goes too deep for the limit
 module _ (deep : ℕ) {ks xs : List ℕ} {t : DataType} (f : FlatForm ks xs t) where

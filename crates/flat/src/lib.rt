@@ -8,11 +8,11 @@ pub mod span;
 
 ghost use mathlib.Core.Path.{_≡_};
 ghost use mathlib.Core.Bool.{true};
-ghost use Prim.Native.Nat.{_≤_};
+ghost use Prim.Native.Nat.{_*_};
 ghost use lib.ListN.{length};
 ghost use Rattle.flat.specs.Reader.{nodeAt};
 ghost use Rattle.flat.specs.Reading.{kindsFit, argumentsFit, shaped, reading, onePlain, checkedOf, checkedNumber, checkedValue, rootOf, rootNumber, rootKind, rootArg, RootFits};
-ghost use Rattle.flat.specs.Scan.{accepted};
+ghost use Rattle.flat.specs.Scan.{accepted, start, scanType};
 ghost use Rattle.flat.specs.Output.{writtenNumber, writtenValue};
 use argument::argument_fits;
 use error::Error;
@@ -152,18 +152,15 @@ fn arguments_fit(kinds: &[u8], args: &[u64]) -> bool
     true
 }
 
-// Refusals 4 and 5. No type of so few nodes has more nested than twice their number, so there the scan tells of the shape alone.
-fn check_shape(kinds: &[u8], args: &[u64]) -> Checked
+// Refusal 5, of nodes that form exactly one type.
+fn check_depth(kinds: &[u8], args: &[u64]) -> Checked
     requires { do
       nodes ← ⟦Flat::MAX_NODES⟧
-      ⌜ (length (now kinds) ≡ length (now args)) × (length (now kinds) ≤ nodes) × (argumentsFit (now kinds) (now args) ≡ true) ⌝ }
+      ⌜ scanType (2 * nodes) start (now kinds) (now args) ≡ true ⌝ }
     ensures { λ r. do
       deep ← ⟦Flat::MAX_DEPTH⟧ .entry
       ⌜ r ≡ checkedOf (shaped deep (length (now (kinds .entry))) (nodeAt (now (kinds .entry)) (now (args .entry)))) ⌝ }
 {
-    if !scan::passes(kinds, args, 2 * Flat::MAX_NODES) {
-        return Checked::Refused(Error::Shape);
-    }
     match span::node_span(kinds, args, Flat::MAX_DEPTH) {
         Span::Ends(_) => Checked::Valid,
         Span::TooDeep => Checked::Refused(Error::Depth),
@@ -186,14 +183,18 @@ fn examine(kinds: &[u8], args: &[u64]) -> Checked
     if kinds.len() > Flat::MAX_NODES {
         return Checked::Refused(Error::Length);
     }
-    // an argument fits no code above 31, so one scan serves both where all is well
+    // no type of so few nodes has more nested than twice their number, so with that bound the scan passes whatever keeps 2 to 4
+    if scan::passes(kinds, args, 2 * Flat::MAX_NODES) {
+        return check_depth(kinds, args);
+    }
+    // an argument fits no code above 31, so where all fit, so do the kinds
     if !arguments_fit(kinds, args) {
         if !kinds_fit(kinds) {
             return Checked::Refused(Error::Kind);
         }
         return Checked::Refused(Error::Argument);
     }
-    check_shape(kinds, args)
+    Checked::Refused(Error::Shape)
 }
 
 // Whether two arrays are one plain leaf, the commonest type. So short a test is compiled into its callers.
