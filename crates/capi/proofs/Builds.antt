@@ -13,19 +13,19 @@ use Rattle.flat.specs.declared.Checked.{Checked}
 use Rattle.flat.specs.declared.error.Error.{Error}
 use Rattle.flat.specs.declared.error.Error.the-variants.{Unknown}
 use Rattle.flat.proofs.Sizes.{length-kinds, length-args}
-use Rattle.encoding.specs.Encoding.{decoding}
-use Rattle.encoding.specs.Answer.{nodesIn, argsOpened, fittingBytes, Puts}
-use Rattle.encoding.specs.declared.Encoded.{Encoded}
-use Rattle.encoding.proofs.Answers.{kinds-part, nodes-sized, puts-type}
-use Rattle.encoding.proofs.Plain.{PlainBytes}
-use Rattle.encoding.proofs.Opening.{Opened}
-use Rattle.datatypes.specs.Physical.{toPhysical, physicalLeaf}
-use Rattle.datatypes_build.specs.Build.{orUnknown, materialized, physical}
-use Rattle.datatypes_build.specs.Leaf.{materializedLeaf, leafOf, mapLeaves, hasAny, Room, BuiltType}
-use Rattle.datatypes_build.specs.declared.leaf.Form.{Form}
-use Rattle.datatypes_build.proofs.Leaves.{zero-is}
-use Rattle.datatypes_build.proofs.Forms.{noneIf, known-is, size-map}
-use Rattle.datatypes_build.proofs.Answers.{physical-type, known-none, known-type, front}
+use Rattle.encoded.specs.Encoding.{decoding}
+use Rattle.encoded.specs.Answer.{nodesIn, argsOpened, fittingBytes, Puts}
+use Rattle.encoded.specs.declared.Encoded.{Encoded}
+use Rattle.encoded.proofs.Answers.{kinds-part, nodes-sized, puts-type}
+use Rattle.encoded.proofs.Plain.{PlainBytes}
+use Rattle.encoded.proofs.Opening.{Opened}
+use Rattle.dtype.specs.Physical.{toPhysical, physicalLeaf}
+use Rattle.dtype_build.specs.Build.{orUnknown, materialized, physical}
+use Rattle.dtype_build.specs.Leaf.{materializedLeaf, leafOf, mapLeaves, hasAny, Room, BuiltType}
+use Rattle.dtype_build.specs.declared.leaf.Form.{Form}
+use Rattle.dtype_build.proofs.Leaves.{zero-is}
+use Rattle.dtype_build.proofs.Forms.{noneIf, known-is, size-map}
+use Rattle.dtype_build.proofs.Answers.{physical-type, known-none, known-type, front}
 use Rattle.capi.specs.Reply.{checkReply, bytesReply, EncodeReply}
 use Rattle.capi.specs.Lent.{RoomFor, FormReply, BuildReply}
 use Rattle.capi.specs.declared.Reply.{Reply}

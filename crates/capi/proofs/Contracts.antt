@@ -13,7 +13,7 @@ use ghost.Atoms.{Atoms}
 use contract.Monad.{Fun, fact}
 use denote.Ref.{RefT, now}
 use denote.Ask.Asked.{asked}
-use Rattle.encoding.specs.Encoding.{decoding}
+use Rattle.encoded.specs.Encoding.{decoding}
 use Rattle.channels.specs.declared.ChannelTypes.{ChannelTypes}
 use Rattle.channels.specs.declared.Merged.{Merged}
 use Rattle.channels.specs.declared.Outcome.{Outcome}

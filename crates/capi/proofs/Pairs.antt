@@ -15,23 +15,23 @@ use Rattle.flat.specs.Output.{writtenOf}
 use Rattle.flat.specs.declared.Checked.{Checked}
 use Rattle.flat.specs.declared.Written.{Written}
 use Rattle.flat.specs.declared.error.Error.{Error}
-use Rattle.encoding.specs.Encoding.{kindsIn, argsIn, decoding}
-use Rattle.encoding.specs.Answer.{Opens}
-use Rattle.encoding.proofs.Answers.{decoded-holds}
-use Rattle.encoding.proofs.Plain.{PlainBytes}
-use Rattle.encoding.proofs.Opening.{Opened, opened, unopened, written-type}
-use Rattle.datatypes.specs.Cast.{canCastTo}
-use Rattle.datatypes.specs.Equality.{equal}
-use Rattle.datatypes.specs.Recursive.{containsDtypeRecursive}
-use Rattle.datatypes.specs.Answer.{yesNo, answersOf}
-use Rattle.datatypes_eq.specs.Nodes.{same, startsWith, occurs}
-use Rattle.datatypes_eq.proofs.Scans.{same-lists, starts-self, starts-equal, occurs-contains}
-use Rattle.datatypes_cast.specs.Scan.{nodeYes, allYes}
-use Rattle.datatypes_cast.specs.Walk.{answer, castAnswer}
-use Rattle.datatypes_cast.specs.Verdict.{verdict, castOf}
-use Rattle.datatypes_cast.specs.declared.Verdict.{Verdict}
-use Rattle.datatypes_cast.specs.declared.dtype.Cast.{Cast}
-use Rattle.datatypes_cast.proofs.Scans.{leaves-yes, all-yes}
+use Rattle.encoded.specs.Encoding.{kindsIn, argsIn, decoding}
+use Rattle.encoded.specs.Answer.{Opens}
+use Rattle.encoded.proofs.Answers.{decoded-holds}
+use Rattle.encoded.proofs.Plain.{PlainBytes}
+use Rattle.encoded.proofs.Opening.{Opened, opened, unopened, written-type}
+use Rattle.dtype_cast.specs.Cast.{canCastTo}
+use Rattle.dtype.specs.Equality.{equal}
+use Rattle.dtype_eq.specs.Contains.{containsDtypeRecursive}
+use Rattle.dtype.specs.Answer.{yesNo, answersOf}
+use Rattle.dtype_eq.specs.Nodes.{same, startsWith, occurs}
+use Rattle.dtype_eq.proofs.Scans.{same-lists, starts-self, starts-equal, occurs-contains}
+use Rattle.dtype_cast.specs.Scan.{nodeYes, allYes}
+use Rattle.dtype_cast.specs.Walk.{answer, castAnswer}
+use Rattle.dtype_cast.specs.Verdict.{verdict, castOf}
+use Rattle.dtype_cast.specs.declared.Verdict.{Verdict}
+use Rattle.dtype_cast.specs.declared.dtype.Cast.{Cast}
+use Rattle.dtype_cast.proofs.Scans.{leaves-yes, all-yes}
 use Rattle.capi.specs.Reply.{checkReply, answerReply, checkedEqual, verdictOf, verdictReply}
 use Rattle.capi.specs.Lent.{pairOf, OpensBoth, PairReply}
 use Rattle.capi.specs.declared.Reply.{Reply}

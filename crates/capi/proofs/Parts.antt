@@ -10,16 +10,16 @@ use Rattle.flat.specs.Reading.{type}
 use Rattle.flat.proofs.Sizes.{length-kinds, length-args, size-pos}
 use Rattle.flat.proofs.Positions.{rest}
 use Rattle.flat.proofs.Walks.{from, length-from}
-use Rattle.encoding.specs.Encoding.{decoding}
-use Rattle.encoding.specs.Answer.{Puts}
-use Rattle.encoding.specs.declared.Encoded.{Encoded}
-use Rattle.encoding.proofs.Answers.{puts-type}
-use Rattle.encoding.proofs.Opening.{Opened}
-use Rattle.datatypes_inner.specs.Part.{Last}
-use Rattle.datatypes_inner.specs.declared.Inner.{Inner}
-use Rattle.datatypes_inner.specs.Shape.{shape, shapeOf, arraysAt, widthsAt}
-use Rattle.datatypes_inner.proofs.Endings.{Found, Finds, finds-inner, finds-leaf, finds-array-leaf}
-use Rattle.datatypes_inner.proofs.Shapes.{arrays-fit, shape-at}
+use Rattle.encoded.specs.Encoding.{decoding}
+use Rattle.encoded.specs.Answer.{Puts}
+use Rattle.encoded.specs.declared.Encoded.{Encoded}
+use Rattle.encoded.proofs.Answers.{puts-type}
+use Rattle.encoded.proofs.Opening.{Opened}
+use Rattle.dtype_inner.specs.Part.{Last}
+use Rattle.dtype_inner.specs.declared.Inner.{Inner}
+use Rattle.dtype_inner.specs.Shape.{shape, shapeOf, arraysAt, widthsAt}
+use Rattle.dtype_inner.proofs.Endings.{Found, Finds, finds-inner, finds-leaf, finds-array-leaf}
+use Rattle.dtype_inner.proofs.Shapes.{arrays-fit, shape-at}
 use Rattle.capi.specs.Reply.{innerReply, bytesReply}
 use Rattle.capi.specs.Parts.{partOf, partNodes, partReading, PartReply}
 use Rattle.capi.specs.declared.Reply.{Reply}

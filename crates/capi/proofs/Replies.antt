@@ -12,22 +12,22 @@ use Rattle.flat.specs.Reading.{Reading, refused, checkedOf}
 use Rattle.flat.specs.declared.error.Error.{Error}
 use Rattle.flat.specs.declared.Checked.{Checked}
 use Rattle.flat.proofs.Meaning.{Passed, check-passed}
-use Rattle.encoding.specs.Encoding.{kindsIn, argsIn, decoding}
-use Rattle.encoding.specs.Answer.{fittingBytes, bytesOver, Encodes}
+use Rattle.encoded.specs.Encoding.{kindsIn, argsIn, decoding}
+use Rattle.encoded.specs.Answer.{fittingBytes, bytesOver, Encodes}
 use Rattle.flat.specs.declared.Written.{Written}
 use Rattle.flat.specs.Output.{writtenOf, Writes}
-use Rattle.encoding.specs.declared.Encoded.{Encoded}
-use Rattle.encoding.proofs.Laws.{size-parts}
-use Rattle.encoding.proofs.Opening.{Opened, written-refused}
-use Rattle.encoding.proofs.Answers.{Sized, kinds-part, decoding-sized, EncodedForm, type-form}
-use Rattle.encoding.proofs.Plain.{PlainBytes}
-use Rattle.datatypes.specs.Predicates.{predicateOf, toldBy}
-use Rattle.datatypes.specs.Answer.{yesNo, answerOf}
-use Rattle.datatypes.specs.declared.predicate.Predicate.{Predicate}
-use Rattle.datatypes.proofs.Answers.{some-node, answered}
-use Rattle.utils.specs.Join.{Joins}
-use Rattle.utils.specs.declared.join.Joined.{Joined}
-use Rattle.encoding_join.specs.Join.{JoinsBytes}
+use Rattle.encoded.specs.declared.Encoded.{Encoded}
+use Rattle.encoded.proofs.Laws.{size-parts}
+use Rattle.encoded.proofs.Opening.{Opened, written-refused}
+use Rattle.encoded.proofs.Answers.{Sized, kinds-part, decoding-sized, EncodedForm, type-form}
+use Rattle.encoded.proofs.Plain.{PlainBytes}
+use Rattle.dtype.specs.Predicates.{predicateOf, toldBy}
+use Rattle.dtype.specs.Answer.{yesNo, answerOf}
+use Rattle.dtype.specs.declared.predicate.Predicate.{Predicate}
+use Rattle.dtype.proofs.Answers.{some-node, answered}
+use Rattle.supertype_answer.specs.Join.{Joins}
+use Rattle.supertype_answer.specs.declared.Joined.{Joined}
+use Rattle.encoded_join.specs.Join.{JoinsBytes}
 use Rattle.capi.specs.Reply.{checkReply, answerReply, writtenReply, bytesReply, joinedReply, DecodeReply, EncodeReply, FlatJoinReply, JoinReply}
 use Rattle.capi.specs.declared.Reply.{Reply}
 

@@ -6,8 +6,8 @@ use lib.ListN.{length}
 use Rattle.flat.specs.Tree.{size}
 use Rattle.flat.specs.Reading.{Reading, refused, type}
 use Rattle.flat.specs.Output.{kindsOver, argsOver}
-use Rattle.encoding.specs.Encoding.{decoding}
-use Rattle.encoding.specs.Answer.{argsOpened, fittingBytes}
+use Rattle.encoded.specs.Encoding.{decoding}
+use Rattle.encoded.specs.Answer.{argsOpened, fittingBytes}
 use Rattle.capi.specs.Reply.{EncodeReply}
 use Rattle.capi.specs.declared.Reply.{Reply}
 use Rattle.capi.specs.declared.pair.Pair.{Pair}

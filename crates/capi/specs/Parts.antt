@@ -7,10 +7,10 @@ use lib.ListN.{length}
 use Rattle.flat.specs.Tree.{DataType}
 use Rattle.flat.specs.Reading.{Reading, refused, type}
 use Rattle.flat.specs.Reader.{mapO}
-use Rattle.encoding.specs.Answer.{fittingBytes}
-use Rattle.datatypes.specs.Inner.{innerDtype, leafDtype, arrayLeafDtype}
-use Rattle.datatypes_inner.specs.Nodes.{innerNodes, leafNodes, arrayLeafNodes}
-use Rattle.datatypes_inner.specs.declared.Inner.{Inner}
+use Rattle.encoded.specs.Answer.{fittingBytes}
+use Rattle.dtype_inner.specs.Inner.{innerDtype, leafDtype, arrayLeafDtype}
+use Rattle.dtype_inner.specs.Nodes.{innerNodes, leafNodes, arrayLeafNodes}
+use Rattle.dtype_inner.specs.declared.Inner.{Inner}
 use Rattle.capi.specs.Reply.{innerReply, EncodeReply}
 use Rattle.capi.specs.declared.Reply.{Reply}
 use Rattle.capi.specs.declared.part.Part.{Part}

@@ -7,25 +7,25 @@ use Rattle.flat.specs.Reading.{Reading, checkedNumber, checkedValue}
 use Rattle.flat.specs.Output.{kindsOver, argsOver, writtenOf, writtenNumber, writtenValue}
 use Rattle.flat.specs.declared.Checked.{Checked}
 use Rattle.flat.specs.declared.Written.{Written}
-use Rattle.encoding.specs.Answer.{encodedOf, encodedNumber, encodedValue, bytesOver}
-use Rattle.encoding.specs.declared.Encoded.{Encoded}
-use Rattle.datatypes.specs.Answer.{answerNumber, answerValue}
-use Rattle.datatypes.specs.declared.answer.Answer.{Answer}
-use Rattle.datatypes.specs.TimeUnit.{unitAnswerNumber, unitAnswerValue}
-use Rattle.datatypes.specs.declared.time_unit.Unit.{Unit}
-use Rattle.datatypes_inner.specs.Part.{innerNumber, innerValue}
-use Rattle.datatypes_inner.specs.declared.Inner.{Inner}
-use Rattle.datatypes_cast.specs.Verdict.{verdictNumber, verdictValue}
-use Rattle.datatypes_cast.specs.declared.Verdict.{Verdict}
-use Rattle.datatypes_cast.specs.declared.dtype.Cast.{Cast}
-use Rattle.utils.specs.Join.{joinedOf, joinedNumber, joinedValue, kindsFound, argsFound}
-use Rattle.utils.specs.declared.join.Joined.{Joined}
-use Rattle.utils_report.specs.Report.{reportNumber, reportValue}
-use Rattle.utils_report.specs.declared.Report.{Report}
+use Rattle.encoded.specs.Answer.{encodedOf, encodedNumber, encodedValue, bytesOver}
+use Rattle.encoded.specs.declared.Encoded.{Encoded}
+use Rattle.dtype.specs.Answer.{answerNumber, answerValue}
+use Rattle.dtype.specs.declared.answer.Answer.{Answer}
+use Rattle.dtype.specs.TimeUnit.{unitAnswerNumber, unitAnswerValue}
+use Rattle.dtype.specs.declared.time_unit.Unit.{Unit}
+use Rattle.dtype_inner.specs.Part.{innerNumber, innerValue}
+use Rattle.dtype_inner.specs.declared.Inner.{Inner}
+use Rattle.dtype_cast.specs.Verdict.{verdictNumber, verdictValue}
+use Rattle.dtype_cast.specs.declared.Verdict.{Verdict}
+use Rattle.dtype_cast.specs.declared.dtype.Cast.{Cast}
+use Rattle.supertype_answer.specs.Join.{joinedOf, joinedNumber, joinedValue, kindsFound, argsFound}
+use Rattle.supertype_answer.specs.declared.Joined.{Joined}
+use Rattle.supertype_report.specs.Report.{reportNumber, reportValue}
+use Rattle.supertype_report.specs.declared.Report.{Report}
 use Rattle.channels.specs.Merge.{mergedNumber, mergedValue}
 use Rattle.channels.specs.declared.Merged.{Merged}
 use Rattle.channels.specs.declared.Outcome.{Outcome}
-use Rattle.encoding_join.specs.Join.{joinedBytes, bytesFound}
+use Rattle.encoded_join.specs.Join.{joinedBytes, bytesFound}
 use Rattle.capi.specs.declared.Reply.{Reply}
 use Rattle.capi.specs.declared.channel.TypesReply.{TypesReply}
 

@@ -6,20 +6,20 @@ ghost use lib.ListN.{length};
 ghost use Rattle.flat.specs.Tree.{size};
 ghost use Rattle.flat.specs.Reading.{type};
 ghost use Rattle.flat.specs.Walk.{Valid, typeAt};
-ghost use Rattle.encoding.specs.Encoding.{decoding};
-ghost use Rattle.encoding.specs.Answer.{nodesIn, fittingBytes};
-ghost use Rattle.datatypes_build.specs.Build.{materialized, physical};
-ghost use Rattle.datatypes_build.specs.Leaf.{leafOf, mapLeaves, Room};
+ghost use Rattle.encoded.specs.Encoding.{decoding};
+ghost use Rattle.encoded.specs.Answer.{nodesIn, fittingBytes};
+ghost use Rattle.dtype_build.specs.Build.{materialized, physical};
+ghost use Rattle.dtype_build.specs.Leaf.{leafOf, mapLeaves, Room};
 ghost use Rattle.capi.specs.Reply.{EncodeReply};
 ghost use Rattle.capi.specs.Lent.{RoomFor, BuildReply, FormReply};
 use crate::Reply;
 use crate::bytes;
 use crate::refusal;
-use datatypes_build::any_refused;
-use datatypes_build::dtype::node_form;
-use datatypes_build::leaf::Form;
-use datatypes_build::leaf::kind_form;
-use encoding::Encoding;
+use dtype_build::any_refused;
+use dtype_build::dtype::node_form;
+use dtype_build::leaf::Form;
+use dtype_build::leaf::kind_form;
+use encoded::Encoding;
 use flat::Flat;
 use flat::Written;
 use flat::error::Error;
@@ -41,7 +41,7 @@ fn put_form(
       ⌜ FormReply w (type (mapLeaves (leafOf form) (typeAt (now (kinds .entry)) (now (args .entry))))) (now («new_kinds» .entry)) (now («new_args» .entry)) (now (out .entry)) (now («new_kinds» .exit)) (now («new_args» .exit)) (now (out .exit)) r ⌝ }
 {
     let n = node_form(form, kinds, args, new_kinds, new_args);
-    bytes(encoding::put(&new_kinds[..n], &new_args[..n], out))
+    bytes(encoded::put(&new_kinds[..n], &new_args[..n], out))
 }
 
 // A plain leaf in the given form, encoded: it needs no lent arrays.
@@ -53,7 +53,7 @@ fn put_plain(form: Form, kind: u8, out: &mut [u8]) -> Reply
     let new = kind_form(form, kind, 0);
     let kinds = [new];
     let args = [0u64];
-    bytes(encoding::put(&kinds, &args, out))
+    bytes(encoded::put(&kinds, &args, out))
 }
 
 fn materialized_in(
@@ -74,7 +74,7 @@ fn materialized_in(
       w ← ⟦Encoding::ARGUMENT_BYTES⟧ .entry
       ⌜ BuildReply w nodes (now (encoded .entry)) (materialized «allow_unknown» (decoding w nodes deep (now (encoded .entry)))) (now (args .entry)) (now («new_kinds» .entry)) (now («new_args» .entry)) (now (out .entry)) (now (args .exit)) (now («new_kinds» .exit)) (now («new_args» .exit)) (now (out .exit)) r ⌝ }
 {
-    match encoding::open(encoded, args) {
+    match encoded::open(encoded, args) {
         Written::Nodes(n) => {
             let kinds = &encoded[2..2 + n];
             if any_refused(kinds, allow_unknown) {
@@ -103,13 +103,13 @@ pub extern "C" fn lz_materialize_unknown(encoded: &[u8], allow_unknown: u8, out:
       ⌜ EncodeReply w (fittingBytes w (length (now (out .entry))) (materialized (not (eqb «allow_unknown» 0)) (decoding w nodes deep (now (encoded .entry))))) (now (out .entry)) (now (out .exit)) r ⌝ }
 {
     let allow = allow_unknown != 0;
-    if encoding::is_plain(encoded) {
+    if encoded::is_plain(encoded) {
         if any_refused(&encoded[2..3], allow) {
             return refusal(Error::Unknown);
         }
         return put_plain(Form::Materialized, encoded[2], out);
     }
-    if encoding::node_count(encoded) <= Encoding::FEW {
+    if encoded::node_count(encoded) <= Encoding::FEW {
         let mut args = [0u64; Encoding::FEW];
         let mut new_kinds = [0u8; Encoding::FEW];
         let mut new_args = [0u64; Encoding::FEW];
@@ -152,7 +152,7 @@ fn physical_in(
       w ← ⟦Encoding::ARGUMENT_BYTES⟧ .entry
       ⌜ BuildReply w nodes (now (encoded .entry)) (physical (decoding w nodes deep (now (encoded .entry)))) (now (args .entry)) (now («new_kinds» .entry)) (now («new_args» .entry)) (now (out .entry)) (now (args .exit)) (now («new_kinds» .exit)) (now («new_args» .exit)) (now (out .exit)) r ⌝ }
 {
-    match encoding::open(encoded, args) {
+    match encoded::open(encoded, args) {
         Written::Nodes(n) => put_form(
             Form::Physical,
             &encoded[2..2 + n],
@@ -174,10 +174,10 @@ pub extern "C" fn lz_to_physical(encoded: &[u8], out: &mut [u8]) -> Reply
       w ← ⟦Encoding::ARGUMENT_BYTES⟧ .entry
       ⌜ EncodeReply w (fittingBytes w (length (now (out .entry))) (physical (decoding w nodes deep (now (encoded .entry))))) (now (out .entry)) (now (out .exit)) r ⌝ }
 {
-    if encoding::is_plain(encoded) {
+    if encoded::is_plain(encoded) {
         return put_plain(Form::Physical, encoded[2], out);
     }
-    if encoding::node_count(encoded) <= Encoding::FEW {
+    if encoded::node_count(encoded) <= Encoding::FEW {
         let mut args = [0u64; Encoding::FEW];
         let mut new_kinds = [0u8; Encoding::FEW];
         let mut new_args = [0u64; Encoding::FEW];

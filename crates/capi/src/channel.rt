@@ -1,13 +1,13 @@
 // The calls that merge a column's type into a channel: the codes of the channels are lent, or come and go by value.
 ghost use mathlib.Core.Path.{_≡_};
 ghost use Rattle.flat.specs.Reading.{reading};
-ghost use Rattle.encoding.specs.Encoding.{decoding};
+ghost use Rattle.encoded.specs.Encoding.{decoding};
 ghost use Rattle.channels.specs.Merge.{outcomeOf};
 ghost use Rattle.capi.specs.Reply.{mergedReply, outcomeReply};
 use crate::Reply;
 use channels::ChannelTypes;
 use channels::Merged;
-use encoding::Encoding;
+use encoded::Encoding;
 use flat::Flat;
 
 // The reply to a merge, beside the types as it leaves them.
@@ -40,7 +40,7 @@ pub extern "C" fn lz_channel_merge(
       w ← ⟦Encoding::ARGUMENT_BYTES⟧ .entry
       ⌜ record { reply = r; types = record { codes = now (codes .exit) } } ≡ outcomeReply (outcomeOf channels (record { codes = now (codes .entry) }) channel (decoding w nodes deep (now (column .entry)))) ⌝ }
 {
-    let answer = encoding_join::merge(codes, channel, column);
+    let answer = encoded_join::merge(codes, channel, column);
     merged_reply(answer)
 }
 

@@ -6,13 +6,13 @@ ghost use lib.Dec.{eqb};
 ghost use lib.ListN.{length};
 ghost use Rattle.flat.specs.Reading.{reading};
 ghost use Rattle.flat.specs.Output.{fitting};
-ghost use Rattle.datatypes.specs.Equality.{equal};
-ghost use Rattle.datatypes.specs.Recursive.{isKnown};
-ghost use Rattle.datatypes.specs.Inner.{innerDtype, leafDtype, arrayLeafDtype};
-ghost use Rattle.datatypes.specs.Answer.{answerOf, answersOf};
-ghost use Rattle.datatypes_inner.specs.Part.{innerOf};
-ghost use Rattle.datatypes_cast.specs.Verdict.{castOf};
-ghost use Rattle.datatypes_build.specs.Build.{materialized, physical};
+ghost use Rattle.dtype.specs.Equality.{equal};
+ghost use Rattle.dtype.specs.Recursive.{isKnown};
+ghost use Rattle.dtype_inner.specs.Inner.{innerDtype, leafDtype, arrayLeafDtype};
+ghost use Rattle.dtype.specs.Answer.{answerOf, answersOf};
+ghost use Rattle.dtype_inner.specs.Part.{innerOf};
+ghost use Rattle.dtype_cast.specs.Verdict.{castOf};
+ghost use Rattle.dtype_build.specs.Build.{materialized, physical};
 ghost use Rattle.capi.specs.Reply.{answerReply, verdictReply, innerReply, DecodeReply};
 use crate::Reply;
 use crate::answer_reply;
@@ -29,7 +29,7 @@ pub extern "C" fn lz_flat_is_known(kinds: &[u8], args: &[u64]) -> Reply
       deep ← ⟦Flat::MAX_DEPTH⟧ .entry
       ⌜ r ≡ answerReply (answerOf isKnown (reading nodes deep (now (kinds .entry)) (now (args .entry)))) ⌝ }
 {
-    answer_reply(datatypes::dtype::is_known(kinds, args))
+    answer_reply(dtype::is_known(kinds, args))
 }
 
 // Whether two types are equal.
@@ -45,7 +45,7 @@ pub extern "C" fn lz_flat_equal(
       deep ← ⟦Flat::MAX_DEPTH⟧ .entry
       ⌜ r ≡ answerReply (answersOf equal (reading nodes deep (now («left_kinds» .entry)) (now («left_args» .entry))) (reading nodes deep (now («right_kinds» .entry)) (now («right_args» .entry)))) ⌝ }
 {
-    answer_reply(datatypes_eq::equal(left_kinds, left_args, right_kinds, right_args))
+    answer_reply(dtype_eq::equal(left_kinds, left_args, right_kinds, right_args))
 }
 
 // Whether the cast makes sense.
@@ -61,7 +61,7 @@ pub extern "C" fn lz_flat_can_cast_to(
       deep ← ⟦Flat::MAX_DEPTH⟧ .entry
       ⌜ r ≡ verdictReply (castOf (reading nodes deep (now («from_kinds» .entry)) (now («from_args» .entry))) (reading nodes deep (now («to_kinds» .entry)) (now («to_args» .entry)))) ⌝ }
 {
-    verdict_reply(datatypes_cast::can_cast_to(from_kinds, from_args, to_kinds, to_args))
+    verdict_reply(dtype_cast::can_cast_to(from_kinds, from_args, to_kinds, to_args))
 }
 
 // The type under a List or an Array: how many nodes it has, which stand at the end of kinds and args; 0 for None.
@@ -72,7 +72,7 @@ pub extern "C" fn lz_flat_inner_dtype(kinds: &[u8], args: &[u64]) -> Reply
       deep ← ⟦Flat::MAX_DEPTH⟧ .entry
       ⌜ r ≡ innerReply (innerOf innerDtype (reading nodes deep (now (kinds .entry)) (now (args .entry)))) ⌝ }
 {
-    inner_reply(datatypes_inner::inner_dtype(kinds, args))
+    inner_reply(dtype_inner::inner_dtype(kinds, args))
 }
 
 // The type under all Lists and Arrays, likewise.
@@ -83,7 +83,7 @@ pub extern "C" fn lz_flat_leaf_dtype(kinds: &[u8], args: &[u64]) -> Reply
       deep ← ⟦Flat::MAX_DEPTH⟧ .entry
       ⌜ r ≡ innerReply (innerOf (λ t. some (leafDtype t)) (reading nodes deep (now (kinds .entry)) (now (args .entry)))) ⌝ }
 {
-    inner_reply(datatypes_inner::leaf_dtype(kinds, args))
+    inner_reply(dtype_inner::leaf_dtype(kinds, args))
 }
 
 // The type under an Array's consecutive Arrays, likewise.
@@ -94,7 +94,7 @@ pub extern "C" fn lz_flat_array_leaf_dtype(kinds: &[u8], args: &[u64]) -> Reply
       deep ← ⟦Flat::MAX_DEPTH⟧ .entry
       ⌜ r ≡ innerReply (innerOf arrayLeafDtype (reading nodes deep (now (kinds .entry)) (now (args .entry)))) ⌝ }
 {
-    inner_reply(datatypes_inner::array_leaf_dtype(kinds, args))
+    inner_reply(dtype_inner::array_leaf_dtype(kinds, args))
 }
 
 // The type with each unknown type made known, to the front of out_kinds and out_args; any is allowed unless allow_unknown is 0. Gives its number of nodes.
@@ -111,7 +111,7 @@ pub extern "C" fn lz_flat_materialize_unknown(
       deep ← ⟦Flat::MAX_DEPTH⟧ .entry
       ⌜ DecodeReply (fitting (length (now («out_kinds» .entry))) (length (now («out_args» .entry))) (materialized (not (eqb «allow_unknown» 0)) (reading nodes deep (now (kinds .entry)) (now (args .entry))))) (now («out_kinds» .entry)) (now («out_args» .entry)) (now («out_kinds» .exit)) (now («out_args» .exit)) r ⌝ }
 {
-    written(datatypes_build::materialize_unknown(
+    written(dtype_build::materialize_unknown(
         kinds,
         args,
         allow_unknown != 0,
@@ -133,5 +133,5 @@ pub extern "C" fn lz_flat_to_physical(
       deep ← ⟦Flat::MAX_DEPTH⟧ .entry
       ⌜ DecodeReply (fitting (length (now («out_kinds» .entry))) (length (now («out_args» .entry))) (physical (reading nodes deep (now (kinds .entry)) (now (args .entry))))) (now («out_kinds» .entry)) (now («out_args» .entry)) (now («out_kinds» .exit)) (now («out_args» .exit)) r ⌝ }
 {
-    written(datatypes_build::to_physical(kinds, args, out_kinds, out_args))
+    written(dtype_build::to_physical(kinds, args, out_kinds, out_args))
 }

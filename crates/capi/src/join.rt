@@ -4,17 +4,17 @@ ghost use mathlib.Core.Bool.{not};
 ghost use lib.Dec.{eqb};
 ghost use lib.ListN.{length};
 ghost use Rattle.flat.specs.Reading.{reading};
-ghost use Rattle.encoding.specs.Encoding.{decoding};
-ghost use Rattle.utils.specs.Join.{joining, fittingFound};
-ghost use Rattle.utils_lossless.specs.Lossless.{losslessOf};
-ghost use Rattle.utils_supertype.specs.Pair.{supertypeOf};
-ghost use Rattle.utils_report.specs.Report.{typesReport};
-ghost use Rattle.encoding_join.specs.Join.{fittingFoundBytes};
+ghost use Rattle.encoded.specs.Encoding.{decoding};
+ghost use Rattle.supertype_answer.specs.Join.{joining, fittingFound};
+ghost use Rattle.supertype_lossless.specs.Lossless.{losslessOf};
+ghost use Rattle.supertype.specs.Pair.{supertypeOf};
+ghost use Rattle.supertype_report.specs.Report.{typesReport};
+ghost use Rattle.encoded_join.specs.Join.{fittingFoundBytes};
 ghost use Rattle.capi.specs.Reply.{joinedReply, JoinReply, FlatJoinReply, reportReply};
 use crate::Reply;
-use encoding::Encoding;
+use encoded::Encoding;
 use flat::Flat;
-use utils::join::Joined;
+use supertype_answer::Joined;
 
 fn joined_reply(j: Joined) -> Reply
     ensures { λ r. ⌜ r ≡ joinedReply j ⌝ }
@@ -40,7 +40,7 @@ pub extern "C" fn lz_get_supertype_with_options(
       w ← ⟦Encoding::ARGUMENT_BYTES⟧ .entry
       ⌜ JoinReply w (fittingFoundBytes w (length (now (out .entry))) (joining (supertypeOf (not (eqb «allow_implode_list» 0)) (not (eqb «allow_primitive_to_string» 0))) (decoding w nodes deep (now (left .entry))) (decoding w nodes deep (now (right .entry))))) (now (out .entry)) (now (out .exit)) r ⌝ }
 {
-    joined_reply(encoding_join::get_supertype_with_options(
+    joined_reply(encoded_join::get_supertype_with_options(
         left,
         right,
         allow_implode_list != 0,
@@ -62,7 +62,7 @@ pub extern "C" fn lz_get_numeric_upcast_supertype_lossless(
       w ← ⟦Encoding::ARGUMENT_BYTES⟧ .entry
       ⌜ JoinReply w (fittingFoundBytes w (length (now (out .entry))) (joining losslessOf (decoding w nodes deep (now (left .entry))) (decoding w nodes deep (now (right .entry))))) (now (out .entry)) (now (out .exit)) r ⌝ }
 {
-    joined_reply(encoding_join::get_numeric_upcast_supertype_lossless(left, right, out))
+    joined_reply(encoded_join::get_numeric_upcast_supertype_lossless(left, right, out))
 }
 
 // What joining does to the whole numbers of two columns: 0 the supertype keeps all of both, 1 it doesn't and an integer type does, 2 it doesn't and none does,
@@ -75,7 +75,7 @@ pub extern "C" fn lz_join_report(left: &[u8], right: &[u8]) -> Reply
       w ← ⟦Encoding::ARGUMENT_BYTES⟧ .entry
       ⌜ r ≡ reportReply (typesReport (decoding w nodes deep (now (left .entry))) (decoding w nodes deep (now (right .entry)))) ⌝ }
 {
-    let report = encoding_join::join_report(left, right);
+    let report = encoded_join::join_report(left, right);
     Reply {
         number: report.number(),
         value: report.value(),
@@ -99,7 +99,7 @@ pub extern "C" fn lz_flat_get_supertype_with_options(
       deep ← ⟦Flat::MAX_DEPTH⟧ .entry
       ⌜ FlatJoinReply (fittingFound (length (now («out_kinds» .entry))) (length (now («out_args» .entry))) (joining (supertypeOf (not (eqb «allow_implode_list» 0)) (not (eqb «allow_primitive_to_string» 0))) (reading nodes deep (now («left_kinds» .entry)) (now («left_args» .entry))) (reading nodes deep (now («right_kinds» .entry)) (now («right_args» .entry))))) (now («out_kinds» .entry)) (now («out_args» .entry)) (now («out_kinds» .exit)) (now («out_args» .exit)) r ⌝ }
 {
-    joined_reply(utils_supertype::get_supertype_with_options(
+    joined_reply(supertype::get_supertype_with_options(
         left_kinds,
         left_args,
         right_kinds,
@@ -126,7 +126,7 @@ pub extern "C" fn lz_flat_get_numeric_upcast_supertype_lossless(
       deep ← ⟦Flat::MAX_DEPTH⟧ .entry
       ⌜ FlatJoinReply (fittingFound (length (now («out_kinds» .entry))) (length (now («out_args» .entry))) (joining losslessOf (reading nodes deep (now («left_kinds» .entry)) (now («left_args» .entry))) (reading nodes deep (now («right_kinds» .entry)) (now («right_args» .entry))))) (now («out_kinds» .entry)) (now («out_args» .entry)) (now («out_kinds» .exit)) (now («out_args» .exit)) r ⌝ }
 {
-    joined_reply(utils_lossless::get_numeric_upcast_supertype_lossless(
+    joined_reply(supertype_lossless::get_numeric_upcast_supertype_lossless(
         left_kinds,
         left_args,
         right_kinds,

@@ -13,16 +13,16 @@ ghost use lib.ListN.{length};
 ghost use Rattle.flat.specs.Reading.{reading, checkedOf};
 ghost use Rattle.flat.specs.Output.{fitting};
 ghost use Rattle.flat.specs.declared.Checked.{Checked};
-ghost use Rattle.encoding.specs.Encoding.{decoding};
-ghost use Rattle.encoding.specs.Answer.{fittingBytes};
-ghost use Rattle.datatypes.specs.Answer.{yesNo};
+ghost use Rattle.encoded.specs.Encoding.{decoding};
+ghost use Rattle.encoded.specs.Answer.{fittingBytes};
+ghost use Rattle.dtype.specs.Answer.{yesNo};
 ghost use Rattle.capi.specs.Reply.{checkReply, answerReply, verdictReply, innerReply, writtenReply, bytesReply, DecodeReply, EncodeReply};
-use datatypes::answer;
-use datatypes::answer::Answer;
-use datatypes_cast::Verdict;
-use datatypes_inner::Inner;
-use encoding::Encoded;
-use encoding::Encoding;
+use dtype::answer;
+use dtype::answer::Answer;
+use dtype_cast::Verdict;
+use dtype_inner::Inner;
+use encoded::Encoded;
+use encoded::Encoding;
 use flat::Checked;
 use flat::Flat;
 use flat::Written;
@@ -113,7 +113,7 @@ pub extern "C" fn lz_check(encoded: &[u8]) -> Reply
       w ← ⟦Encoding::ARGUMENT_BYTES⟧ .entry
       ⌜ r ≡ checkReply (checkedOf (decoding w nodes deep (now (encoded .entry)))) ⌝ }
 {
-    check_reply(encoding::check(encoded))
+    check_reply(encoded::check(encoded))
 }
 
 // Decodes a type to the front of kinds and args, and gives its number of nodes.
@@ -125,7 +125,7 @@ pub extern "C" fn lz_decode(encoded: &[u8], kinds: &mut [u8], args: &mut [u64]) 
       w ← ⟦Encoding::ARGUMENT_BYTES⟧ .entry
       ⌜ DecodeReply (fitting (length (now (kinds .entry))) (length (now (args .entry))) (decoding w nodes deep (now (encoded .entry)))) (now (kinds .entry)) (now (args .entry)) (now (kinds .exit)) (now (args .exit)) r ⌝ }
 {
-    written(encoding::decode(encoded, kinds, args))
+    written(encoded::decode(encoded, kinds, args))
 }
 
 // Encodes a flat type to the front of out, and gives the number of bytes.
@@ -137,5 +137,5 @@ pub extern "C" fn lz_encode(kinds: &[u8], args: &[u64], out: &mut [u8]) -> Reply
       w ← ⟦Encoding::ARGUMENT_BYTES⟧ .entry
       ⌜ EncodeReply w (fittingBytes w (length (now (out .entry))) (reading nodes deep (now (kinds .entry)) (now (args .entry)))) (now (out .entry)) (now (out .exit)) r ⌝ }
 {
-    bytes(encoding::encode(kinds, args, out))
+    bytes(encoded::encode(kinds, args, out))
 }

@@ -4,25 +4,25 @@ ghost use mathlib.Core.Bool.{_&&_};
 ghost use Prim.Native.Nat.{_≤_};
 ghost use lib.Dec.{leb};
 ghost use lib.ListN.{length};
-ghost use Rattle.encoding.specs.Encoding.{decoding};
-ghost use Rattle.encoding.specs.Answer.{nodesIn};
-ghost use Rattle.datatypes.specs.Equality.{equal};
-ghost use Rattle.datatypes.specs.Recursive.{containsDtypeRecursive};
-ghost use Rattle.datatypes.specs.Answer.{answersOf};
-ghost use Rattle.datatypes_cast.specs.Verdict.{castOf};
+ghost use Rattle.encoded.specs.Encoding.{decoding};
+ghost use Rattle.encoded.specs.Answer.{nodesIn};
+ghost use Rattle.dtype.specs.Equality.{equal};
+ghost use Rattle.dtype_eq.specs.Contains.{containsDtypeRecursive};
+ghost use Rattle.dtype.specs.Answer.{answersOf};
+ghost use Rattle.dtype_cast.specs.Verdict.{castOf};
 ghost use Rattle.capi.specs.Reply.{answerReply, checkedEqual, verdictOf, verdictReply};
 ghost use Rattle.capi.specs.Lent.{OpensBoth, PairReply};
 use crate::Reply;
 use crate::refusal;
 use crate::verdict_reply;
 use crate::yes_no;
-use datatypes_cast::Verdict;
-use datatypes_cast::dtype::Cast;
-use datatypes_cast::dtype::node_cast;
-use datatypes_cast::scan::all_yes;
-use datatypes_cast::scan::node_yes;
-use datatypes_eq::nodes;
-use encoding::Encoding;
+use dtype_cast::Verdict;
+use dtype_cast::dtype::Cast;
+use dtype_cast::dtype::node_cast;
+use dtype_cast::scan::all_yes;
+use dtype_cast::scan::node_yes;
+use dtype_eq::nodes;
+use encoded::Encoding;
 use flat::Checked;
 use flat::Flat;
 use flat::Written;
@@ -45,8 +45,8 @@ fn open_both(left: &[u8], right: &[u8], left_args: &mut [u64], right_args: &mut 
       w ← ⟦Encoding::ARGUMENT_BYTES⟧ .entry
       ⌜ OpensBoth w nodes deep (now (left .entry)) (now (right .entry)) (now («left_args» .entry)) (now («right_args» .entry)) (now («left_args» .exit)) (now («right_args» .exit)) r ⌝ }
 {
-    let l = encoding::open(left, left_args);
-    let r = encoding::open(right, right_args);
+    let l = encoded::open(left, left_args);
+    let r = encoded::open(right, right_args);
     match l {
         Written::Refused(e) => Pair::Refused(e),
         Written::Nodes(n) => match r {
@@ -64,10 +64,10 @@ fn both_few(left: &[u8], right: &[u8]) -> bool
       few ← ⟦Encoding::FEW⟧ .entry
       ⌜ r ≡ (leb (nodesIn w nodes (now (left .entry))) few && leb (nodesIn w nodes (now (right .entry))) few) ⌝ }
 {
-    if encoding::node_count(left) > Encoding::FEW {
+    if encoded::node_count(left) > Encoding::FEW {
         return false;
     }
-    encoding::node_count(right) <= Encoding::FEW
+    encoded::node_count(right) <= Encoding::FEW
 }
 
 fn equal_in(left: &[u8], right: &[u8], left_args: &mut [u64], right_args: &mut [u64]) -> Reply
@@ -114,7 +114,7 @@ pub extern "C" fn lz_equal(left: &[u8], right: &[u8]) -> Reply
     // equal bytes are one type, and one check tells of both
     if left.len() == right.len() {
         if nodes::same_bytes(left, right) {
-            return checked_equal(encoding::check(left));
+            return checked_equal(encoded::check(left));
         }
     }
     if both_few(left, right) {
@@ -219,8 +219,8 @@ pub extern "C" fn lz_can_cast_to(left: &[u8], right: &[u8]) -> Reply
       ⌜ r ≡ verdictReply (castOf (decoding w nodes deep (now (left .entry))) (decoding w nodes deep (now (right .entry)))) ⌝ }
 {
     // two plain leaves that say yes
-    if encoding::is_plain(left) {
-        if encoding::is_plain(right) {
+    if encoded::is_plain(left) {
+        if encoded::is_plain(right) {
             if node_yes(left[2], 0, right[2], 0) {
                 return verdict_reply(Verdict::Yes);
             }

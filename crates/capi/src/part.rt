@@ -3,18 +3,18 @@ ghost use mathlib.Core.Path.{_≡_};
 ghost use mathlib.Core.Option.{some};
 ghost use Prim.Native.Nat.{_≤_};
 ghost use lib.ListN.{length};
-ghost use Rattle.encoding.specs.Encoding.{decoding};
-ghost use Rattle.encoding.specs.Answer.{nodesIn, argsOpened};
-ghost use Rattle.datatypes.specs.Inner.{innerDtype, leafDtype, arrayLeafDtype};
-ghost use Rattle.datatypes_inner.specs.Shape.{shapeOf};
+ghost use Rattle.encoded.specs.Encoding.{decoding};
+ghost use Rattle.encoded.specs.Answer.{nodesIn, argsOpened};
+ghost use Rattle.dtype_inner.specs.Inner.{innerDtype, leafDtype, arrayLeafDtype};
+ghost use Rattle.dtype_inner.specs.Shape.{shapeOf};
 ghost use Rattle.capi.specs.Parts.{partOf, partNodes, partReading, PartReply};
 use crate::Reply;
 use crate::bytes;
 use crate::inner_reply;
 use crate::refusal;
-use datatypes_inner::Inner;
-use datatypes_inner::Shape;
-use encoding::Encoding;
+use dtype_inner::Inner;
+use dtype_inner::Shape;
+use encoded::Encoding;
 use flat::Flat;
 use flat::Written;
 
@@ -30,9 +30,9 @@ fn part_nodes(part: Part, kinds: &[u8]) -> usize
     ensures { λ r. ⌜ r ≡ partNodes part (now (kinds .entry)) ⌝ }
 {
     match part {
-        Part::Inner => datatypes_inner::inner_nodes(kinds),
-        Part::Leaf => datatypes_inner::leaf_nodes(kinds),
-        Part::ArrayLeaf => datatypes_inner::array_leaf_nodes(kinds),
+        Part::Inner => dtype_inner::inner_nodes(kinds),
+        Part::Leaf => dtype_inner::leaf_nodes(kinds),
+        Part::ArrayLeaf => dtype_inner::array_leaf_nodes(kinds),
     }
 }
 
@@ -48,7 +48,7 @@ fn part_in(part: Part, encoded: &[u8], args: &mut [u64], out: &mut [u8]) -> Repl
       w ← ⟦Encoding::ARGUMENT_BYTES⟧ .entry
       ⌜ PartReply w (partReading (partOf part) (decoding w nodes deep (now (encoded .entry)))) (now (out .entry)) (now (out .exit)) r × ((now (args .exit)) ≡ argsOpened w nodes (now (encoded .entry)) (now (args .entry))) ⌝ }
 {
-    match encoding::open(encoded, args) {
+    match encoded::open(encoded, args) {
         Written::Nodes(n) => {
             let kinds = &encoded[2..2 + n];
             let values = &args[..n];
@@ -57,7 +57,7 @@ fn part_in(part: Part, encoded: &[u8], args: &mut [u64], out: &mut [u8]) -> Repl
                 return inner_reply(Inner::Nothing);
             }
             let at = n - m;
-            bytes(encoding::put(&kinds[at..], &values[at..], out))
+            bytes(encoded::put(&kinds[at..], &values[at..], out))
         }
         Written::Refused(e) => refusal(e),
     }
@@ -71,7 +71,7 @@ fn part_of(part: Part, encoded: &[u8], out: &mut [u8]) -> Reply
       w ← ⟦Encoding::ARGUMENT_BYTES⟧ .entry
       ⌜ PartReply w (partReading (partOf part) (decoding w nodes deep (now (encoded .entry)))) (now (out .entry)) (now (out .exit)) r ⌝ }
 {
-    if encoding::node_count(encoded) <= Encoding::FEW {
+    if encoded::node_count(encoded) <= Encoding::FEW {
         let mut args = [0u64; Encoding::FEW];
         return part_in(part, encoded, &mut args, out);
     }
@@ -126,8 +126,8 @@ fn shape_in(encoded: &[u8], args: &mut [u64]) -> Shape
       w ← ⟦Encoding::ARGUMENT_BYTES⟧ .entry
       ⌜ (r ≡ shapeOf deep (decoding w nodes deep (now (encoded .entry)))) × ((now (args .exit)) ≡ argsOpened w nodes (now (encoded .entry)) (now (args .entry))) ⌝ }
 {
-    match encoding::open(encoded, args) {
-        Written::Nodes(n) => datatypes_inner::array_shape(&encoded[2..2 + n], &args[..n]),
+    match encoded::open(encoded, args) {
+        Written::Nodes(n) => dtype_inner::array_shape(&encoded[2..2 + n], &args[..n]),
         Written::Refused(e) => Shape::refused(e),
     }
 }
@@ -141,7 +141,7 @@ pub extern "C" fn lz_get_shape(encoded: &[u8]) -> Shape
       w ← ⟦Encoding::ARGUMENT_BYTES⟧ .entry
       ⌜ r ≡ shapeOf deep (decoding w nodes deep (now (encoded .entry))) ⌝ }
 {
-    if encoding::node_count(encoded) <= Encoding::FEW {
+    if encoded::node_count(encoded) <= Encoding::FEW {
         let mut args = [0u64; Encoding::FEW];
         return shape_in(encoded, &mut args);
     }

@@ -1,18 +1,18 @@
 // The predicates of a type, on an encoded one.
 ghost use mathlib.Core.Path.{_≡_};
 ghost use Rattle.flat.specs.Output.{writtenOf};
-ghost use Rattle.encoding.specs.Encoding.{decoding};
-ghost use Rattle.datatypes.specs.Predicate.{root, isTemporal, isFloat, isSignedInteger, isUnsignedInteger, isInteger, isPrimitiveNumeric, isPrimitive, isNested, isString, isUnknown};
-ghost use Rattle.datatypes.specs.Recursive.{isKnown, isLogical, containsListRecursive, containsUnknown};
-ghost use Rattle.datatypes.specs.Predicates.{predicateOf};
-ghost use Rattle.datatypes.specs.Answer.{answerOf};
+ghost use Rattle.encoded.specs.Encoding.{decoding};
+ghost use Rattle.dtype.specs.Predicate.{root, isTemporal, isFloat, isSignedInteger, isUnsignedInteger, isInteger, isPrimitiveNumeric, isPrimitive, isNested, isString, isUnknown};
+ghost use Rattle.dtype.specs.Recursive.{isKnown, isLogical, containsListRecursive, containsUnknown};
+ghost use Rattle.dtype.specs.Predicates.{predicateOf};
+ghost use Rattle.dtype.specs.Answer.{answerOf};
 ghost use Rattle.capi.specs.Reply.{answerReply};
 use crate::Reply;
 use crate::refusal;
 use crate::yes_no;
-use datatypes::predicate::Predicate;
-use datatypes::predicate::told_by;
-use encoding::Encoding;
+use dtype::predicate::Predicate;
+use dtype::predicate::told_by;
+use encoded::Encoding;
 use flat::Checked;
 use flat::Flat;
 use flat::Written;
@@ -25,8 +25,8 @@ fn nodes(encoded: &[u8]) -> Written
       w ← ⟦Encoding::ARGUMENT_BYTES⟧ .entry
       ⌜ r ≡ writtenOf (decoding w nodes deep (now (encoded .entry))) ⌝ }
 {
-    match encoding::check(encoded) {
-        Checked::Valid => Written::Nodes(encoding::node_count(encoded)),
+    match encoded::check(encoded) {
+        Checked::Valid => Written::Nodes(encoded::node_count(encoded)),
         Checked::Refused(e) => Written::Refused(e),
     }
 }
@@ -39,7 +39,7 @@ fn reply(p: Predicate, encoded: &[u8]) -> Reply
       w ← ⟦Encoding::ARGUMENT_BYTES⟧ .entry
       ⌜ r ≡ answerReply (answerOf (predicateOf p) (decoding w nodes deep (now (encoded .entry)))) ⌝ }
 {
-    if encoding::is_plain(encoded) {
+    if encoded::is_plain(encoded) {
         return yes_no(told_by(p, &encoded[2..3]));
     }
     match nodes(&encoded[0..]) {

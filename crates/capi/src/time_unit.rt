@@ -1,7 +1,7 @@
 // Units of time, by their numbers.
 ghost use mathlib.Core.Path.{_≡_};
-ghost use Rattle.datatypes.specs.TimeUnit.{unitOf};
-ghost use Rattle.utils.specs.TimeUnits.{coarserOf};
+ghost use Rattle.dtype.specs.TimeUnit.{unitOf};
+ghost use Rattle.dtype.specs.TimeUnits.{coarserOf};
 ghost use Rattle.capi.specs.Reply.{unitReply};
 use crate::Reply;
 
@@ -10,7 +10,7 @@ use crate::Reply;
 pub extern "C" fn lz_get_time_units(left: u8, right: u8) -> Reply
     ensures { λ r. ⌜ r ≡ unitReply (coarserOf (unitOf left) (unitOf right)) ⌝ }
 {
-    let unit = utils::coarser_unit(left, right);
+    let unit = dtype::time_units::coarser_unit(left, right);
     Reply {
         number: unit.number(),
         value: unit.value(),

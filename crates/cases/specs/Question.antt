@@ -9,13 +9,13 @@ use Rattle.flat.specs.Tree.{DataType, kindsOf, argsOf}
 use Rattle.flat.specs.Reading.{Reading, refused, type, reading, checkedOf, checkedNumber, rootOf, rootNumber, rootKind, rootArg}
 use Rattle.flat.specs.Refusals.{numberGiven}
 use Rattle.flat.specs.Output.{fitting, writtenOf, writtenNumber}
-use Rattle.encoding.specs.Encoding.{encoding, decoding}
-use Rattle.datatypes.specs.Cast.{canCastTo}
-use Rattle.datatypes.specs.DynInt.{materializeSmallestDynInt}
-use Rattle.datatypes_build.specs.Build.{materialized}
-use Rattle.utils.specs.Join.{joining, fittingFound, joinedOf, joinedNumber}
-use Rattle.utils_lossless.specs.Lossless.{losslessOf}
-use Rattle.utils_supertype.specs.Pair.{supertypeOf}
+use Rattle.encoded.specs.Encoding.{encoding, decoding}
+use Rattle.dtype_cast.specs.Cast.{canCastTo}
+use Rattle.supertype_numbers.specs.DynInt.{materializeSmallestDynInt}
+use Rattle.dtype_build.specs.Build.{materialized}
+use Rattle.supertype_answer.specs.Join.{joining, fittingFound, joinedOf, joinedNumber}
+use Rattle.supertype_lossless.specs.Lossless.{losslessOf}
+use Rattle.supertype.specs.Pair.{supertypeOf}
 use Rattle.channels.specs.Merge.{mergedOf, mergedNumber, mergedValue, codesAfter}
 
 -- The limits that the code sets: the most nodes, the most nodes above a node, the number of channels, and the bytes of an encoded argument.

@@ -1,7 +1,7 @@
 // Document 01's worked cases: one table over all the definitions (specs/Cases.antt), and one claim.
 ghost use Rattle.cases.specs.Cases.{CasesHold};
 use channels::ChannelTypes;
-use encoding::Encoding;
+use encoded::Encoding;
 use flat::Flat;
 
 // The claim, at the code's own limits. It is the whole of this function, which does nothing.

@@ -11,8 +11,8 @@ use Rattle.flat.specs.Reading.{Reading, refused, type, rootOf}
 use Rattle.flat.specs.declared.Root.{Root}
 use Rattle.flat.specs.declared.error.Error.{Error}
 use Rattle.flat.specs.declared.error.Error.the-variants.{Channel, ChannelCode, NotInteger}
-use Rattle.utils_numbers.specs.Range.{isListed}
-use Rattle.utils_lossless.specs.Lossless.{upcastOf}
+use Rattle.supertype_numbers.specs.Range.{isListed}
+use Rattle.supertype_lossless.specs.Lossless.{upcastOf}
 use Rattle.channels.specs.declared.ChannelTypes.{ChannelTypes}
 use Rattle.channels.specs.declared.Merged.{Merged}
 use Rattle.channels.specs.declared.Merged.the-variants.{Held, Refused}

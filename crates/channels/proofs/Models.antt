@@ -15,8 +15,8 @@ use Rattle.flat.specs.Tree.{DataType, headKind}
 use Rattle.flat.specs.Reading.{Reading, refused, type}
 use Rattle.flat.specs.declared.error.Error.{Error}
 use Rattle.flat.specs.declared.error.Error.the-variants.{Channel, NoUpcast}
-use Rattle.utils_numbers.specs.Range.{Listed, Least, Room}
-use Rattle.utils_numbers.proofs.Ranges.{least-one}
+use Rattle.supertype_numbers.specs.Range.{Listed, Least, Room}
+use Rattle.supertype_numbers.proofs.Ranges.{least-one}
 use Rattle.channels.specs.declared.ChannelTypes.{ChannelTypes}
 use Rattle.channels.specs.declared.Merged.{Merged}
 use Rattle.channels.specs.declared.Merged.the-variants.{Held, Refused}

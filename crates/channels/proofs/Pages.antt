@@ -8,12 +8,12 @@ use lib.Dec.{T, eqb}
 use borrow.Author.Tests.{le-leb, ne-eqb, eqb-true, eqb-false}
 use Rattle.flat.specs.Kind
 use Rattle.flat.specs.declared.error.Error.the-variants.{NotInteger, NoUpcast}
-use Rattle.utils_numbers.specs.Range.{Listed, isListed, Includes, Covers, Least, Room}
-use Rattle.utils_numbers.proofs.Tests.{to-listed, of-listed}
-use Rattle.utils_lossless.specs.Lossless.{upcastOf}
-use Rattle.utils_lossless.specs.declared.upcast.Upcast.{Upcast}
-use Rattle.utils_lossless.specs.declared.upcast.Upcast.the-variants.{To, Nothing}
-use Rattle.utils_lossless.proofs.Laws.{lossless-laws}
+use Rattle.supertype_numbers.specs.Range.{Listed, isListed, Includes, Covers, Least, Room}
+use Rattle.supertype_numbers.proofs.Tests.{to-listed, of-listed}
+use Rattle.supertype_lossless.specs.Lossless.{upcastOf}
+use Rattle.supertype_lossless.specs.declared.upcast.Upcast.{Upcast}
+use Rattle.supertype_lossless.specs.declared.upcast.Upcast.the-variants.{To, Nothing}
+use Rattle.supertype_lossless.proofs.Laws.{lossless-laws}
 use Rattle.channels.specs.declared.Merged.{Merged}
 use Rattle.channels.specs.declared.Merged.the-variants.{Held, Refused}
 use Rattle.channels.specs.Merge.{choose, unless, upcastHeld, mergedWith}

@@ -1,10 +1,10 @@
 -- The list of merges that was worked by hand comes out so. Assumes nothing.
 use mathlib.Core.Path.{refl}
 use Rattle.flat.specs.Tree.{headKind}
-use Rattle.datatypes.specs.Match.{among}
-use Rattle.datatypes.specs.Predicate.{isFloat, isUnknownInt, isSignedInteger, isUnsignedInteger, isInteger, isNested, isUnknown}
-use Rattle.utils_numbers.specs.Range.{isListed}
-use Rattle.utils_lossless.specs.Lossless.{choose, mixed, upcastWhere, upcastOf}
+use Rattle.dtype.specs.Match.{among}
+use Rattle.dtype.specs.Predicate.{isFloat, isUnknownInt, isSignedInteger, isUnsignedInteger, isInteger, isNested, isUnknown}
+use Rattle.supertype_numbers.specs.Range.{isListed}
+use Rattle.supertype_lossless.specs.Lossless.{choose, mixed, upcastWhere, upcastOf}
 use Rattle.channels.specs.Merge.{mergedWith, mergedOf, outcomeOf}
 use Rattle.channels.specs.Rule.{Run}
 use Rattle.channels.specs.Worked.{Worked}

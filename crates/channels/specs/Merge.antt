@@ -10,10 +10,10 @@ use Rattle.flat.specs.Reading.{Reading, refused, type}
 use Rattle.flat.specs.declared.Root.{Root}
 use Rattle.flat.specs.declared.error.Error.{Error}
 use Rattle.flat.specs.declared.error.Error.the-variants.{Channel, ChannelCode, NotInteger, NoUpcast}
-use Rattle.utils_numbers.specs.Range.{isListed}
-use Rattle.utils_lossless.specs.Lossless.{upcastOf}
-use Rattle.utils_lossless.specs.declared.upcast.Upcast.{Upcast}
-use Rattle.utils_lossless.specs.declared.upcast.Upcast.the-variants.{To, Nothing}
+use Rattle.supertype_numbers.specs.Range.{isListed}
+use Rattle.supertype_lossless.specs.Lossless.{upcastOf}
+use Rattle.supertype_lossless.specs.declared.upcast.Upcast.{Upcast}
+use Rattle.supertype_lossless.specs.declared.upcast.Upcast.the-variants.{To, Nothing}
 use Rattle.channels.specs.declared.ChannelTypes.{ChannelTypes}
 use Rattle.channels.specs.declared.Merged.{Merged}
 use Rattle.channels.specs.declared.Merged.the-variants.{Held, Refused}

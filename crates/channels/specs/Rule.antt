@@ -10,7 +10,7 @@ use Rattle.flat.specs.Tree.{DataType, headKind}
 use Rattle.flat.specs.Reading.{Reading, refused, type}
 use Rattle.flat.specs.declared.error.Error.{Error}
 use Rattle.flat.specs.declared.error.Error.the-variants.{NoUpcast}
-use Rattle.utils_numbers.specs.Range.{Listed, Covers, Least, Room}
+use Rattle.supertype_numbers.specs.Range.{Listed, Covers, Least, Room}
 use Rattle.channels.specs.declared.ChannelTypes.{ChannelTypes}
 use Rattle.channels.specs.declared.Merged.{Merged}
 use Rattle.channels.specs.declared.Merged.the-variants.{Held, Refused}

@@ -5,14 +5,14 @@ ghost use mathlib.Core.Path.{_≡_};
 ghost use mathlib.Core.Bool.{_||_};
 ghost use lib.Dec.{eqb};
 ghost use Rattle.flat.specs.Reading.{reading};
-ghost use Rattle.utils_numbers.specs.Range.{isListed};
+ghost use Rattle.supertype_numbers.specs.Range.{isListed};
 ghost use Rattle.channels.specs.Merge.{mergedWith, mergedNumber, mergedValue, started, rootColumn, outcomeOf};
 use flat::Flat;
 use flat::Root;
 use flat::error::Error;
-use utils_lossless::upcast::Upcast;
-use utils_lossless::upcast::upcast_kinds;
-use utils_numbers::integer::is_listed;
+use supertype_lossless::upcast::Upcast;
+use supertype_lossless::upcast::upcast_kinds;
+use supertype_numbers::integer::is_listed;
 
 // For each channel the kind of the integer type that it holds, or 0 while it is empty.
 #[repr(C)]

@@ -1,4 +1,5 @@
 -- The laws of flat types. Those that other crates' proofs cite are `pub`.
+pub mod Truths
 pub mod Sizes
 pub mod ReadBack
 pub mod Positions
@@ -6,6 +7,7 @@ pub mod Walks
 pub mod Meaning
 pub mod Refusals
 pub mod Roots
+pub mod Pairs
 pub mod Onward
 pub mod Outputs
 pub mod Rules

@@ -5,6 +5,7 @@ pub mod Argument
 pub mod Tree
 pub mod Reader
 pub mod Reading
+pub mod Both
 pub mod Refusals
 pub mod Limits
 pub mod Output

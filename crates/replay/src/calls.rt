@@ -16,15 +16,14 @@ use crate::reader::read_flag;
 use crate::reader::read_type;
 use crate::reader::to_bytes;
 use channels::ChannelTypes;
-use datatypes::answer::Answer;
-use datatypes::dtype;
-use datatypes_cast::can_cast_to;
-use datatypes_eq::contains_dtype_recursive;
-use datatypes_eq::equal;
-use datatypes_inner::Inner;
+use dtype::answer::Answer;
+use dtype_cast::can_cast_to;
+use dtype_eq::contains_dtype_recursive;
+use dtype_eq::equal;
+use dtype_inner::Inner;
 use flat::Flat;
 use flat::error::Error;
-use utils_report::join_report;
+use supertype_report::join_report;
 
 fn is_checked(kinds: &[u8], args: &[u64], recorded: &[u64]) -> bool {
     let checked = flat::check(kinds, args);
@@ -67,21 +66,21 @@ fn is_part(inner: Inner, kinds: &[u8], args: &[u64], recorded: &[u64]) -> bool {
 fn is_inner(entry: u64, kinds: &[u8], args: &[u64], recorded: &[u64]) -> bool {
     match entry {
         19 => is_part(
-            datatypes_inner::inner_dtype(kinds, args),
-            datatypes_inner::inner_dtype_kinds(kinds, args),
-            datatypes_inner::inner_dtype_args(kinds, args),
+            dtype_inner::inner_dtype(kinds, args),
+            dtype_inner::inner_dtype_kinds(kinds, args),
+            dtype_inner::inner_dtype_args(kinds, args),
             recorded,
         ),
         20 => is_part(
-            datatypes_inner::leaf_dtype(kinds, args),
-            datatypes_inner::leaf_dtype_kinds(kinds, args),
-            datatypes_inner::leaf_dtype_args(kinds, args),
+            dtype_inner::leaf_dtype(kinds, args),
+            dtype_inner::leaf_dtype_kinds(kinds, args),
+            dtype_inner::leaf_dtype_args(kinds, args),
             recorded,
         ),
         _ => is_part(
-            datatypes_inner::array_leaf_dtype(kinds, args),
-            datatypes_inner::array_leaf_dtype_kinds(kinds, args),
-            datatypes_inner::array_leaf_dtype_args(kinds, args),
+            dtype_inner::array_leaf_dtype(kinds, args),
+            dtype_inner::array_leaf_dtype_kinds(kinds, args),
+            dtype_inner::array_leaf_dtype_args(kinds, args),
             recorded,
         ),
     }
@@ -110,7 +109,7 @@ fn is_shape(number: u64, count: u64, widths: &[u64; Flat::MAX_DEPTH], recorded: 
 }
 
 fn is_shaped(kinds: &[u8], args: &[u64], recorded: &[u64]) -> bool {
-    let shape = datatypes_inner::get_shape(kinds, args);
+    let shape = dtype_inner::get_shape(kinds, args);
     let widths = shape.widths;
     is_shape(shape.number, shape.count, &widths, recorded)
 }
@@ -273,7 +272,7 @@ fn two_units(line: &[u64]) -> bool {
     if right > 255 {
         return false;
     }
-    let unit = utils::coarser_unit(left as u8, right as u8);
+    let unit = dtype::time_units::coarser_unit(left as u8, right as u8);
     is_reply(&line[2..], unit.number(), unit.value())
 }
 

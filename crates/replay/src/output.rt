@@ -7,7 +7,7 @@ use crate::parts::from;
 use crate::parts::rest;
 use crate::reader::NODES;
 use flat::Written;
-use utils::join::Joined;
+use supertype_answer::Joined;
 
 // What stands in the arrays before a call: no kind, and an argument that no recorded type has.
 const KIND: u8 = 255;
@@ -34,8 +34,8 @@ fn build(
     out_args: &mut [u64],
 ) -> Written {
     match form {
-        Form::Physical => datatypes_build::to_physical(kinds, args, out_kinds, out_args),
-        Form::Materialized(allow_unknown) => datatypes_build::materialize_unknown(
+        Form::Physical => dtype_build::to_physical(kinds, args, out_kinds, out_args),
+        Form::Materialized(allow_unknown) => dtype_build::materialize_unknown(
             kinds,
             args,
             allow_unknown,
@@ -55,7 +55,7 @@ fn join(
     out_args: &mut [u64],
 ) -> Joined {
     match rule {
-        Rule::Lossless => utils_lossless::get_numeric_upcast_supertype_lossless(
+        Rule::Lossless => supertype_lossless::get_numeric_upcast_supertype_lossless(
             left_kinds,
             left_args,
             right_kinds,
@@ -63,7 +63,7 @@ fn join(
             out_kinds,
             out_args,
         ),
-        Rule::Supertype(implode_list, to_string) => utils_supertype::get_supertype_with_options(
+        Rule::Supertype(implode_list, to_string) => supertype::get_supertype_with_options(
             left_kinds,
             left_args,
             right_kinds,

@@ -7,20 +7,20 @@ use Rattle.flat.specs.Reader.{children, nodeAt, nodeIn}
 use Rattle.flat.specs.Reading.{lengthFits, kindsFit, argumentsFit, reading}
 use Rattle.flat.specs.Limits.{lists, fieldsOf}
 use Rattle.flat.specs.Output.{fitting}
-use Rattle.encoding.specs.Encoding.{littleEndian, number, argBytes, argsFrom, encoding, countIn, kindsIn, argsIn, sizeFits, decoding}
-use Rattle.datatypes.specs.Match.{among}
-use Rattle.datatypes.specs.Predicate.{isFloat, isUnknownInt, isSignedInteger, isUnsignedInteger, isInteger, isPrimitiveNumeric, isPrimitive, isNested, isString, isUnknown}
-use Rattle.datatypes.specs.Equality.{equalNode, equal}
-use Rattle.datatypes.specs.Cast.{castsWithBoolean, beforeNested, canCastTo}
-use Rattle.datatypes.specs.DynInt.{valueOf, materializeDynInt, materializeDynIntPos, materializeSmallestDynInt}
-use Rattle.datatypes.specs.Materialize.{materialize, materializeUnknown}
-use Rattle.datatypes.specs.Physical.{physicalLeaf, physicalKind}
-use Rattle.datatypes_build.specs.Build.{materialized}
-use Rattle.utils.specs.Join.{joining}
-use Rattle.utils_lossless.specs.Lossless.{choose, floats, signed, unsigned, mixed, upcastWhere, upcastOf, lossless, losslessOf}
-use Rattle.utils_arms.specs.Supertype.{unknownArms, arms, planOf, smallestFitting, dynNumber, run, inner, supertypeWith, knownSupertype, supertype}
-use Rattle.utils_numbers.specs.Range.{isListed}
-use Rattle.utils_supertype.specs.Pair.{decimalWithInteger, pairChecked, rootSupertype, supertypeOf}
+use Rattle.encoded.specs.Encoding.{littleEndian, number, argBytes, argsFrom, encoding, countIn, kindsIn, argsIn, sizeFits, decoding}
+use Rattle.dtype.specs.Match.{among}
+use Rattle.dtype.specs.Predicate.{isFloat, isUnknownInt, isSignedInteger, isUnsignedInteger, isInteger, isPrimitiveNumeric, isPrimitive, isNested, isString, isUnknown}
+use Rattle.dtype.specs.Equality.{equalNode, equal}
+use Rattle.dtype_cast.specs.Cast.{castsWithBoolean, beforeNested, canCastTo}
+use Rattle.supertype_numbers.specs.DynInt.{valueOf, materializeDynInt, materializeDynIntPos, materializeSmallestDynInt}
+use Rattle.dtype_build.specs.Materialize.{materialize, materializeUnknown}
+use Rattle.dtype.specs.Physical.{physicalLeaf, physicalKind}
+use Rattle.dtype_build.specs.Build.{materialized}
+use Rattle.supertype_answer.specs.Join.{joining}
+use Rattle.supertype_lossless.specs.Lossless.{choose, floats, signed, unsigned, mixed, upcastWhere, upcastOf, lossless, losslessOf}
+use Rattle.supertype_arms.specs.Supertype.{unknownArms, arms, planOf, smallestFitting, dynNumber, run, inner, supertypeWith, knownSupertype, supertype}
+use Rattle.supertype_numbers.specs.Range.{isListed}
+use Rattle.supertype.specs.Pair.{decimalWithInteger, pairChecked, rootSupertype, supertypeOf}
 use Rattle.channels.specs.Merge.{mergedWith, mergedOf}
 use Rattle.cases.proofs.cases_hold.Statement.{statement}
 use Rattle.cases.proofs.cases_hold.Tie as tie

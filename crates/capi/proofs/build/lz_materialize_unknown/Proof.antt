@@ -2,8 +2,8 @@
 use borrow.Author.Needs.{needs}
 use native.Mathlib.Omega.{arith}
 use mathlib.Core.Path.{sym, _∙_}
-use Rattle.encoding.proofs.Answers.{nodes-few}
-use Rattle.encoding.proofs.Plain.{plain-bytes}
+use Rattle.encoded.proofs.Answers.{nodes-few}
+use Rattle.encoded.proofs.Plain.{plain-bytes}
 use Rattle.capi.proofs.Replies.{encode-refused}
 use Rattle.capi.proofs.Builds.{plain-none, plain-known}
 use Rattle.capi.proofs.build.lz_materialize_unknown.Statement.{statement}

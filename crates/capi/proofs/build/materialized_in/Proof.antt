@@ -2,7 +2,7 @@
 use borrow.Author.Needs.{needs}
 use native.Mathlib.Omega.{arith}
 use mathlib.Core.Path.{sym}
-use Rattle.encoding.proofs.Opening.{opened, unopened}
+use Rattle.encoded.proofs.Opening.{opened, unopened}
 use Rattle.capi.proofs.Replies.{Fits, fits-of, args-length}
 use Rattle.capi.proofs.Builds.{build-refused, materialized-refused, form-pre, materialized-none, materialized-opened}
 use Rattle.capi.proofs.build.materialized_in.Statement.{statement}

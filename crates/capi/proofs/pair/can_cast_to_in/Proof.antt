@@ -3,7 +3,7 @@ use borrow.Author.Needs.{needs}
 use native.Mathlib.Omega.{arith}
 use mathlib.Core.Path.{refl, sym, ap, _∙_}
 use Rattle.capi.proofs.Replies.{Fits, fits-of, args-length}
-use Rattle.datatypes_cast.specs.Verdict.{castOf}
+use Rattle.dtype_cast.specs.Verdict.{castOf}
 use Rattle.capi.specs.Reply.{verdictReply}
 use Rattle.capi.proofs.Pairs.{left-opened, right-opened, scan-reply, cast-reply, pair-refused}
 use Rattle.capi.proofs.pair.can_cast_to_in.Statement.{statement}

@@ -3,8 +3,8 @@ use borrow.Author.Needs.{needs}
 use native.Mathlib.Omega.{arith}
 use mathlib.Core.Path.{refl, sym}
 use Rattle.capi.proofs.Replies.{Fits, fits-of, args-length}
-use Rattle.datatypes.specs.Recursive.{containsDtypeRecursive}
-use Rattle.datatypes.specs.Answer.{answersOf}
+use Rattle.dtype_eq.specs.Contains.{containsDtypeRecursive}
+use Rattle.dtype.specs.Answer.{answersOf}
 use Rattle.capi.specs.Reply.{answerReply}
 use Rattle.capi.proofs.Pairs.{left-opened, right-opened, contains-reply, pair-refused}
 use Rattle.capi.proofs.pair.contains_dtype_recursive_in.Statement.{statement}

@@ -2,8 +2,8 @@
 use borrow.Author.Needs.{needs}
 use native.Mathlib.Omega.{arith}
 use mathlib.Core.Path.{sym, ap, _∙_}
-use Rattle.encoding.proofs.Answers.{nodes-few}
-use Rattle.encoding.proofs.Plain.{plain-bytes}
+use Rattle.encoded.proofs.Answers.{nodes-few}
+use Rattle.encoded.proofs.Plain.{plain-bytes}
 use Rattle.capi.specs.Reply.{verdictReply}
 use Rattle.capi.proofs.Pairs.{plain-cast, few-both}
 use Rattle.capi.proofs.pair.lz_can_cast_to.Statement.{statement}

@@ -1,6 +1,6 @@
 -- `lz_contains_dtype_recursive` meets its contract. Assumes nothing.
 use borrow.Author.Needs.{needs}
-use Rattle.encoding.proofs.Answers.{nodes-few}
+use Rattle.encoded.proofs.Answers.{nodes-few}
 use Rattle.capi.proofs.Pairs.{few-both}
 use Rattle.capi.proofs.pair.lz_contains_dtype_recursive.Statement.{statement}
 use Rattle.capi.proofs.pair.lz_contains_dtype_recursive.Tie as tie

@@ -1,6 +1,6 @@
 -- `lz_equal` meets its contract: equal bytes, then any. Assumes nothing.
 use borrow.Author.Needs.{needs}
-use Rattle.encoding.proofs.Answers.{nodes-few}
+use Rattle.encoded.proofs.Answers.{nodes-few}
 use Rattle.capi.proofs.Pairs.{same-reply, few-both}
 use Rattle.capi.proofs.pair.lz_equal.Statement.{statement}
 use Rattle.capi.proofs.pair.lz_equal.Tie as tie

@@ -1,6 +1,6 @@
 -- `lz_get_shape` meets its contract. Assumes nothing.
 use borrow.Author.Needs.{needs}
-use Rattle.encoding.proofs.Answers.{nodes-few}
+use Rattle.encoded.proofs.Answers.{nodes-few}
 use Rattle.capi.proofs.part.lz_get_shape.Statement.{statement}
 use Rattle.capi.proofs.part.lz_get_shape.Tie as tie
 

@@ -2,7 +2,7 @@
 use borrow.Author.Needs.{needs}
 use native.Mathlib.Omega.{arith}
 use mathlib.Core.Path.{refl, sym}
-use Rattle.encoding.proofs.Opening.{opened, unopened}
+use Rattle.encoded.proofs.Opening.{opened, unopened}
 use Rattle.capi.proofs.Replies.{Fits, fits-of, args-length, encode-refused}
 use Rattle.capi.proofs.Parts.{part-within, part-puts, part-none, part-some}
 use Rattle.capi.proofs.part.part_in.Statement.{statement}

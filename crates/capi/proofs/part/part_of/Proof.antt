@@ -1,6 +1,6 @@
 -- `capi::part::part_of` meets its contract. Assumes nothing.
 use borrow.Author.Needs.{needs}
-use Rattle.encoding.proofs.Answers.{nodes-few}
+use Rattle.encoded.proofs.Answers.{nodes-few}
 use Rattle.capi.proofs.part.part_of.Statement.{statement}
 use Rattle.capi.proofs.part.part_of.Tie as tie
 

@@ -2,8 +2,8 @@
 use borrow.Author.Needs.{needs}
 use native.Mathlib.Omega.{arith}
 use mathlib.Core.Path.{sym, ap, _∙_}
-use Rattle.encoding.proofs.Opening.{opened, unopened}
-use Rattle.datatypes_inner.specs.Shape.{shapeOf}
+use Rattle.encoded.proofs.Opening.{opened, unopened}
+use Rattle.dtype_inner.specs.Shape.{shapeOf}
 use Rattle.capi.proofs.Replies.{Fits, fits-of, args-length}
 use Rattle.capi.proofs.Parts.{arrays-few, opened-shape}
 use Rattle.capi.proofs.part.shape_in.Statement.{statement}

@@ -4,8 +4,8 @@ use mathlib.Core.Path.{refl, sym, ap, _∙_}
 use Rattle.flat.specs.Output.{writtenOf}
 use Rattle.flat.specs.declared.Written.{Written}
 use Rattle.flat.proofs.Meaning.{checked-refused}
-use Rattle.encoding.specs.Encoding.{decoding}
-use Rattle.encoding.proofs.Answers.{encoded-form, nodes-sized}
+use Rattle.encoded.specs.Encoding.{decoding}
+use Rattle.encoded.proofs.Answers.{encoded-form, nodes-sized}
 use Rattle.capi.proofs.predicate.nodes.Statement.{statement}
 use Rattle.capi.proofs.predicate.nodes.Tie as tie
 

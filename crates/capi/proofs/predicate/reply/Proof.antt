@@ -5,10 +5,10 @@ use mathlib.Core.Path.{sym, _∙_}
 use borrow.Rule.Slice.PartAt.{part-to-end}
 use Prim.Native.Nat.{_+_, _≤_}
 use lib.ListN.{length}
-use Rattle.datatypes.specs.Predicates.{predicateOf}
-use Rattle.encoding.specs.Encoding.{decoding}
-use Rattle.encoding.proofs.Plain.{plain-bytes}
-use Rattle.encoding.proofs.Opening.{written-form}
+use Rattle.dtype.specs.Predicates.{predicateOf}
+use Rattle.encoded.specs.Encoding.{decoding}
+use Rattle.encoded.proofs.Plain.{plain-bytes}
+use Rattle.encoded.proofs.Opening.{written-form}
 use Rattle.capi.proofs.Replies.{kinds-within, plain-form, some-kind, predicate-reply, answer-unwritten}
 use Rattle.capi.proofs.predicate.reply.Statement.{statement}
 use Rattle.capi.proofs.predicate.reply.Tie as tie

@@ -1,7 +1,7 @@
 -- `lz_get_time_units` meets its contract. Assumes nothing.
 use borrow.Author.Needs.{needs}
 use mathlib.Core.Path.{ap, _∙_}
-use Rattle.datatypes.specs.TimeUnit.{unitAnswerNumber, unitAnswerValue}
+use Rattle.dtype.specs.TimeUnit.{unitAnswerNumber, unitAnswerValue}
 use Rattle.capi.proofs.time_unit.lz_get_time_units.Statement.{statement}
 use Rattle.capi.proofs.time_unit.lz_get_time_units.Tie as tie
 

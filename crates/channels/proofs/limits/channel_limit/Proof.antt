@@ -1,7 +1,7 @@
 -- `channels::limits::channel_limit` meets its contract: the number of channels lies where document 01's cases need it. Assumes nothing.
 use mathlib.Core.Path.{refl}
 use Rattle.flat.specs.Tree.{headKind}
-use Rattle.utils_numbers.specs.Range.{isListed}
+use Rattle.supertype_numbers.specs.Range.{isListed}
 use Rattle.channels.specs.Merge.{mergedWith, mergedOf}
 use Rattle.channels.proofs.limits.channel_limit.Statement.{statement}
 use Rattle.channels.proofs.limits.channel_limit.Tie as tie

@@ -1,0 +1,20 @@
+-- `dtype_cast::dtype::under` meets its contract. Assumes nothing.
+use mathlib.Core.Path.{sym, ap, subst}
+use Prim.Native.Nat.{_^_}
+use native.Mathlib.Omega.{arith}
+use borrow.Author.Needs.{needs}
+use Rattle.dtype_cast.specs.Walk.{castAfter, Within}
+use Rattle.dtype_cast.proofs.datatype.under.Statement.{statement}
+use Rattle.dtype_cast.proofs.datatype.under.Tie as tie
+
+add-t5 : tie.Need-add-t5
+add-t5 c = let h = subst (Within (2 ^ 63)) (c .before .c .given .1) (c .before .before .before .pre) in omega (arith, h .0)
+
+add-t6 : tie.Need-add-t6
+add-t6 c = let h = subst (Within (2 ^ 63)) (c .before .c .given .1) (c .before .before .before .pre) in omega (arith, h .1)
+
+returns : tie.Need-returns
+returns c = sym (ap (castAfter 1 1) (c .before .c .given .1))
+
+pub under-spec : {M : Type 1} → statement M
+under-spec = tie.close (tie.spec (λ c. search needs) add-t5 add-t6 (λ c. search needs) (λ c. search needs) returns (λ c. search needs) (λ c. search needs))

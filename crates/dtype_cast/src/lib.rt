@@ -1,0 +1,74 @@
+// Which casts make sense: `can_cast_to` of dtype.rs.
+pub mod datatype;
+pub mod field;
+mod roots;
+pub mod scan;
+
+ghost use mathlib.Core.Path.{_≡_};
+ghost use Rattle.flat.specs.Reading.{reading};
+ghost use Rattle.dtype_cast.specs.Verdict.{castOf, verdictNumber, verdictValue};
+use datatype::Cast;
+use flat::Checked;
+use flat::Flat;
+use flat::error::Error;
+
+pub enum Verdict {
+    No,
+    Yes,
+    NoVerdict,
+    Refused(Error),
+}
+
+impl Verdict {
+    pub fn number(self) -> u64
+        ensures { λ r. ⌜ r ≡ verdictNumber self ⌝ }
+    {
+        match self {
+            Verdict::No => 0,
+            Verdict::Yes => 0,
+            Verdict::NoVerdict => 0,
+            Verdict::Refused(e) => e.number(),
+        }
+    }
+
+    pub fn value(self) -> u64
+        ensures { λ r. ⌜ r ≡ verdictValue self ⌝ }
+    {
+        match self {
+            Verdict::No => 0,
+            Verdict::Yes => 1,
+            Verdict::NoVerdict => 2,
+            Verdict::Refused(_) => 0,
+        }
+    }
+}
+
+// Whether the cast makes sense; NoVerdict where the source is not sure.
+pub fn can_cast_to(
+    from_kinds: &[u8],
+    from_args: &[u64],
+    to_kinds: &[u8],
+    to_args: &[u64],
+) -> Verdict
+    ensures { λ r. do
+      nodes ← ⟦Flat::MAX_NODES⟧ .entry
+      deep ← ⟦Flat::MAX_DEPTH⟧ .entry
+      ⌜ r ≡ castOf (reading nodes deep (now («from_kinds» .entry)) (now («from_args» .entry))) (reading nodes deep (now («to_kinds» .entry)) (now («to_args» .entry))) ⌝ }
+{
+    match flat::check(from_kinds, from_args) {
+        Checked::Valid => match flat::check(to_kinds, to_args) {
+            Checked::Valid => {
+                if scan::all_yes(from_kinds, from_args, to_kinds, to_args) {
+                    return Verdict::Yes;
+                }
+                match datatype::node_cast(from_kinds, from_args, to_kinds, to_args) {
+                    Cast::Yes(_, _) => Verdict::Yes,
+                    Cast::No => Verdict::No,
+                    Cast::NoVerdict => Verdict::NoVerdict,
+                }
+            }
+            Checked::Refused(e) => Verdict::Refused(e),
+        },
+        Checked::Refused(e) => Verdict::Refused(e),
+    }
+}

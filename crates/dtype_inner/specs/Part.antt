@@ -1,0 +1,69 @@
+-- A part of a lent slice, as a result. Assumes nothing: these are definitions.
+use mathlib.Core.Path.{_≡_}
+use mathlib.Core.Bool.{cond}
+use mathlib.Core.List.{List, []}
+use mathlib.Core.Option.{Option, none, some}
+use Prim.Native.Nat.{ℕ, _+_, _-_, _*_, _≤_}
+use lib.Dec.{eqb}
+use lib.ListN.{length, drop}
+use denote.Ref.{RefT, ptr, now}
+use Rattle.flat.specs.Refusal.{numberOf}
+use Rattle.flat.specs.Tree.{DataType, size, kindsOf, argsOf}
+use Rattle.flat.specs.Reading.{Reading, refused, type}
+use Rattle.flat.specs.declared.Checked.{Checked}
+use Rattle.dtype_inner.specs.declared.Inner.{Inner}
+
+-- What a call finds in a type; there is none where the call is refused.
+abbrev pub found : (DataType → Option DataType) → Reading → Option DataType
+found inner (refused e) = none
+found inner (type t) = inner t
+
+-- which of the three it is: Some with its number of nodes, None, or the refusal
+abbrev pub some-nodes : Option DataType → Inner
+some-nodes none = Inner.Nothing
+some-nodes (some t) = Inner.Nodes (size t)
+
+abbrev pub innerOf : (DataType → Option DataType) → Reading → Inner
+innerOf inner (refused e) = Inner.Refused e
+innerOf inner (type t) = some-nodes (inner t)
+
+-- the nodes, the kinds and the arguments of what was found, and nothing where there is none
+abbrev pub nodesFound : Option DataType → ℕ
+nodesFound none = 0
+nodesFound (some t) = size t
+
+abbrev pub kindsFound : Option DataType → List ℕ
+kindsFound none = []
+kindsFound (some t) = kindsOf t
+
+abbrev pub argsFound : Option DataType → List ℕ
+argsFound none = []
+argsFound (some t) = argsOf t
+
+-- the last n elements of l are these
+pub record Last (n : ℕ) (l these : List ℕ) : Type 0 where
+  pub within : n ≤ length l
+  pub size : length these ≡ n
+  pub shows : drop (length l - n) l ≡ these
+
+-- r is the caller's own: the end of the slice whole, of elements of so many bytes, and it shows these
+pub record EndOf (bytes : ℕ) (shown : List ℕ) (whole r : RefT (List ℕ)) : Type 0 where
+  pub block : ptr r .0 ≡ ptr whole .0
+  pub place : ptr r .1 ≡ ptr whole .1 + (length (now whole) - length shown) * bytes
+  pub shows : now r ≡ shown
+
+-- the answer that a check and a number of nodes come to: no type has 0 nodes, so 0 stands for None
+abbrev pub answerOf : Checked → ℕ → Inner
+answerOf (Checked.Refused e) n = Inner.Refused e
+answerOf Checked.Valid n = cond (eqb n 0) Inner.Nothing (Inner.Nodes n)
+
+-- document 01's number of an answer, and the value beside it: the number of nodes, 0 for None
+abbrev pub innerNumber : Inner → ℕ
+innerNumber (Inner.Nodes n) = 0
+innerNumber Inner.Nothing = 0
+innerNumber (Inner.Refused e) = numberOf e
+
+abbrev pub innerValue : Inner → ℕ
+innerValue (Inner.Nodes n) = n
+innerValue Inner.Nothing = 0
+innerValue (Inner.Refused e) = 0

@@ -1,0 +1,31 @@
+-- What a call comes to that joins two encoded types: Some type, None, or a refusal. Assumes nothing: these are definitions.
+use mathlib.Core.Path.{_≡_}
+use mathlib.Core.List.{List}
+use mathlib.Core.Option.{Option, none, some}
+use Prim.Native.Nat.{ℕ}
+use Rattle.flat.specs.Tree.{size}
+use Rattle.flat.specs.Reading.{Reading, refused, type}
+use Rattle.flat.specs.Reader.{mapO}
+use Rattle.encoded.specs.Encoding.{encodedSize}
+use Rattle.encoded.specs.Answer.{fittingBytes, bytesOver}
+use Rattle.supertype_answer.specs.declared.Joined.{Joined}
+
+-- 8 last of all, and only where there is a type to write to m bytes
+abbrev pub fittingFoundBytes : ℕ → ℕ → Option Reading → Option Reading
+fittingFoundBytes w m = mapO (fittingBytes w m)
+
+-- the answer: the number of bytes
+abbrev pub joinedBytes : ℕ → Option Reading → Joined
+joinedBytes w none = Joined.Nothing
+joinedBytes w (some (refused e)) = Joined.Refused e
+joinedBytes w (some (type t)) = Joined.Written (encodedSize w (size t))
+
+-- the lent bytes after the call: None writes nothing
+abbrev pub bytesFound : ℕ → Option Reading → List ℕ → List ℕ
+bytesFound w none out = out
+bytesFound w (some r) out = bytesOver w r out
+
+-- What such a call comes to: its answer, and the lent bytes, out before the call and out′ after it.
+pub record JoinsBytes (w : ℕ) (found : Option Reading) (out out′ : List ℕ) (answer : Joined) : Type 0 where
+  pub answers : answer ≡ joinedBytes w found
+  pub bytes : out′ ≡ bytesFound w found out

@@ -1,0 +1,32 @@
+-- Small truths that the proofs of every crate cite. Assumes nothing.
+use mathlib.Core.Path.{_≡_, refl}
+use mathlib.Core.Bool.{Bool, true, false, _&&_}
+use mathlib.Core.List.{List, [], _∷_}
+use Prim.Native.Nat.{ℕ, _<_}
+use native.Mathlib.Omega.{arith}
+use lib.Dec.{T}
+use lib.ListN.{length, set}
+use Rattle.flat.specs.Output.{over}
+
+-- From an equation of two different constructors: `impossible cc`.
+pub impossible : {A : Type 0} → _≡_ {A = ℕ} 0 1 → A
+impossible z = absurd (omega (arith, z))
+
+pub never : {A : Type 0} → false ≡ true → A
+never e = impossible cc
+
+pub is-true : (b : Bool) → T b → b ≡ true
+is-true true t = refl
+is-true false t = absurd t
+
+pub to-T : {b : Bool} → b ≡ true → T b
+to-T e = rw e tt
+
+pub both-true : (a b : Bool) → (a && b) ≡ true → (a ≡ true) × (b ≡ true)
+both-true true b e = (refl, e)
+both-true false b e = never e
+
+-- one element stored at the front
+pub over-one : (out : List ℕ) → 0 < length out → (y : ℕ) → set out 0 y ≡ over (y ∷ []) out
+over-one [] h y = absurd (omega arith)
+over-one (x ∷ out) h y = refl

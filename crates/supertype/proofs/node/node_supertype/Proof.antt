@@ -1,0 +1,52 @@
+-- `supertype::node::node_supertype` meets its contract. Assumes nothing.
+use mathlib.Core.Path.{sym, ap, _∙_}
+use native.Mathlib.Omega.{arith}
+use borrow.Author.Needs.{needs}
+use Rattle.supertype_answer.specs.Join.{node, commonOf}
+use Rattle.supertype_arms.proofs.Answers.{in-range}
+use Rattle.supertype.proofs.Numbers.{level-any, level}
+use Rattle.supertype.proofs.Orders.{ready, ready-turned, equal, in-order, out-of-order, any-string, dyn-str}
+use Rattle.supertype.proofs.node.node_supertype.Statement.{statement}
+use Rattle.supertype.proofs.node.node_supertype.Tie as tie
+
+returns : tie.Need-returns
+returns c = ap commonOf (equal _ _ (node _ _) (node _ _) (sym (c .before .equal-node .ensures) ∙ c .if1 .taken))
+
+ordered-requires : tie.Need-ordered-requires
+ordered-requires c κs = ready (node _ _) (node _ _) (c .before .before .before .pre) (sym (c .before .before .equal-node .ensures) ∙ c .before .if1 .left) (omega arith)
+
+returns-2 : tie.Need-returns-2
+returns-2 c = c .ordered .ensures ∙ ap commonOf (in-order _ _ (node _ _) (node _ _) (c .before .before .before .before .pre) (sym (c .before .before .before .equal-node .ensures) ∙ c .before .before .if1 .left) (omega arith))
+
+returns-3 : tie.Need-returns-3
+returns-3 c = ap commonOf (dyn-str _ _ (node _ _) (node _ _) (c .before .before .before .before .pre) (sym (c .before .before .before .equal-node .ensures) ∙ c .before .before .if1 .left) (omega arith) (in-range (node _ _) (c .before .before .before .before .pre .0)) (omega arith))
+
+returns-4 : tie.Need-returns-4
+returns-4 c = ap commonOf (any-string _ _ (node _ _) (node _ _) (c .before .before .before .before .before .before .pre) (sym (c .before .before .before .before .before .equal-node .ensures) ∙ c .before .before .before .before .if1 .left) (omega arith) (omega arith))
+
+ordered-requires-2 : tie.Need-ordered-requires-2
+ordered-requires-2 c κs = ready-turned (node _ _) (node _ _) (c .before .before .before .before .before .before .pre) (sym (c .before .before .before .before .before .equal-node .ensures) ∙ c .before .before .before .before .if1 .left) (omega arith)
+
+returns-5 : tie.Need-returns-5
+returns-5 c = c .ordered2 .ensures ∙ ap commonOf (out-of-order _ _ (node _ _) (node _ _) (c .before .before .before .before .before .before .before .pre) (sym (c .before .before .before .before .before .before .equal-node .ensures) ∙ c .before .before .before .before .before .if1 .left) (omega arith) (level-any _ _ (omega arith) (omega arith)))
+
+ordered-requires-3 : tie.Need-ordered-requires-3
+ordered-requires-3 c κs = ready-turned (node _ _) (node _ _) (c .before .before .before .before .before .pre) (sym (c .before .before .before .before .equal-node .ensures) ∙ c .before .before .before .if1 .left) (omega arith)
+
+returns-6 : tie.Need-returns-6
+returns-6 c = c .ordered3 .ensures ∙ ap commonOf (out-of-order _ _ (node _ _) (node _ _) (c .before .before .before .before .before .before .pre) (sym (c .before .before .before .before .before .equal-node .ensures) ∙ c .before .before .before .before .if1 .left) (omega arith) (level _ _ (omega arith) (omega arith)))
+
+pub node-supertype-spec : {M : Type 1} → statement M
+node-supertype-spec =
+    tie.close
+    (tie.spec
+    (λ c κs. search needs)
+    returns
+    ordered-requires
+    returns-2
+    returns-3
+    returns-4
+    ordered-requires-2
+    returns-5
+    ordered-requires-3
+    returns-6)

@@ -1,0 +1,36 @@
+-- `get_supertype_with_options` of two valid types: refusals 6 and 13, then the rule. Assumes nothing: these are definitions.
+use mathlib.Core.Bool.{Bool, cond, _&&_, _||_}
+use mathlib.Core.Option.{Option, some}
+use Prim.Native.Nat.{ℕ}
+use lib.Dec.{eqb}
+use Rattle.flat.specs.Kind
+use Rattle.flat.specs.Tree.{DataType}
+use Rattle.flat.specs.Reading.{Reading, refused}
+use Rattle.flat.specs.declared.error.Error.the-variants.{Nested, DecimalWithInteger}
+use Rattle.flat.specs.declared.Checked.{Checked}
+use Rattle.flat.specs.declared.Checked.the-variants.{Valid, Refused}
+use Rattle.dtype.specs.Predicate.{isNested}
+use Rattle.supertype_answer.specs.Join.{Node, rootNode, foundOf}
+use Rattle.supertype_numbers.specs.Range.{isListed}
+use Rattle.supertype_arms.specs.Supertype.{supertype}
+
+-- a Decimal with an integer, on either side
+unfoldable pub decimalWithInteger : ℕ → ℕ → Bool
+decimalWithInteger k l = (eqb k Kind.Decimal && isListed l) || (isListed k && eqb l Kind.Decimal)
+
+-- 6: a nested type; then 13: a Decimal with an integer
+unfoldable pub pairChecked : ℕ → ℕ → Checked
+pairChecked k l = cond (isNested k || isNested l) (Refused Nested) (cond (decimalWithInteger k l) (Refused DecimalWithInteger) Valid)
+
+-- what was found where a check passes, else its refusal
+abbrev pub afterCheck : Checked → Option Reading → Option Reading
+afterCheck (Refused e) found = some (refused e)
+afterCheck Valid found = found
+
+-- of two roots
+unfoldable pub rootSupertype : Bool → Bool → Node → Node → Option Reading
+rootSupertype implode toString l r = afterCheck (pairChecked (l .kind) (r .kind)) (foundOf (supertype implode toString l r))
+
+-- of two types
+unfoldable pub supertypeOf : Bool → Bool → DataType → DataType → Option Reading
+supertypeOf implode toString l r = rootSupertype implode toString (rootNode l) (rootNode r)

@@ -1,0 +1,2 @@
+-- What a call comes to that joins two types.
+pub mod Join

@@ -1,6 +1,0 @@
--- The laws behind the ranges and the formats. Those that other crates' proofs cite are `pub`.
-pub mod Tests
-pub mod Ranges
-pub mod Formats
-mod Rows
-mod DynInts
