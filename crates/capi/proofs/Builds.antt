@@ -21,7 +21,7 @@ use Rattle.encoded.proofs.Plain.{PlainBytes}
 use Rattle.encoded.proofs.Opening.{Opened}
 use Rattle.dtype.specs.Physical.{toPhysical, physicalLeaf}
 use Rattle.dtype_build.specs.Build.{orUnknown, materialized, physical}
-use Rattle.dtype_build.specs.Leaf.{materializedLeaf, leafOf, mapLeaves, hasAny, Room, BuiltType}
+use Rattle.dtype_build.specs.Leaf.{materializedLeaf, leafOf, mapLeaves, hasAny, HasRoom, BuiltType}
 use Rattle.dtype_build.specs.declared.leaf.Form.{Form}
 use Rattle.dtype_build.proofs.Leaves.{zero-is}
 use Rattle.dtype_build.proofs.Forms.{noneIf, known-is, size-map}
@@ -76,7 +76,7 @@ module _ {w nodes deep n : ℕ} {s xs : List ℕ} (o : Opened w nodes deep n s x
 
   -- so it can be built anew
   pub form-pre : {ys K A : List ℕ} → RoomFor (nodesIn w nodes s) ys K A
-      → Valid (take (2 + n - 2) (drop 2 s)) (take n xs) × (size (typeAt (take (2 + n - 2) (drop 2 s)) (take n xs)) ≤ nodes) × Room (size (typeAt (take (2 + n - 2) (drop 2 s)) (take n xs))) K A
+      → Valid (take (2 + n - 2) (drop 2 s)) (take n xs) × (size (typeAt (take (2 + n - 2) (drop 2 s)) (take n xs)) ≤ nodes) × HasRoom (size (typeAt (take (2 + n - 2) (drop 2 s)) (take n xs))) K A
   form-pre r =
       let m = nodes-sized (o .sized) in
       (o .parts .valid, rw type-size (o .sized .few), record { kinds = rw (type-size, ← m) (r .new-kinds); args = rw (type-size, ← m) (r .new-args) })

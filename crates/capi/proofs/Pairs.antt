@@ -24,7 +24,7 @@ use Rattle.dtype_cast.specs.Cast.{canCastTo}
 use Rattle.dtype.specs.Equality.{equal}
 use Rattle.dtype_eq.specs.Contains.{containsDtypeRecursive}
 use Rattle.dtype.specs.Answer.{yesNo, answersOf}
-use Rattle.dtype_eq.specs.Nodes.{same, startsWith, occurs}
+use Rattle.dtype_eq.specs.Nodes.{sameList, startsWith, occurs}
 use Rattle.dtype_eq.proofs.Scans.{same-lists, starts-self, starts-equal, occurs-contains}
 use Rattle.dtype_cast.specs.Scan.{nodeYes, allYes}
 use Rattle.dtype_cast.specs.Walk.{answer, castAnswer}
@@ -112,8 +112,8 @@ module _ {w nodes deep : ℕ} {s t xs ys xs′ ys′ : List ℕ} {a : Pair} (o :
       go (type t) (refused d) p = let z : e ≡ d = cc in rw z (r t d)
       go (type t) (type u) p = absurd (let z : _≡_ {A = ℕ} 0 1 = cc in omega arith)
 
--- ---- one check tells of two runs of bytes that are the same
-pub same-reply : (w nodes deep : ℕ) (s t : List ℕ) {b : Bool} {c : Checked} {reply : Reply} → b ≡ same s t → b ≡ true → c ≡ checkedOf (decoding w nodes deep s) → reply ≡ checkedEqual c
+-- ---- one check tells of two runs of bytes that are the sameList
+pub same-reply : (w nodes deep : ℕ) (s t : List ℕ) {b : Bool} {c : Checked} {reply : Reply} → b ≡ sameList s t → b ≡ true → c ≡ checkedOf (decoding w nodes deep s) → reply ≡ checkedEqual c
     → reply ≡ answerReply (answersOf equal (decoding w nodes deep s) (decoding w nodes deep t))
 same-reply w nodes deep s t e f k h = rw (← same-lists s t (sym e ∙ f)) (h ∙ ap checkedEqual k ∙ itself (decoding w nodes deep s) refl)
   where

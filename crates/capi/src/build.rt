@@ -9,7 +9,7 @@ ghost use Rattle.flat.specs.Walk.{Valid, typeAt};
 ghost use Rattle.encoded.specs.Encoding.{decoding};
 ghost use Rattle.encoded.specs.Answer.{nodesIn, fittingBytes};
 ghost use Rattle.dtype_build.specs.Build.{materialized, physical};
-ghost use Rattle.dtype_build.specs.Leaf.{leafOf, mapLeaves, Room};
+ghost use Rattle.dtype_build.specs.Leaf.{leafOf, mapLeaves, HasRoom};
 ghost use Rattle.capi.specs.Reply.{EncodeReply};
 ghost use Rattle.capi.specs.Lent.{RoomFor, BuildReply, FormReply};
 use crate::Reply;
@@ -35,7 +35,7 @@ fn put_form(
 ) -> Reply
     requires { do
       nodes ← ⟦Flat::MAX_NODES⟧
-      ⌜ Valid (now kinds) (now args) × (size (typeAt (now kinds) (now args)) ≤ nodes) × Room (size (typeAt (now kinds) (now args))) (now «new_kinds») (now «new_args») ⌝ }
+      ⌜ Valid (now kinds) (now args) × (size (typeAt (now kinds) (now args)) ≤ nodes) × HasRoom (size (typeAt (now kinds) (now args))) (now «new_kinds») (now «new_args») ⌝ }
     ensures { λ r. do
       w ← ⟦Encoding::ARGUMENT_BYTES⟧ .entry
       ⌜ FormReply w (type (mapLeaves (leafOf form) (typeAt (now (kinds .entry)) (now (args .entry))))) (now («new_kinds» .entry)) (now («new_args» .entry)) (now (out .entry)) (now («new_kinds» .exit)) (now («new_args» .exit)) (now (out .exit)) r ⌝ }

@@ -111,13 +111,7 @@ pub extern "C" fn lz_flat_materialize_unknown(
       deep ← ⟦Flat::MAX_DEPTH⟧ .entry
       ⌜ DecodeReply (fitting (length (now («out_kinds» .entry))) (length (now («out_args» .entry))) (materialized (not (eqb «allow_unknown» 0)) (reading nodes deep (now (kinds .entry)) (now (args .entry))))) (now («out_kinds» .entry)) (now («out_args» .entry)) (now («out_kinds» .exit)) (now («out_args» .exit)) r ⌝ }
 {
-    written(dtype_build::materialize_unknown(
-        kinds,
-        args,
-        allow_unknown != 0,
-        out_kinds,
-        out_args,
-    ))
+    written(dtype_build::materialize_unknown(kinds, args, allow_unknown != 0, out_kinds, out_args))
 }
 
 // Its physical form, likewise.

@@ -17,7 +17,8 @@ use Rattle.channels.specs.declared.ChannelTypes.{ChannelTypes}
 use Rattle.channels.specs.declared.Merged.{Merged}
 use Rattle.channels.specs.declared.Merged.the-variants.{Held, Refused}
 use Rattle.channels.specs.declared.Outcome.{Outcome}
-use Rattle.channels.specs.Merge.{upcastHeld, mergedWith, mergedOf, rootColumn, outcomeWith, outcomeOf}
+use Rattle.flat.specs.Both.{rootReading}
+use Rattle.channels.specs.Merge.{upcastHeld, mergedWith, mergedOf, outcomeWith, outcomeOf}
 
 -- a channel that holds h is offered the kind k
 module _ (h k : ℕ) where
@@ -54,24 +55,24 @@ module _ (n : ℕ) (s : ChannelTypes) (ch : ℕ) where
 
   -- of a column told by its root
   module _ {column : Root} where
-    pub refused-column : {e : Error} → column ≡ Root.Refused e → outcomeWith s ch (Refused e) ≡ outcomeOf n s ch (rootColumn column)
+    pub refused-column : {e : Error} → column ≡ Root.Refused e → outcomeWith s ch (Refused e) ≡ outcomeOf n s ch (rootReading column)
     unfolding mergedOf
-    refused-column c = told (rootColumn column) (rw c)
+    refused-column c = told (rootReading column) (rw c)
 
     module _ {k a : ℕ} (c : column ≡ Root.Node k a) where
-      pub no-channel : n ≤ ch → outcomeWith s ch (Refused Channel) ≡ outcomeOf n s ch (rootColumn column)
+      pub no-channel : n ≤ ch → outcomeWith s ch (Refused Channel) ≡ outcomeOf n s ch (rootReading column)
       unfolding mergedOf headKind
-      no-channel h = told (rootColumn column) (rw (c, le-ltb ch n h))
+      no-channel h = told (rootReading column) (rw (c, le-ltb ch n h))
 
-      pub on-channel : {m : Merged} → ch < n → m ≡ mergedWith (getD (s .codes) ch 0) k → outcomeWith s ch m ≡ outcomeOf n s ch (rootColumn column)
+      pub on-channel : {m : Merged} → ch < n → m ≡ mergedWith (getD (s .codes) ch 0) k → outcomeWith s ch m ≡ outcomeOf n s ch (rootReading column)
       unfolding mergedOf headKind
-      on-channel h e = told (rootColumn column) (rw (c, lt-ltb ch n h) e)
+      on-channel h e = told (rootReading column) (rw (c, lt-ltb ch n h) e)
 
   -- a merge looks at the root of a column's type alone
-  of-root : (r : Reading) → outcomeOf n s ch (rootColumn (rootOf r)) ≡ outcomeOf n s ch r
+  of-root : (r : Reading) → outcomeOf n s ch (rootReading (rootOf r)) ≡ outcomeOf n s ch r
   unfolding outcomeOf mergedOf headKind
   of-root (refused e) = refl
   of-root (type t) = refl
 
-  pub by-root : (r : Reading) {column : Root} {o : Outcome} → column ≡ rootOf r → o ≡ outcomeOf n s ch (rootColumn column) → o ≡ outcomeOf n s ch r
-  by-root r e m = m ∙ ap (λ (c : Root). outcomeOf n s ch (rootColumn c)) e ∙ of-root r
+  pub by-root : (r : Reading) {column : Root} {o : Outcome} → column ≡ rootOf r → o ≡ outcomeOf n s ch (rootReading column) → o ≡ outcomeOf n s ch r
+  by-root r e m = m ∙ ap (λ (c : Root). outcomeOf n s ch (rootReading c)) e ∙ of-root r

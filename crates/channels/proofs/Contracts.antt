@@ -17,7 +17,8 @@ use Rattle.flat.specs.declared.Root.{Root}
 use Rattle.channels.specs.declared.ChannelTypes.{ChannelTypes}
 use Rattle.channels.specs.declared.Merged.{Merged}
 use Rattle.channels.specs.declared.Outcome.{Outcome}
-use Rattle.channels.specs.Merge.{rootColumn, outcomeOf}
+use Rattle.flat.specs.Both.{rootReading}
+use Rattle.channels.specs.Merge.{outcomeOf}
 use Rattle.channels.specs.Model.{flatMerge}
 use Rattle.channels.proofs.ChannelTypes.merge as merge
 use Rattle.channels.proofs.merge_in_place as lent
@@ -44,5 +45,5 @@ module _ {M : Type 1} (𝓤 : URA M) (H : Heap 𝓤) (A : Atoms 𝓤) (mem : Mem
   -- and so of lent codes and a column told by its root
   pub by-codes : (cs cs′ : RefT (List ℕ)) (column : Root) (a : Merged) → codes.clauses 𝓤 H A mem run (κ, tt) (cs, (ch, (column, tt))) .ensures tt a (cs′, (ch, (column, tt))) ≡
       asked 𝓤 H A run (codes.⟦ChannelTypes·CHANNELS⟧-code (κ, tt)) tt (λ channels.
-      fact 𝓤 (record { types = record { codes = now cs′ }; answer = a } ≡ outcomeOf channels (record { codes = now cs }) ch (rootColumn column)))
+      fact 𝓤 (record { types = record { codes = now cs′ }; answer = a } ≡ outcomeOf channels (record { codes = now cs }) ch (rootReading column)))
   by-codes cs cs′ column a = refl

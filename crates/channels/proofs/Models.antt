@@ -20,8 +20,8 @@ use Rattle.supertype_numbers.proofs.Ranges.{least-one}
 use Rattle.channels.specs.declared.ChannelTypes.{ChannelTypes}
 use Rattle.channels.specs.declared.Merged.{Merged}
 use Rattle.channels.specs.declared.Merged.the-variants.{Held, Refused}
-use Rattle.channels.specs.Merge.{unless, mergedWith, mergedOf, codesAfter, started, outcomeOf}
-use Rattle.channels.specs.Model.{Merge, Model, blank, joining, numbered, StandsWhere, Stands, Enters, not-a-type, no-channel, not-integer, accepted, no-room, Feeds}
+use Rattle.channels.specs.Merge.{mergeUnless, mergedWith, mergedOf, codesAfter, started, outcomeOf}
+use Rattle.channels.specs.Model.{Merge, Model, blank, pageWith, numbered, StandsWhere, Stands, Enters, not-a-type, no-channel, not-integer, accepted, no-room, Feeds}
 use Rattle.channels.specs.Rule
 use Rattle.channels.specs.Rule.{Run, kindIn, AllListed}
 use Rattle.channels.proofs.Pages.{Answered, answered, stands-joined}
@@ -39,17 +39,17 @@ Step channels b channel column a codes = (b′ : Model) × Enters channels b cha
 
 module _ {channels : ℕ} {b : Model} {codes : List ℕ} (g : Follow channels b codes) (channel : ℕ) where
   -- an accepted type joins its channel's page, and the other channels stand where they stood
-  joined : (k c : ℕ) → channel < channels → Listed k → Least c (k ∷ b channel) → Follow channels (joining b channel k) (set codes channel c)
+  joined : (k c : ℕ) → channel < channels → Listed k → Least c (k ∷ b channel) → Follow channels (pageWith b channel k) (set codes channel c)
   joined k c l w m = record { size = length-set codes channel c ∙ g .size; stands = λ i h. go i h (ℕ-discrete channel i) }
     where
-      go : (i : ℕ) → i < channels → Dec (channel ≡ i) → Stands (joining b channel k i) (getD (set codes channel c) i 0)
+      go : (i : ℕ) → i < channels → Dec (channel ≡ i) → Stands (pageWith b channel k i) (getD (set codes channel c) i 0)
       go i h (yes e) = rw (eq-eqb channel i e, ← e, getD-set-same codes channel c 0 (rw (g .size) l)) (stands-joined k c (b channel) w m)
       go i h (no n) = rw (ne-eqb channel i n, getD-set-other codes channel i c 0 (λ e. n (sym e))) (g .stands i h)
 
   -- what the page calls for is what the model does
   on-page : (t : DataType) {a : Merged} → channel < channels → Answered (b channel) (headKind t) a → Step channels b channel (type t) a (codesAfter codes channel a)
   on-page t l (Answered.not-integer n) = (b, not-integer l n, g)
-  on-page t l (Answered.accepted {c = c} i m) = (joining b channel (headKind t), accepted l i (c, m .is-listed, m .covers) (stands-joined (headKind t) c (b channel) i m), joined (headKind t) c l i m)
+  on-page t l (Answered.accepted {c = c} i m) = (pageWith b channel (headKind t), accepted l i (c, m .is-listed, m .covers) (stands-joined (headKind t) c (b channel) i m), joined (headKind t) c l i m)
   on-page t l (Answered.no-room i n) = (b, no-room l i n, g)
 
   step : (column : Reading) → Step channels b channel column (mergedOf channels codes channel column) (codesAfter codes channel (mergedOf channels codes channel column))
@@ -57,7 +57,7 @@ module _ {channels : ℕ} {b : Model} {codes : List ℕ} (g : Follow channels b 
   step (refused e) = (b, not-a-type, g)
   step (type t) = go (ltb channel channels) refl
     where
-      go : (x : Bool) → ltb channel channels ≡ x → (let a = unless x Channel (mergedWith (getD codes channel 0) (headKind t)) in Step channels b channel (type t) a (codesAfter codes channel a))
+      go : (x : Bool) → ltb channel channels ≡ x → (let a = mergeUnless x Channel (mergedWith (getD codes channel 0) (headKind t)) in Step channels b channel (type t) a (codesAfter codes channel a))
       go false e = (b, no-channel (ltb-false channel channels e), g)
       go true e = let l = ltb-true channel channels e in on-page t l (answered (b channel) (getD codes channel 0) (headKind t) (g .stands channel l))
 
@@ -93,7 +93,7 @@ one-answer (no-room l i n) (no-room l′ i′ n′) = refl
 
 -- and it settles the model afterwards
 abbrev modelAfter : Model → ℕ → Reading → Merged → Model
-modelAfter b channel column (Held c) = joining b channel (kindIn column)
+modelAfter b channel column (Held c) = pageWith b channel (kindIn column)
 modelAfter b channel column (Refused e) = b
 
 enters-after : {channels : ℕ} {b b′ : Model} {channel : ℕ} {column : Reading} {a : Merged} → Enters channels b channel column a b′ → b′ ≡ modelAfter b channel column a

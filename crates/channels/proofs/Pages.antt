@@ -1,6 +1,6 @@
 -- A merge into one channel: where the channel stands by its page, its answer is the one that the page calls for. Assumes nothing.
 use mathlib.Core.Path.{_≡_, refl, sym, subst}
-use mathlib.Core.Bool.{Bool, true, false, _||_}
+use mathlib.Core.Bool.{Bool, true, false, cond, _||_}
 use mathlib.Core.List.{List, [], _∷_}
 use Prim.Native.Nat.{ℕ}
 use native.Mathlib.Omega.{arith}
@@ -16,7 +16,7 @@ use Rattle.supertype_lossless.specs.declared.upcast.Upcast.the-variants.{To, No
 use Rattle.supertype_lossless.proofs.Laws.{lossless-laws}
 use Rattle.channels.specs.declared.Merged.{Merged}
 use Rattle.channels.specs.declared.Merged.the-variants.{Held, Refused}
-use Rattle.channels.specs.Merge.{choose, unless, upcastHeld, mergedWith}
+use Rattle.channels.specs.Merge.{mergeUnless, upcastHeld, mergedWith}
 use Rattle.channels.specs.Model.{numbered, StandsWhere, Stands}
 
 -- the answer that a page calls for when a type of the kind k is offered
@@ -56,7 +56,7 @@ on-empty : (page : List ℕ) → numbered page ≡ false → (k : ℕ) → Answe
 unfolding mergedWith
 on-empty page n k = go (isListed k) refl
   where
-    go : (a : Bool) → isListed k ≡ a → Answered page k (unless a NotInteger (Held k))
+    go : (a : Bool) → isListed k ≡ a → Answered page k (mergeUnless a NotInteger (Held k))
     go true e = accepted (listed e) (least-itself page n (listed e))
     go false e = not-integer (not-listed e)
 
@@ -87,7 +87,7 @@ module _ {page : List ℕ} {held : ℕ} (m : Least held page) (k : ℕ) where
   unfolding mergedWith
   on-held = rw (ne-eqb held 0 (omega arith), is-listed-true held (m .is-listed)) (go (isListed k) (eqb held k) (upcastOf held k) refl refl refl)
     where
-      go : (a b : Bool) (u : Upcast) → isListed k ≡ a → eqb held k ≡ b → upcastOf held k ≡ u → Answered page k (unless a NotInteger (choose b (Held held) (upcastHeld u)))
+      go : (a b : Bool) (u : Upcast) → isListed k ≡ a → eqb held k ≡ b → upcastOf held k ≡ u → Answered page k (mergeUnless a NotInteger (cond b (Held held) (upcastHeld u)))
       go false b u e f g = not-integer (not-listed e)
       go true true u e f g = accepted (listed e) (held-again (eqb-true held k f))
       go true false (To c) e f g = accepted (listed e) (least-joined (lossless-laws .least held k (m .is-listed) (listed e) (eqb-false held k f) c .0 g))

@@ -20,7 +20,7 @@ use Rattle.channels.specs.declared.ChannelTypes.{ChannelTypes}
 use Rattle.channels.specs.declared.Merged.{Merged}
 use Rattle.channels.specs.declared.Merged.the-variants.{Held, Refused}
 use Rattle.channels.specs.declared.Outcome.{Outcome}
-use Rattle.channels.specs.Merge.{unless, mergedWith, mergedOf, codesAfter, started, outcomeOf}
+use Rattle.channels.specs.Merge.{mergeUnless, mergedWith, mergedOf, codesAfter, started, outcomeOf}
 use Rattle.channels.specs.Model.{Merge, Model, numbered, StandsWhere, Stands, Feeds}
 use Rattle.channels.proofs.Pages.{covers-none, least-on}
 use Rattle.channels.specs.Rule.{Run, codeAt, Tells, accepted, AllListed, only, answersTo, ChannelRule}
@@ -49,7 +49,7 @@ module _ (channels : ℕ) where
   after-own codes channel (refused e) n = refl
   after-own codes channel (type t) n = go (ltb channel channels) refl (mergedWith (getD codes channel 0) (headKind t))
     where
-      go : (x : Bool) → ltb channel channels ≡ x → (a : Merged) → getD (codesAfter codes channel (unless x Channel a)) channel 0 ≡ codeAfter (getD codes channel 0) (unless x Channel a)
+      go : (x : Bool) → ltb channel channels ≡ x → (a : Merged) → getD (codesAfter codes channel (mergeUnless x Channel a)) channel 0 ≡ codeAfter (getD codes channel 0) (mergeUnless x Channel a)
       go false e a = refl
       go true e (Held c) = getD-set-same codes channel c 0 (rw n (ltb-true channel channels e))
       go true e (Refused x) = refl

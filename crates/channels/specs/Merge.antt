@@ -1,5 +1,5 @@
 -- What a merge comes to: its answer, and the types as it leaves them. Assumes nothing: these are definitions.
-use mathlib.Core.Bool.{Bool, true, false, _||_}
+use mathlib.Core.Bool.{Bool, cond, _||_}
 use mathlib.Core.List.{List}
 use Prim.Native.Nat.{ℕ}
 use lib.Dec.{ltb, eqb}
@@ -32,14 +32,9 @@ mergedValue (Refused e) = 0
 abbrev pub started : ℕ → ChannelTypes
 started channels = record { codes = replicate channels 0 }
 
--- a where the test holds, else b
-abbrev pub choose : Bool → Merged → Merged → Merged
-choose true a b = a
-choose false a b = b
-
 -- a where the test holds, else refused by e
-abbrev pub unless : Bool → Error → Merged → Merged
-unless test e a = choose test a (Refused e)
+abbrev pub mergeUnless : Bool → Error → Merged → Merged
+mergeUnless test e a = cond test a (Refused e)
 
 -- 12: the upcast is None
 abbrev pub upcastHeld : Upcast → Merged
@@ -50,15 +45,15 @@ upcastHeld Nothing = Refused NoUpcast
 -- the type is kept; an equal type keeps the held one; otherwise the lossless upcast of held and offered is kept.
 unfoldable pub mergedWith : ℕ → ℕ → Merged
 mergedWith held k =
-    unless (eqb held 0 || isListed held) ChannelCode (unless (isListed k) NotInteger
-    (choose (eqb held 0) (Held k)
-    (choose (eqb held k) (Held held)
+    mergeUnless (eqb held 0 || isListed held) ChannelCode (mergeUnless (isListed k) NotInteger
+    (cond (eqb held 0) (Held k)
+    (cond (eqb held k) (Held held)
     (upcastHeld (upcastOf held k)))))
 
 -- The offered type goes through 1 to 5 first. 9: there is no such channel.
 unfoldable pub mergedOf : (channels : ℕ) → List ℕ → ℕ → Reading → Merged
 mergedOf channels codes channel (refused e) = Refused e
-mergedOf channels codes channel (type t) = unless (ltb channel channels) Channel (mergedWith (getD codes channel 0) (headKind t))
+mergedOf channels codes channel (type t) = mergeUnless (ltb channel channels) Channel (mergedWith (getD codes channel 0) (headKind t))
 
 -- an accepted type's channel holds the code of the answer; a refused call leaves all codes
 abbrev pub codesAfter : List ℕ → ℕ → Merged → List ℕ
@@ -72,8 +67,3 @@ outcomeWith types channel a = record { types = record { codes = codesAfter (type
 -- What a merge comes to: a column is merged into a channel of these types.
 unfoldable pub outcomeOf : (channels : ℕ) → ChannelTypes → ℕ → Reading → Outcome
 outcomeOf channels types channel column = outcomeWith types channel (mergedOf channels (types .codes) channel column)
-
--- a column told by the root of its type, on which alone a merge rests
-abbrev pub rootColumn : Root → Reading
-rootColumn (Root.Refused e) = refused e
-rootColumn (Root.Node k a) = type (leaf k a)

@@ -32,8 +32,8 @@ abbrev pub blank : Model
 blank i = []
 
 -- the type k joins the channel's page
-abbrev pub joining : Model → ℕ → ℕ → Model
-joining b channel k i = cond (eqb channel i) (k ∷ b i) (b i)
+abbrev pub pageWith : Model → ℕ → ℕ → Model
+pageWith b channel k i = cond (eqb channel i) (k ∷ b i) (b i)
 
 -- some type on the page has a number in its range: a listed type has, no other could hold any
 abbrev pub numbered : List ℕ → Bool
@@ -59,7 +59,7 @@ pub data Enters (channels : ℕ) (b : Model) (channel : ℕ) : Reading → Merge
   -- "Any other is accepted exactly when some listed type's range includes its range and those on its channel's page; its type then joins that page";
   -- "an accepted offer answers where its channel then stands"
   accepted : {t : DataType} {c : ℕ} → channel < channels → Listed (headKind t) → Room (headKind t ∷ b channel) → Stands (headKind t ∷ b channel) c
-      → Enters channels b channel (type t) (Held c) (joining b channel (headKind t))
+      → Enters channels b channel (type t) (Held c) (pageWith b channel (headKind t))
   -- "Otherwise it answers 12 and no page changes"
   no-room : {t : DataType} → channel < channels → Listed (headKind t) → ¬ Room (headKind t ∷ b channel) → Enters channels b channel (type t) (Refused NoUpcast) b
 

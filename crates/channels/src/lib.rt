@@ -6,7 +6,8 @@ ghost use mathlib.Core.Bool.{_||_};
 ghost use lib.Dec.{eqb};
 ghost use Rattle.flat.specs.Reading.{reading};
 ghost use Rattle.supertype_numbers.specs.Range.{isListed};
-ghost use Rattle.channels.specs.Merge.{mergedWith, mergedNumber, mergedValue, started, rootColumn, outcomeOf};
+ghost use Rattle.flat.specs.Both.{rootReading};
+ghost use Rattle.channels.specs.Merge.{mergedWith, mergedNumber, mergedValue, started, outcomeOf};
 use flat::Flat;
 use flat::Root;
 use flat::error::Error;
@@ -90,7 +91,7 @@ fn merge_kind(held: u8, kind: u8) -> Merged
 pub fn merge_codes(codes: &mut [u8; ChannelTypes::CHANNELS], channel: usize, column: Root) -> Merged
     ensures { λ a. do
       channels ← ⟦ChannelTypes::CHANNELS⟧ .entry
-      ⌜ record { types = record { codes = now (codes .exit) }; answer = a } ≡ outcomeOf channels (record { codes = now (codes .entry) }) channel (rootColumn column) ⌝ }
+      ⌜ record { types = record { codes = now (codes .exit) }; answer = a } ≡ outcomeOf channels (record { codes = now (codes .entry) }) channel (rootReading column) ⌝ }
 {
     match column {
         Root::Refused(e) => Merged::Refused(e),

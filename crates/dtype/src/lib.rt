@@ -16,10 +16,10 @@ ghost use Rattle.dtype.specs.Predicates.{predicateOf};
 ghost use Rattle.dtype.specs.Answer.{answerOf};
 use answer::Answer;
 use answer::yes_no;
-use predicate::Predicate;
-use predicate::told_by;
 use flat::Checked;
 use flat::Flat;
+use predicate::Predicate;
+use predicate::told_by;
 
 // What a predicate says of two arrays.
 fn ask(p: Predicate, kinds: &[u8], args: &[u64]) -> Answer

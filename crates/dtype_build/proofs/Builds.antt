@@ -16,7 +16,7 @@ use Rattle.flat.proofs.Sizes.{length-kinds, length-kindss, length-args}
 use Rattle.flat.proofs.Outputs.{writes-type, room}
 use Rattle.flat.proofs.Walks.{from, Unary, is-list, is-array, type-leaf, type-one, one-nodes, type-struct, struct-nodes, struct-count, run-end}
 use Rattle.flat.proofs.Onward.{from-zero, next-run, next-field, next-nodes}
-use Rattle.dtype_build.specs.Leaf.{leafOf, mapLeaves, mapFields, keptArg, Room, Built, BuiltType, BuiltFields}
+use Rattle.dtype_build.specs.Leaf.{leafOf, mapLeaves, mapFields, keptArg, HasRoom, Built, BuiltType, BuiltFields}
 use Rattle.dtype_build.specs.declared.leaf.Form.{Form}
 use Rattle.dtype_build.proofs.Leaves.{leaf-is}
 use Rattle.dtype_build.proofs.Forms.{size-map, sizes-map, count-map}
@@ -30,11 +30,11 @@ pub built-sizes : (form : Form) (fs : Fields) {K A K′ A′ : List ℕ} {r : �
 built-sizes form fs w = w .nodes ∙ length-kindss (mapFields (leafOf form) fs) ∙ sizes-map form fs
 
 -- what was built where both arrays have room for it was written
-pub built-writes : (form : Form) (t : DataType) {K A K′ A′ : List ℕ} {r : ℕ} → Room (size t) K A → BuiltType (mapLeaves (leafOf form) t) K A K′ A′ r → Writes (fitting (length K) (length A) (type (mapLeaves (leafOf form) t))) K A K′ A′ (Written.Nodes r)
+pub built-writes : (form : Form) (t : DataType) {K A K′ A′ : List ℕ} {r : ℕ} → HasRoom (size t) K A → BuiltType (mapLeaves (leafOf form) t) K A K′ A′ r → Writes (fitting (length K) (length A) (type (mapLeaves (leafOf form) t))) K A K′ A′ (Written.Nodes r)
 built-writes form t o w = writes-type (room _ _ _ (rw size-map (o .kinds)) (rw size-map (o .args))) (w .nodes ∙ length-kinds _) (w .kinds) (w .args)
 
 -- ---- a leaf, its kind and its argument stored
-pub leaf-stored : (form : Form) (k a : ℕ) {K A : List ℕ} → Room 1 K A → (y z : ℕ) → y ≡ headKind (leafOf form k a) → z ≡ keptArg k y a → BuiltType (leafOf form k a) K A (set K 0 y) (set A 0 z) 1
+pub leaf-stored : (form : Form) (k a : ℕ) {K A : List ℕ} → HasRoom 1 K A → (y z : ℕ) → y ≡ headKind (leafOf form k a) → z ≡ keptArg k y a → BuiltType (leafOf form k a) K A (set K 0 y) (set A 0 z) 1
 unfolding kindsOf argsOf
 leaf-stored form k a {K} {A} o y z p q =
     let e : leafOf form k a ≡ leaf y z = leaf-is k a form ∙ rw (← p, ← q) in
@@ -57,9 +57,9 @@ unfolding kindsOf argsOf mapLeaves
 unary-map rule is-list t = (refl, refl)
 unary-map rule is-array t = (refl, refl)
 
-module _ (form : Form) {ks xs : List ℕ} (v : Valid ks xs) {K A : List ℕ} (o : Room (size (typeAt ks xs)) K A) where
+module _ (form : Form) {ks xs : List ℕ} (v : Valid ks xs) {K A : List ℕ} (o : HasRoom (size (typeAt ks xs)) K A) where
   module _ (l : Kind.List ≤ getD ks 0 0) (s : getD ks 0 0 ≡ Kind.Struct → ⊥) where
-    pub one-room : Room (size (typeAt (from 1 ks) (from 1 xs))) (from 1 (set K 0 (getD ks 0 0))) (from 1 (set A 0 (getD xs 0 0)))
+    pub one-room : HasRoom (size (typeAt (from 1 ks) (from 1 xs))) (from 1 (set K 0 (getD ks 0 0))) (from 1 (set A 0 (getD xs 0 0)))
     one-room = let n = one-nodes ks xs v l s in record { kinds = omega (arith, part-set K 0 (getD ks 0 0) 1); args = omega (arith, part-set A 0 (getD xs 0 0) 1) }
 
     pub one-built : (L M : List ℕ) (n : ℕ) → BuiltType (mapLeaves (leafOf form) (typeAt (from 1 ks) (from 1 xs))) (from 1 (set K 0 (getD ks 0 0))) (from 1 (set A 0 (getD xs 0 0))) L M n → BuiltType (mapLeaves (leafOf form) (typeAt ks xs)) K A (back 1 (set K 0 (getD ks 0 0)) L) (back 1 (set A 0 (getD xs 0 0)) M) (n + 1)
@@ -69,7 +69,7 @@ module _ (form : Form) {ks xs : List ℕ} (v : Valid ks xs) {K A : List ℕ} (o 
         rw (f .2, u .0, u .1) (after-node _ _ _ _ K A L M n (omega arith) (omega arith) w)
 
   module _ (s : getD ks 0 0 ≡ Kind.Struct) where
-    pub struct-room : Room (sizes (runAt (getD xs 0 0) (from 1 ks) (from 1 xs))) (from 1 (set K 0 (getD ks 0 0))) (from 1 (set A 0 (getD xs 0 0)))
+    pub struct-room : HasRoom (sizes (runAt (getD xs 0 0) (from 1 ks) (from 1 xs))) (from 1 (set K 0 (getD ks 0 0))) (from 1 (set A 0 (getD xs 0 0)))
     struct-room = let n = struct-nodes ks xs v s in record { kinds = omega (arith, part-set K 0 (getD ks 0 0) 1); args = omega (arith, part-set A 0 (getD xs 0 0) 1) }
 
     pub struct-built : (L M : List ℕ) (n : ℕ) → BuiltFields (mapFields (leafOf form) (runAt (getD xs 0 0) (from 1 ks) (from 1 xs))) (from 1 (set K 0 (getD ks 0 0))) (from 1 (set A 0 (getD xs 0 0))) L M n → BuiltType (mapLeaves (leafOf form) (typeAt ks xs)) K A (back 1 (set K 0 (getD ks 0 0)) L) (back 1 (set A 0 (getD xs 0 0)) M) (n + 1)
@@ -113,8 +113,8 @@ module _ {form : Form} {m : ℕ} {ks xs K₀ A₀ : List ℕ} {at left : ℕ} {K
     pub all-nodes : (n : ℕ) → n ≡ size (typeAt (from (at + 1) ks) (from (at + 1) xs)) → sizes (runAt m ks xs) ≡ at + 1 + n + sizes (runAt (left - 1) (from (at + 1 + n) ks) (from (at + 1 + n) xs))
     all-nodes n e = a .nodes ∙ rw (next-nodes left at ks xs (a .others) p n e) (omega arith)
 
-    module _ (o : Room (sizes (runAt m ks xs)) K₀ A₀) (lk : length K ≡ length K₀) (la : length A ≡ length A₀) where
-      pub next-room : Room (size (typeAt (from (at + 1) ks) (from (at + 1) xs))) (from (at + 1) (set K at Kind.Field)) (from (at + 1) (set A at (getD xs at 0)))
+    module _ (o : HasRoom (sizes (runAt m ks xs)) K₀ A₀) (lk : length K ≡ length K₀) (la : length A ≡ length A₀) where
+      pub next-room : HasRoom (size (typeAt (from (at + 1) ks) (from (at + 1) xs))) (from (at + 1) (set K at Kind.Field)) (from (at + 1) (set A at (getD xs at 0)))
       next-room =
           let n = all-nodes (size (typeAt (from (at + 1) ks) (from (at + 1) xs))) refl in
           record { kinds = omega (arith, part-set K at Kind.Field (at + 1)); args = omega (arith, part-set A at (getD xs at 0) (at + 1)) }

@@ -12,7 +12,7 @@ use Rattle.flat.specs.Kind
 use Rattle.flat.specs.Tree.{DataType, leaf, list, array, struct, Fields, empty, field, size, sizes, depth, depths, count, kindsOf, kindsOfs}
 use Rattle.flat.specs.Reading.{Ruled, RuledFields, IsType}
 use Rattle.flat.specs.Reader.{mapO, bindO}
-use Rattle.flat.specs.Walk.{orElse}
+use Rattle.flat.specs.Walk.{withDefault}
 use Rattle.dtype.specs.Match.{among}
 use Rattle.dtype.specs.Predicate.{isUnknown, isUnknownInt}
 use Rattle.dtype.specs.Scan.{between, anyOf}
@@ -78,7 +78,7 @@ known-leaf allow k a = by-any (eqb k Kind.UnknownAny) refl
     any true = refl
     any false = refl
 
-    other : (str float int neg : Bool) (i f s : DataType) → cond ((str || (float || false)) || (int || (neg || false))) (orKept allow (leaf k a) (cond (int || (neg || false)) (some i) (cond float (some f) (cond str (some s) none)))) (some (leaf k a)) ≡ some (orElse (leaf k a) (cond (int || (neg || false)) (some i) (cond float (some f) (cond str (some s) none))))
+    other : (str float int neg : Bool) (i f s : DataType) → cond ((str || (float || false)) || (int || (neg || false))) (orKept allow (leaf k a) (cond (int || (neg || false)) (some i) (cond float (some f) (cond str (some s) none)))) (some (leaf k a)) ≡ some (withDefault (leaf k a) (cond (int || (neg || false)) (some i) (cond float (some f) (cond str (some s) none))))
     other true float true neg i f s = refl
     other true float false true i f s = refl
     other true true false false i f s = refl

@@ -8,10 +8,10 @@ use lib.IntN.{ℤ}
 use lib.Dec.{eqb}
 use borrow.Author.Tests.{eq-eqb, eqb-true, ne-eqb}
 use Rattle.flat.specs.Kind
-use Rattle.flat.specs.Argument.{argumentFits, ruleOf}
+use Rattle.flat.specs.Argument.{argumentFits, argumentRule}
 use Rattle.flat.specs.Tree.{DataType, leaf, headKind, size, depth}
 use Rattle.flat.specs.Reading.{Ruled}
-use Rattle.flat.specs.Walk.{orElse}
+use Rattle.flat.specs.Walk.{withDefault}
 use Rattle.flat.proofs.Rules.{passes}
 use Rattle.dtype.specs.Match.{among}
 use Rattle.dtype.specs.Predicate.{isUnknownInt}
@@ -94,17 +94,17 @@ module _ (k a : ℕ) where
           rw e (record { is = rw (ne-eqb new k (λ h. true≢false (sym t ∙ ap test (sym h) ∙ d .0))); ruled = λ r. d .1 })
 
   a-leaf : (form : Form) → Leaf (leafOf form k a)
-  unfolding physicalLeaf materializedLeaf materialize isUnknownInt among Ruled argumentFits ruleOf
+  unfolding physicalLeaf materializedLeaf materialize isUnknownInt among Ruled argumentFits argumentRule
   a-leaf Physical =
       if-kind (λ t. t) (λ j. eqb j Kind.Date) Kind.Int32 _ _ refl (refl, (omega arith, refl))
       (if-kind (λ t. t) (among (Kind.Datetime ∷ Kind.Duration ∷ Kind.Time ∷ [])) Kind.Int64 _ _ refl (refl, (omega arith, refl))
       (if-kind (λ t. t) (λ j. eqb j Kind.Decimal) Kind.Int128 _ _ refl (refl, (omega arith, refl))
       same))
   a-leaf Materialized =
-      if-kind (orElse (leaf k a)) isUnknownInt (materializeDynInt (valueOf k a)) _ _ refl
+      if-kind (withDefault (leaf k a)) isUnknownInt (materializeDynInt (valueOf k a)) _ _ refl
       (dyn-each (Fresh isUnknownInt) (refl, (omega arith, refl)) (refl, (omega arith, refl)) (refl, (omega arith, refl)) (refl, (omega arith, refl)) (valueOf k a))
-      (if-kind (orElse (leaf k a)) (λ j. eqb j Kind.UnknownFloat) Kind.Float64 _ _ refl (refl, (omega arith, refl))
-      (if-kind (orElse (leaf k a)) (λ j. eqb j Kind.UnknownStr) Kind.String _ _ refl (refl, (omega arith, refl))
+      (if-kind (withDefault (leaf k a)) (λ j. eqb j Kind.UnknownFloat) Kind.Float64 _ _ refl (refl, (omega arith, refl))
+      (if-kind (withDefault (leaf k a)) (λ j. eqb j Kind.UnknownStr) Kind.String _ _ refl (refl, (omega arith, refl))
       same))
 
   pub leaf-is : (form : Form) → leafOf form k a ≡ leaf (headKind (leafOf form k a)) (keptArg k (headKind (leafOf form k a)) a)

@@ -8,7 +8,7 @@ use lib.Dec.{eqb}
 use lib.ListN.{length}
 use Rattle.flat.specs.Kind
 use Rattle.flat.specs.Tree.{DataType, leaf, list, array, struct, Fields, empty, field, kindsOf, kindsOfs, argsOf, argsOfs}
-use Rattle.flat.specs.Walk.{orElse}
+use Rattle.flat.specs.Walk.{withDefault}
 use Rattle.flat.specs.Output.{over}
 use Rattle.dtype_build.specs.Materialize.{materialize}
 use Rattle.dtype.specs.Physical.{physicalLeaf}
@@ -18,7 +18,7 @@ use Rattle.dtype_build.specs.declared.leaf.Form.the-variants.{Physical, 
 
 -- a leaf with its type known, where there is such a type; any stays
 unfoldable pub materializedLeaf : ℕ → ℕ → DataType
-materializedLeaf k a = orElse (leaf k a) (materialize k a)
+materializedLeaf k a = withDefault (leaf k a) (materialize k a)
 
 -- the rule of a form
 abbrev pub leafOf : Form → ℕ → ℕ → DataType
@@ -46,7 +46,7 @@ abbrev pub hasAny : List ℕ → Bool
 hasAny = anyOf (between Kind.UnknownAny Kind.UnknownAny)
 
 -- n nodes have room in both arrays
-pub record Room (n : ℕ) (K A : List ℕ) : Type 0 where
+pub record HasRoom (n : ℕ) (K A : List ℕ) : Type 0 where
   pub kinds : n ≤ length K
   pub args : n ≤ length A
 

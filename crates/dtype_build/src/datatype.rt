@@ -1,7 +1,7 @@
 // The walk over a type: each leaf by the rule of the form, every other node as it is.
 ghost use Rattle.flat.specs.Tree.{size};
 ghost use Rattle.flat.specs.Walk.{Valid, typeAt};
-ghost use Rattle.dtype_build.specs.Leaf.{leafOf, mapLeaves, Room, BuiltType};
+ghost use Rattle.dtype_build.specs.Leaf.{leafOf, mapLeaves, HasRoom, BuiltType};
 use crate::field;
 use crate::leaf;
 use crate::leaf::Form;
@@ -16,7 +16,7 @@ pub fn node_form(
     out_args: &mut [u64],
 ) -> usize
     requires { ⌜ Valid (now kinds) (now args) ⌝ }
-    requires { ⌜ Room (size (typeAt (now kinds) (now args))) (now «out_kinds») (now «out_args») ⌝ }
+    requires { ⌜ HasRoom (size (typeAt (now kinds) (now args))) (now «out_kinds») (now «out_args») ⌝ }
     ensures { λ r. ⌜ BuiltType (mapLeaves (leafOf form) (typeAt (now (kinds .entry)) (now (args .entry)))) (now («out_kinds» .entry)) (now («out_args» .entry)) (now («out_kinds» .exit)) (now («out_args» .exit)) r ⌝ }
 {
     let k = kinds[0];

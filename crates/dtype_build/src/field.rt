@@ -1,7 +1,7 @@
 // The walk over the fields of a Struct, which hands each field's type back to the walk over types.
 ghost use Rattle.flat.specs.Tree.{sizes};
 ghost use Rattle.flat.specs.Walk.{ValidRun, runAt};
-ghost use Rattle.dtype_build.specs.Leaf.{leafOf, mapFields, Room, BuiltFields};
+ghost use Rattle.dtype_build.specs.Leaf.{leafOf, mapFields, HasRoom, BuiltFields};
 use crate::datatype;
 use crate::leaf::Form;
 use flat::kind::Kind;
@@ -16,7 +16,7 @@ pub fn field_form(
     out_args: &mut [u64],
 ) -> usize
     requires { ⌜ ValidRun count (now kinds) (now args) ⌝ }
-    requires { ⌜ Room (sizes (runAt count (now kinds) (now args))) (now «out_kinds») (now «out_args») ⌝ }
+    requires { ⌜ HasRoom (sizes (runAt count (now kinds) (now args))) (now «out_kinds») (now «out_args») ⌝ }
     ensures { λ r. ⌜ BuiltFields (mapFields (leafOf form) (runAt count (now (kinds .entry)) (now (args .entry)))) (now («out_kinds» .entry)) (now («out_args» .entry)) (now («out_kinds» .exit)) (now («out_args» .exit)) r ⌝ }
 {
     let mut at = 0;

@@ -2,7 +2,7 @@
 ghost use mathlib.Core.Path.{_≡_};
 ghost use Rattle.flat.specs.Tree.{headKind};
 ghost use Rattle.dtype.specs.Physical.{physicalKind};
-ghost use Rattle.dtype_build.specs.Leaf.{materializedLeaf, leafOf, keptArg, Room, BuiltType};
+ghost use Rattle.dtype_build.specs.Leaf.{materializedLeaf, leafOf, keptArg, HasRoom, BuiltType};
 use flat::kind::Kind;
 use supertype_numbers::dyn_int::materialize_dyn_int;
 
@@ -52,7 +52,7 @@ fn argument_form(k: u8, new: u8, a: u64) -> u64
 
 // Writes a leaf in the given form to the front of out_kinds and out_args.
 pub fn leaf_form(form: Form, k: u8, a: u64, out_kinds: &mut [u8], out_args: &mut [u64])
-    requires { ⌜ Room 1 (now «out_kinds») (now «out_args») ⌝ }
+    requires { ⌜ HasRoom 1 (now «out_kinds») (now «out_args») ⌝ }
     ensures { λ _. ⌜ BuiltType (leafOf form k a) (now («out_kinds» .entry)) (now («out_args» .entry)) (now («out_kinds» .exit)) (now («out_args» .exit)) 1 ⌝ }
 {
     let new = kind_form(form, k, a);

@@ -8,7 +8,7 @@ use lib.Dec.{eqb, lit≤}
 use lib.ListN.{length}
 use borrow.Author.Tests.{eq-eqb, eqb-true}
 use Rattle.flat.specs.Kind
-use Rattle.flat.specs.Argument.{argumentFits, ruleOf}
+use Rattle.flat.specs.Argument.{argumentFits, argumentRule}
 use Rattle.flat.specs.Tree.{DataType, leaf, list, array, struct, Fields, empty, field, size, sizes, depth, depths, count, kindsOf, kindsOfs, argsOf, argsOfs}
 use Rattle.flat.specs.Reading.{Ruled, RuledFields, IsType, type, reading}
 use Rattle.flat.proofs.Meaning.{passes}
@@ -42,7 +42,7 @@ first k a ks xs (l ∷ ls) (b ∷ ys) e h s =
 
 -- an unknown int takes any argument
 unknown-ruled : (l b : ℕ) → isUnknownInt l ≡ true → Ruled (leaf l b)
-unfolding isUnknownInt among Ruled argumentFits ruleOf
+unfolding isUnknownInt among Ruled argumentFits argumentRule
 unknown-ruled l b e = go (eqb l Kind.UnknownIntPos) (eqb l Kind.UnknownIntNeg) refl refl e
   where
     go : (c d : Bool) → eqb l Kind.UnknownIntPos ≡ c → eqb l Kind.UnknownIntNeg ≡ d → (c || (d || false)) ≡ true → Ruled (leaf l b)

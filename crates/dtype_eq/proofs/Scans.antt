@@ -17,7 +17,7 @@ use Rattle.dtype.specs.Match.{among}
 use Rattle.dtype.specs.Predicate.{isUnknownInt}
 use Rattle.dtype.specs.Equality.{equalNode, equal, equalFields}
 use Rattle.dtype_eq.specs.Contains.{containsDtypeRecursive, anyContainsDtype}
-use Rattle.dtype_eq.specs.Nodes.{same, startsWith, alike, occurs}
+use Rattle.dtype_eq.specs.Nodes.{sameList, startsWith, alike, occurs}
 use Rattle.dtype.proofs.Pairs.{nodes-same, left-known, right-known}
 
 -- a leaf's node and one that is none
@@ -121,12 +121,12 @@ pub never : {A : Type 0} → false ≡ true → A
 never e = absurd (let z : _≡_ {A = ℕ} 0 1 = cc in omega arith)
 
 -- two lists that are the same to a scan are equal
-pub same-lists : (xs ys : List ℕ) → same xs ys ≡ true → xs ≡ ys
-unfolding same
+pub same-lists : (xs ys : List ℕ) → sameList xs ys ≡ true → xs ≡ ys
+unfolding sameList
 same-lists [] [] e = refl
 same-lists [] (y ∷ ys) e = never e
 same-lists (x ∷ xs) [] e = never e
-same-lists (x ∷ xs) (y ∷ ys) e = let s = and-eq-true-iff (eqb x y) (same xs ys) .0 e in ap₂ _∷_ (eqb-true x y (s .0)) (same-lists xs ys (s .1))
+same-lists (x ∷ xs) (y ∷ ys) e = let s = and-eq-true-iff (eqb x y) (sameList xs ys) .0 e in ap₂ _∷_ (eqb-true x y (s .0)) (same-lists xs ys (s .1))
 
 -- nodes stand at their own front
 pub starts-self : (ks xs : List ℕ) → startsWith ks xs ks xs ≡ true

@@ -12,24 +12,24 @@ use borrow.Author.Tests.{eq-eqb, ne-eqb}
 use Rattle.flat.proofs.Positions.{rest}
 use Rattle.flat.proofs.Walks.{from}
 use Rattle.dtype.specs.Equality.{equalNode}
-use Rattle.dtype_eq.specs.Nodes.{same, startsWith, alike, occurs}
+use Rattle.dtype_eq.specs.Nodes.{sameList, startsWith, alike, occurs}
 use Rattle.dtype_eq.proofs.Scans.{same-lists, starts-self}
 
 -- what the first i elements say, b, and what the rest says are together what two lists say
-module _ (xs ys : List ℕ) (i : ℕ) (b : Bool) (e : same xs ys ≡ (b && same (drop i xs) (drop i ys))) where
+module _ (xs ys : List ℕ) (i : ℕ) (b : Bool) (e : sameList xs ys ≡ (b && sameList (drop i xs) (drop i ys))) where
   module _ (h : i < length xs) (g : i < length ys) where
-    same-step : same xs ys ≡ (b && (eqb (getD xs i 0) (getD ys i 0) && same (drop (i + 1) xs) (drop (i + 1) ys)))
-    unfolding same
+    same-step : sameList xs ys ≡ (b && (eqb (getD xs i 0) (getD ys i 0) && sameList (drop (i + 1) xs) (drop (i + 1) ys)))
+    unfolding sameList
     same-step = e ∙ rw (add-one, drop-cons xs i 0, drop-cons ys i 0)
 
-    pub same-on : getD xs i 0 ≡ getD ys i 0 → same xs ys ≡ (b && same (drop (i + 1) xs) (drop (i + 1) ys))
+    pub same-on : getD xs i 0 ≡ getD ys i 0 → sameList xs ys ≡ (b && sameList (drop (i + 1) xs) (drop (i + 1) ys))
     same-on q = same-step ∙ rw (eq-eqb (getD xs i 0) (getD ys i 0) q)
 
-    pub same-stop : (getD xs i 0 ≡ getD ys i 0 → ⊥) → same xs ys ≡ false
+    pub same-stop : (getD xs i 0 ≡ getD ys i 0 → ⊥) → sameList xs ys ≡ false
     same-stop q = same-step ∙ rw (ne-eqb (getD xs i 0) (getD ys i 0) q, and-false)
 
-  pub same-end : length xs ≤ i → length ys ≤ i → b ≡ same xs ys
-  unfolding same
+  pub same-end : length xs ≤ i → length ys ≤ i → b ≡ sameList xs ys
+  unfolding sameList
   same-end h g = sym (e ∙ rw (drop-of-length-le xs h, drop-of-length-le ys g, and-true))
 
 -- a pattern with more nodes than there are
@@ -84,7 +84,7 @@ module _ (ks xs ls ys : List ℕ) where
   unfolding alike
   same-length h f = rw (eq-eqb (length ks) (length ls) h, eq-eqb (length ls) (length ys) f)
 
-  pub same-alike : length ks ≡ length ls → length ls ≡ length ys → same ks ls ≡ true → same xs ys ≡ true → alike ks xs ls ys ≡ true
+  pub same-alike : length ks ≡ length ls → length ls ≡ length ys → sameList ks ls ≡ true → sameList xs ys ≡ true → alike ks xs ls ys ≡ true
   same-alike h f p q = same-length h f ∙ rw (← same-lists ks ls p, ← same-lists xs ys q) (starts-self ks xs)
 
 -- no position before `at` is a start

@@ -7,11 +7,11 @@ use lib.ListN.{length}
 use Rattle.dtype.specs.Equality.{equalNode}
 
 -- Two lists are as long, and equal element by element.
-unfoldable pub same : List ℕ → List ℕ → Bool
-same [] [] = true
-same [] (y ∷ ys) = false
-same (x ∷ xs) [] = false
-same (x ∷ xs) (y ∷ ys) = eqb x y && same xs ys
+unfoldable pub sameList : List ℕ → List ℕ → Bool
+sameList [] [] = true
+sameList [] (y ∷ ys) = false
+sameList (x ∷ xs) [] = false
+sameList (x ∷ xs) (y ∷ ys) = eqb x y && sameList xs ys
 
 -- The nodes of the kinds ls and the arguments ys stand at the front of those of ks and xs: each is equal to the node in its place.
 unfoldable pub startsWith : List ℕ → List ℕ → List ℕ → List ℕ → Bool

@@ -1,7 +1,7 @@
 // Scans over the nodes of two flat types.
 ghost use mathlib.Core.Path.{_≡_};
 ghost use lib.ListN.{length};
-ghost use Rattle.dtype_eq.specs.Nodes.{same, startsWith, alike, occurs};
+ghost use Rattle.dtype_eq.specs.Nodes.{sameList, startsWith, alike, occurs};
 use dtype::node::equal_node;
 
 // Whether the pattern's nodes stand at the front. Of two valid types: whether they are equal, since no type stands at the front of another.
@@ -25,7 +25,7 @@ pub fn starts_with(kinds: &[u8], args: &[u64], pattern_kinds: &[u8], pattern_arg
 // Whether two runs of bytes, of one length, are the same. Without an early exit the loop is vectorised.
 pub fn same_bytes(bytes: &[u8], others: &[u8]) -> bool
     requires { ⌜ length (now bytes) ≡ length (now others) ⌝ }
-    ensures { λ r. ⌜ r ≡ same (now (bytes .entry)) (now (others .entry)) ⌝ }
+    ensures { λ r. ⌜ r ≡ sameList (now (bytes .entry)) (now (others .entry)) ⌝ }
 {
     let mut same = true;
     let mut i = 0;
@@ -41,7 +41,7 @@ pub fn same_bytes(bytes: &[u8], others: &[u8]) -> bool
 // Likewise of arguments.
 fn same_args(args: &[u64], other_args: &[u64]) -> bool
     requires { ⌜ length (now args) ≡ length (now «other_args») ⌝ }
-    ensures { λ r. ⌜ r ≡ same (now (args .entry)) (now («other_args» .entry)) ⌝ }
+    ensures { λ r. ⌜ r ≡ sameList (now (args .entry)) (now («other_args» .entry)) ⌝ }
 {
     let mut same = true;
     let mut i = 0;

@@ -13,7 +13,7 @@ use Rattle.flat.proofs.Sizes.{length-kinds, length-args}
 use Rattle.dtype_inner.specs.Inner.{innerDtype, leafDtype, pastArrays, arrayLeafDtype}
 use Rattle.dtype.specs.Scan.{between}
 use Rattle.dtype_inner.specs.Nodes.{leading, innerNodes, leafNodes, arrayLeafNodes}
-use Rattle.dtype_inner.specs.Part.{nodesFound, kindsFound, argsFound, Last}
+use Rattle.dtype_inner.specs.Part.{nodesFound, partKinds, partArgs, Last}
 use Rattle.dtype_inner.proofs.Fronts.{below}
 
 -- u is t without its first j nodes
@@ -53,8 +53,8 @@ past-ends (struct fs) r = all
 -- What is found in t, if something is, has n nodes and stands at the end of the kinds and of the arguments.
 pub record Found (t : DataType) (o : Option DataType) (n : ℕ) : Type 0 where
   pub nodes : n ≡ nodesFound o
-  pub kinds : Last n (kindsOf t) (kindsFound o)
-  pub args : Last n (argsOf t) (argsFound o)
+  pub kinds : Last n (kindsOf t) (partKinds o)
+  pub args : Last n (argsOf t) (partArgs o)
 
 pub last-none : (l : List ℕ) → Last 0 l []
 last-none l = record { within = omega arith; size = refl; shows = drop-of-length-le l {i = length l - 0} (omega arith) }

@@ -14,7 +14,7 @@ use Rattle.flat.specs.Tree.{DataType, size}
 use Rattle.flat.specs.Reading.{Reading, refused, type, reading, checkedOf}
 use Rattle.flat.proofs.Sizes.{size-pos}
 use Rattle.flat.proofs.Meaning.{holds}
-use Rattle.dtype_inner.specs.Part.{found, some-nodes, innerOf, nodesFound, kindsFound, argsFound, Last, EndOf, answerOf, innerValue}
+use Rattle.dtype_inner.specs.Part.{found, some-nodes, innerOf, nodesFound, partKinds, partArgs, Last, EndOf, partAnswer, innerValue}
 use Rattle.dtype_inner.specs.Laws.{AtEnd, PartLaws}
 use Rattle.dtype_inner.specs.declared.Inner.{Inner}
 use Rattle.dtype_inner.proofs.Endings.{Finds, last-none, finds-inner, finds-leaf, finds-array-leaf}
@@ -30,10 +30,10 @@ nodes-in (some t) = refl
 
 module _ {f : DataType → Option DataType} {g : List ℕ → ℕ} (law : Finds f g) (nodes deep : ℕ) (ks xs : List ℕ) where
   -- the answer
-  pub answers : answerOf (checkedOf (reading nodes deep ks xs)) (g ks) ≡ innerOf f (reading nodes deep ks xs)
+  pub answers : partAnswer (checkedOf (reading nodes deep ks xs)) (g ks) ≡ innerOf f (reading nodes deep ks xs)
   answers = go (reading nodes deep ks xs) refl
     where
-      go : (r : Reading) → reading nodes deep ks xs ≡ r → answerOf (checkedOf r) (g ks) ≡ innerOf f r
+      go : (r : Reading) → reading nodes deep ks xs ≡ r → partAnswer (checkedOf r) (g ks) ≡ innerOf f r
       go (refused e) q = refl
       go (type t) q =
           let h = holds nodes deep ks xs t q in
@@ -41,20 +41,20 @@ module _ {f : DataType → Option DataType} {g : List ℕ → ℕ} (law : Finds 
 
   -- the ends of the two arrays that go with an answer
   module _ {a : Inner} {n : ℕ} (e : a ≡ innerOf f (reading nodes deep ks xs)) (s : n ≡ innerValue a) where
-    lasts : Last n ks (kindsFound (found f (reading nodes deep ks xs))) × Last n xs (argsFound (found f (reading nodes deep ks xs)))
+    lasts : Last n ks (partKinds (found f (reading nodes deep ks xs))) × Last n xs (partArgs (found f (reading nodes deep ks xs)))
     lasts = rw (s, e) (go (reading nodes deep ks xs) refl)
       where
-        go : (r : Reading) → reading nodes deep ks xs ≡ r → Last (innerValue (innerOf f r)) ks (kindsFound (found f r)) × Last (innerValue (innerOf f r)) xs (argsFound (found f r))
+        go : (r : Reading) → reading nodes deep ks xs ≡ r → Last (innerValue (innerOf f r)) ks (partKinds (found f r)) × Last (innerValue (innerOf f r)) xs (partArgs (found f r))
         go (refused e) q = (last-none ks, last-none xs)
         go (type t) q =
             let h = holds nodes deep ks xs t q in
             let d = law .finds t (h .is-type .ruled) in
             rw (h .kinds, h .args, nodes-in, ← d .nodes) (d .kinds, d .args)
 
-    pub kinds-last : Last n ks (kindsFound (found f (reading nodes deep ks xs)))
+    pub kinds-last : Last n ks (partKinds (found f (reading nodes deep ks xs)))
     kinds-last = lasts .0
 
-    pub args-last : Last n xs (argsFound (found f (reading nodes deep ks xs)))
+    pub args-last : Last n xs (partArgs (found f (reading nodes deep ks xs)))
     args-last = lasts .1
 
 -- the part of a slice that holds its last n elements

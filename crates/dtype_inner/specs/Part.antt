@@ -32,13 +32,13 @@ abbrev pub nodesFound : Option DataType → ℕ
 nodesFound none = 0
 nodesFound (some t) = size t
 
-abbrev pub kindsFound : Option DataType → List ℕ
-kindsFound none = []
-kindsFound (some t) = kindsOf t
+abbrev pub partKinds : Option DataType → List ℕ
+partKinds none = []
+partKinds (some t) = kindsOf t
 
-abbrev pub argsFound : Option DataType → List ℕ
-argsFound none = []
-argsFound (some t) = argsOf t
+abbrev pub partArgs : Option DataType → List ℕ
+partArgs none = []
+partArgs (some t) = argsOf t
 
 -- the last n elements of l are these
 pub record Last (n : ℕ) (l these : List ℕ) : Type 0 where
@@ -53,9 +53,9 @@ pub record EndOf (bytes : ℕ) (shown : List ℕ) (whole r : RefT (List ℕ)) : 
   pub shows : now r ≡ shown
 
 -- the answer that a check and a number of nodes come to: no type has 0 nodes, so 0 stands for None
-abbrev pub answerOf : Checked → ℕ → Inner
-answerOf (Checked.Refused e) n = Inner.Refused e
-answerOf Checked.Valid n = cond (eqb n 0) Inner.Nothing (Inner.Nodes n)
+abbrev pub partAnswer : Checked → ℕ → Inner
+partAnswer (Checked.Refused e) n = Inner.Refused e
+partAnswer Checked.Valid n = cond (eqb n 0) Inner.Nothing (Inner.Nodes n)
 
 -- document 01's number of an answer, and the value beside it: the number of nodes, 0 for None
 abbrev pub innerNumber : Inner → ℕ

@@ -6,7 +6,7 @@ ghost use lib.ListN.{length};
 ghost use Rattle.flat.specs.Reading.{reading, refused};
 ghost use Rattle.dtype_inner.specs.Inner.{innerDtype, leafDtype, arrayLeafDtype};
 ghost use Rattle.dtype_inner.specs.Nodes.{leading, innerNodes, leafNodes, arrayLeafNodes};
-ghost use Rattle.dtype_inner.specs.Part.{found, innerOf, kindsFound, argsFound, EndOf, answerOf, innerNumber, innerValue};
+ghost use Rattle.dtype_inner.specs.Part.{found, innerOf, partKinds, partArgs, EndOf, partAnswer, innerNumber, innerValue};
 ghost use Rattle.dtype_inner.specs.Shape.{shape, shapeOf, arraysAt, widthsAt};
 use flat::Checked;
 use flat::Flat;
@@ -118,7 +118,7 @@ pub fn array_leaf_nodes(kinds: &[u8]) -> usize
 
 // The answer that a check and a number of nodes come to.
 fn answer(checked: Checked, n: usize) -> Inner
-    ensures { λ r. ⌜ r ≡ answerOf checked n ⌝ }
+    ensures { λ r. ⌜ r ≡ partAnswer checked n ⌝ }
 {
     match checked {
         Checked::Refused(e) => Inner::Refused(e),
@@ -146,7 +146,7 @@ pub fn inner_dtype_kinds<'a>(kinds: &'a [u8], args: &[u64]) -> &'a [u8]
     ensures { λ r. do
       nodes ← ⟦Flat::MAX_NODES⟧ .entry
       deep ← ⟦Flat::MAX_DEPTH⟧ .entry
-      ⌜ EndOf 1 (kindsFound (found innerDtype (reading nodes deep (now (kinds .entry)) (now (args .entry))))) (kinds .entry) r ⌝ }
+      ⌜ EndOf 1 (partKinds (found innerDtype (reading nodes deep (now (kinds .entry)) (now (args .entry))))) (kinds .entry) r ⌝ }
 {
     let at = kinds.len() - inner_dtype(kinds, args).value() as usize;
     &kinds[at..]
@@ -157,7 +157,7 @@ pub fn inner_dtype_args<'a>(kinds: &[u8], args: &'a [u64]) -> &'a [u64]
     ensures { λ r. do
       nodes ← ⟦Flat::MAX_NODES⟧ .entry
       deep ← ⟦Flat::MAX_DEPTH⟧ .entry
-      ⌜ EndOf 8 (argsFound (found innerDtype (reading nodes deep (now (kinds .entry)) (now (args .entry))))) (args .entry) r ⌝ }
+      ⌜ EndOf 8 (partArgs (found innerDtype (reading nodes deep (now (kinds .entry)) (now (args .entry))))) (args .entry) r ⌝ }
 {
     let at = args.len() - inner_dtype(kinds, args).value() as usize;
     &args[at..]
@@ -178,7 +178,7 @@ pub fn leaf_dtype_kinds<'a>(kinds: &'a [u8], args: &[u64]) -> &'a [u8]
     ensures { λ r. do
       nodes ← ⟦Flat::MAX_NODES⟧ .entry
       deep ← ⟦Flat::MAX_DEPTH⟧ .entry
-      ⌜ EndOf 1 (kindsFound (found (λ t. some (leafDtype t)) (reading nodes deep (now (kinds .entry)) (now (args .entry))))) (kinds .entry) r ⌝ }
+      ⌜ EndOf 1 (partKinds (found (λ t. some (leafDtype t)) (reading nodes deep (now (kinds .entry)) (now (args .entry))))) (kinds .entry) r ⌝ }
 {
     let at = kinds.len() - leaf_dtype(kinds, args).value() as usize;
     &kinds[at..]
@@ -189,7 +189,7 @@ pub fn leaf_dtype_args<'a>(kinds: &[u8], args: &'a [u64]) -> &'a [u64]
     ensures { λ r. do
       nodes ← ⟦Flat::MAX_NODES⟧ .entry
       deep ← ⟦Flat::MAX_DEPTH⟧ .entry
-      ⌜ EndOf 8 (argsFound (found (λ t. some (leafDtype t)) (reading nodes deep (now (kinds .entry)) (now (args .entry))))) (args .entry) r ⌝ }
+      ⌜ EndOf 8 (partArgs (found (λ t. some (leafDtype t)) (reading nodes deep (now (kinds .entry)) (now (args .entry))))) (args .entry) r ⌝ }
 {
     let at = args.len() - leaf_dtype(kinds, args).value() as usize;
     &args[at..]
@@ -210,7 +210,7 @@ pub fn array_leaf_dtype_kinds<'a>(kinds: &'a [u8], args: &[u64]) -> &'a [u8]
     ensures { λ r. do
       nodes ← ⟦Flat::MAX_NODES⟧ .entry
       deep ← ⟦Flat::MAX_DEPTH⟧ .entry
-      ⌜ EndOf 1 (kindsFound (found arrayLeafDtype (reading nodes deep (now (kinds .entry)) (now (args .entry))))) (kinds .entry) r ⌝ }
+      ⌜ EndOf 1 (partKinds (found arrayLeafDtype (reading nodes deep (now (kinds .entry)) (now (args .entry))))) (kinds .entry) r ⌝ }
 {
     let at = kinds.len() - array_leaf_dtype(kinds, args).value() as usize;
     &kinds[at..]
@@ -221,7 +221,7 @@ pub fn array_leaf_dtype_args<'a>(kinds: &[u8], args: &'a [u64]) -> &'a [u64]
     ensures { λ r. do
       nodes ← ⟦Flat::MAX_NODES⟧ .entry
       deep ← ⟦Flat::MAX_DEPTH⟧ .entry
-      ⌜ EndOf 8 (argsFound (found arrayLeafDtype (reading nodes deep (now (kinds .entry)) (now (args .entry))))) (args .entry) r ⌝ }
+      ⌜ EndOf 8 (partArgs (found arrayLeafDtype (reading nodes deep (now (kinds .entry)) (now (args .entry))))) (args .entry) r ⌝ }
 {
     let at = args.len() - array_leaf_dtype(kinds, args).value() as usize;
     &args[at..]

@@ -15,12 +15,12 @@ use encoded::Encoded;
 use encoded::Encoding;
 use encoded::check_root;
 use flat::Flat;
+use supertype::join_roots;
 use supertype_answer::Found;
 use supertype_answer::Joined;
 use supertype_lossless::upcast_roots;
 use supertype_report::Report;
 use supertype_report::report_roots;
-use supertype::join_roots;
 
 // Encodes the type that was found to the front of out: refusal 8.
 fn put(found: Found, out: &mut [u8]) -> Joined

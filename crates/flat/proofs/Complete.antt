@@ -6,12 +6,12 @@ use Prim.Native.Nat.{ℕ, suc, _+_, _*_, _≤_, _<_}
 use native.Mathlib.Omega.{arith}
 use borrow.Author.Tests.{le-leb, lt-ltb, eq-eqb, ne-eqb}
 use Rattle.flat.specs.Kind
-use Rattle.flat.specs.Argument.{argumentFits, ruleOf}
+use Rattle.flat.specs.Argument.{argumentFits, argumentRule}
 use Rattle.flat.specs.Tree.{DataType, leaf, list, array, struct, Fields, empty, field, size, sizes, count, kindsOf, kindsOfs, argsOf, argsOfs}
 use Rattle.flat.specs.Reader.{children}
 use Rattle.flat.specs.Reading.{Ruled, RuledFields}
 use Rattle.flat.specs.Refusals.{FlatForm}
-use Rattle.flat.specs.Scan.{Within, start, wrapped, opened, paid, typeFits, fieldFits, scanType, scanFields}
+use Rattle.flat.specs.Scan.{NoDeeper, start, wrapped, opened, paid, typeFits, fieldFits, scanType, scanFields}
 use Rattle.flat.specs.declared.scan.Scan.{Scan}
 use Rattle.flat.proofs.Positions.{children-leaf}
 use Rattle.flat.proofs.Meaning.{at-kinds, at-args}
@@ -20,22 +20,22 @@ use Rattle.flat.proofs.States.{Opened, outermost, inside, opens, settle
 -- The answer is that for what stands after the nodes, from a state that owes so many fields and has no more than `top` levels nested.
 record Onto (deep top owed : ℕ) (ks xs : List ℕ) (answer : Bool) : Type 0 where
   state : Scan
-  within : Within top state
+  within : NoDeeper top state
   owes : state .owed ≡ owed
   same : answer ≡ scanFields deep state ks xs
 
-higher : {low top : ℕ} {s : Scan} → Within low s → low ≤ top → Within top s
+higher : {low top : ℕ} {s : Scan} → NoDeeper low s → low ≤ top → NoDeeper top s
 higher w h = record { depth = omega arith; base = omega arith }
 
 onto : {deep low owed : ℕ} {ks xs : List ℕ} {answer other : Bool} (top due : ℕ) → Onto deep low owed ks xs answer → low ≤ top → owed ≡ due → other ≡ answer → Onto deep top due ks xs other
 onto top due o h e a = record { state = o .state; within = higher (o .within) h; owes = o .owes ∙ e; same = a ∙ o .same }
 
 -- the state under a List or an Array, and under a Struct
-wrapped-higher : {top : ℕ} {s : Scan} → Within top s → Within (suc top) (wrapped s) × (wrapped s .owed ≡ s .owed)
+wrapped-higher : {top : ℕ} {s : Scan} → NoDeeper top s → NoDeeper (suc top) (wrapped s) × (wrapped s .owed ≡ s .owed)
 unfolding wrapped
 wrapped-higher {s = s} w = let h = settled-within w in (record { depth = omega arith; base = omega (arith, settles s) }, settles s .owed)
 
-opened-higher : {top m : ℕ} {s r : Scan} → Within top s → Opened m s r → Within (top + 2) r × (r .owed ≡ m + s .owed)
+opened-higher : {top m : ℕ} {s r : Scan} → NoDeeper top s → Opened m s r → NoDeeper (top + 2) r × (r .owed ≡ m + s .owed)
 opened-higher w (outermost e) = let h = settled-within w in (record { depth = omega arith; base = omega arith }, omega arith)
 opened-higher {s = s} w inside = let h = settled-within w in (record { depth = omega arith; base = omega (arith, settles s) }, omega arith)
 
@@ -50,11 +50,11 @@ module _ (deep : ℕ) (s : Scan) (ks xs : List ℕ) where
   at-leaf k a h f = rw (ne-eqb k Kind.Field (omega arith), f, children-leaf k a h)
 
   at-list : wrapped s .depth ≤ deep → scanType deep s (Kind.List ∷ ks) (0 ∷ xs) ≡ scanType deep (wrapped s) ks xs
-  unfolding scanType typeFits argumentFits ruleOf children
+  unfolding scanType typeFits argumentFits argumentRule children
   at-list h = rw (le-leb (wrapped s .depth) deep h)
 
   at-array : (a : ℕ) → wrapped s .depth ≤ deep → scanType deep s (Kind.Array ∷ ks) (a ∷ xs) ≡ scanType deep (wrapped s) ks xs
-  unfolding scanType typeFits argumentFits ruleOf children
+  unfolding scanType typeFits argumentFits argumentRule children
   at-array a h = rw (le-leb (wrapped s .depth) deep h)
 
   at-struct : (a : ℕ) → argumentFits Kind.Struct a ≡ true → opened a s .depth ≤ deep → scanType deep s (Kind.Struct ∷ ks) (a ∷ xs) ≡ scanFields deep (opened a s) ks xs
@@ -70,7 +70,7 @@ module _ (deep : ℕ) where
   mutual
     unfolding size count kindsOf argsOf Ruled
 
-    type-onto : (t : DataType) → Ruled t → (top : ℕ) {s : Scan} → Within top s → top + 2 * size t ≤ deep → (ks xs : List ℕ) → Onto deep (top + 2 * size t) (s .owed) ks xs (scanType deep s (kindsOf t ++ ks) (argsOf t ++ xs))
+    type-onto : (t : DataType) → Ruled t → (top : ℕ) {s : Scan} → NoDeeper top s → top + 2 * size t ≤ deep → (ks xs : List ℕ) → Onto deep (top + 2 * size t) (s .owed) ks xs (scanType deep s (kindsOf t ++ ks) (argsOf t ++ xs))
     type-onto (leaf k a) r top {s} w h ks xs = record { state = s; within = higher w (omega arith); owes = refl; same = at-leaf deep s ks xs k a (r .0) (r .1) }
     type-onto (list t) r top {s} w h ks xs =
         let v = wrapped-higher w in
@@ -82,7 +82,7 @@ module _ (deep : ℕ) where
         let v = opened-higher w (opens (count fs) s) in
         onto (top + 2 * suc (sizes fs)) (s .owed) (fields-onto fs (r .1) (top + 2) (s .owed) (v .0) (v .1) (omega arith) ks xs) (omega arith) refl (at-struct deep s _ _ (count fs) (r .0) (omega arith))
 
-    fields-onto : (fs : Fields) → RuledFields fs → (top m : ℕ) {s : Scan} → Within top s → s .owed ≡ count fs + m → top + 2 * sizes fs ≤ deep → (ks xs : List ℕ) → Onto deep (top + 2 * sizes fs) m ks xs (scanFields deep s (kindsOfs fs ++ ks) (argsOfs fs ++ xs))
+    fields-onto : (fs : Fields) → RuledFields fs → (top m : ℕ) {s : Scan} → NoDeeper top s → s .owed ≡ count fs + m → top + 2 * sizes fs ≤ deep → (ks xs : List ℕ) → Onto deep (top + 2 * sizes fs) m ks xs (scanFields deep s (kindsOfs fs ++ ks) (argsOfs fs ++ xs))
     fields-onto empty r top m {s} w e h ks xs = record { state = s; within = higher w (omega arith); owes = omega arith; same = refl }
     fields-onto (field name t fs) r top m {s} w e h ks xs =
         let one = type-onto t (r .1) top (paid-within w) (omega arith) (kindsOfs fs ++ ks) (argsOfs fs ++ xs) in

@@ -2,7 +2,7 @@
 use mathlib.Core.Path.{refl, sym, ap}
 use Prim.Native.Nat.{ℕ, zero, suc, _≤_, _<_}
 use native.Mathlib.Omega.{arith}
-use Rattle.flat.specs.Argument.{argumentFits, ruleOf}
+use Rattle.flat.specs.Argument.{argumentFits, argumentRule}
 use Rattle.flat.specs.Tree.{DataType, size, depth, count, kindsOf, argsOf}
 use Rattle.flat.specs.Reading.{Ruled, RuledFields, checkedNumber}
 use Rattle.flat.specs.Limits.{int8, lists, fieldsOf, wide, Passes, Gets, DepthLimit, NodeLimit}
@@ -28,7 +28,7 @@ module _ (nodes deep : ℕ) (t : DataType) (r : Ruled t) where
 
 -- document 01's trees keep the rules
 int8-ruled : Ruled int8
-unfolding Ruled argumentFits ruleOf
+unfolding Ruled argumentFits argumentRule
 int8-ruled = (omega arith, refl)
 
 lists-ruled : (n : ℕ) (t : DataType) → Ruled t → Ruled (lists n t)
@@ -37,12 +37,12 @@ lists-ruled zero t r = r
 lists-ruled (suc n) t r = lists-ruled n t r
 
 fields-ruled : (n : ℕ) (t : DataType) → Ruled t → RuledFields (fieldsOf n t)
-unfolding fieldsOf Ruled argumentFits ruleOf
+unfolding fieldsOf Ruled argumentFits argumentRule
 fields-ruled zero t r = tt
 fields-ruled (suc n) t r = (refl, r, fields-ruled n t r)
 
 wide-ruled : Ruled wide
-unfolding Ruled fieldsOf count argumentFits ruleOf
+unfolding Ruled fieldsOf count argumentFits argumentRule
 wide-ruled = (refl, fields-ruled 255 int8 int8-ruled)
 
 pub depth-limit : {nodes deep : ℕ} → size (lists 33 int8) ≤ nodes → depth (lists 32 int8) ≤ deep → deep < depth (lists 33 int8) → DepthLimit nodes deep

@@ -9,7 +9,7 @@ use borrow.Author.Tests.{le-leb, lt-ltb, eq-eqb, leb-true, eqb-true}
 use lib.Dec.{leb, ltb, eqb}
 use lib.ListN.{length, getD, drop-of-length-le}
 use Rattle.flat.specs.Kind
-use Rattle.flat.specs.Argument.{argumentFits, ruleOf}
+use Rattle.flat.specs.Argument.{argumentFits, argumentRule}
 use Rattle.flat.specs.Tree.{DataType, leaf, list, array, struct, Fields, empty, field, size, depth, kindsOf, kindsOfs, argsOf, argsOfs, count, headKind, headArg}
 use Rattle.flat.specs.Reader.{nodeAt}
 use Rattle.flat.specs.Reading.{Reading, refused, type, unless, lengthFits, kindsFit, argumentsFit, shaped, reading, checkedOf, Ruled, RuledFields, IsType}
@@ -50,7 +50,7 @@ mutual
   kinds-fits (field name t fs) r ks = ap kindsFit (append-assoc (kindsOf t) (kindsOfs fs) ks) ∙ kinds-fit t (r .1) (kindsOfs fs ++ ks) ∙ kinds-fits fs (r .2) ks
 
 mutual
-  unfolding Ruled kindsOf argsOf argumentsFit argumentFits ruleOf
+  unfolding Ruled kindsOf argsOf argumentsFit argumentFits argumentRule
 
   arguments-fit : (t : DataType) → Ruled t → (ks xs : List ℕ) → argumentsFit (kindsOf t ++ ks) (argsOf t ++ xs) ≡ argumentsFit ks xs
   arguments-fit (leaf k a) r ks xs = rw (r .1)
@@ -118,7 +118,7 @@ both true b e = (refl, e)
 both false b e = absurd (let z : _≡_ {A = ℕ} 0 1 = cc in omega arith)
 
 mutual
-  unfolding Ruled Good kindsOf argsOf argumentsFit argumentFits ruleOf
+  unfolding Ruled Good kindsOf argsOf argumentsFit argumentFits argumentRule
 
   -- fitting arguments of a tree, and of what follows it
   ruled : (t : DataType) → Good t → (ks xs : List ℕ) → argumentsFit (kindsOf t ++ ks) (argsOf t ++ xs) ≡ true → Ruled t × (argumentsFit ks xs ≡ true)

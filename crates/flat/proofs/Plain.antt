@@ -8,7 +8,7 @@ use borrow.Author.Tests.{eq-eqb, ne-eqb, lt-leb, leb-true, eqb-true, ltb-true, l
 use lib.Dec.{T, leb, ltb, eqb}
 use lib.ListN.{length, getD}
 use Rattle.flat.specs.Kind
-use Rattle.flat.specs.Argument.{ruleOf, argumentFits, leafFits, plainLeaf}
+use Rattle.flat.specs.Argument.{argumentRule, argumentFits, leafFits, plainLeaf}
 use Rattle.flat.specs.Tree.{leaf, size, depth, kindsOf, argsOf}
 use Rattle.flat.specs.Reading.{type, reading, checkedOf, onePlain, Ruled}
 use Rattle.flat.proofs.Meaning.{Passed, check-passed, passes as type-passes}
@@ -17,7 +17,7 @@ use Rattle.flat.proofs.Rules.{run, passes}
 -- ---- the test of one node
 -- every leaf but Decimal may have the argument 0
 zero-fits : T (run (λ k. eqb k Kind.Decimal || leafFits k 0) 0 Kind.List)
-unfolding argumentFits ruleOf
+unfolding argumentFits argumentRule
 zero-fits = tt
 
 pub argument-told : (k a : ℕ) → (a ≡ 0 → ⊥) → false ≡ plainLeaf k a
@@ -25,7 +25,7 @@ unfolding plainLeaf
 argument-told k a h = rw (ne-eqb a 0 h)
 
 pub decimal-told : (k a : ℕ) → a ≡ 0 → k ≡ Kind.Decimal → false ≡ plainLeaf k a
-unfolding plainLeaf argumentFits ruleOf
+unfolding plainLeaf argumentFits argumentRule
 decimal-told k a z e = rw (z, e)
 
 pub kind-told : (k a : ℕ) → a ≡ 0 → (k ≡ Kind.Decimal → ⊥) → ltb k Kind.List ≡ plainLeaf k a

@@ -6,7 +6,7 @@ use Prim.Native.Nat.{ℕ, _≤_, _<_}
 use native.Mathlib.Omega.{arith}
 use lib.ListN.{length, getD}
 use Rattle.flat.specs.Kind
-use Rattle.flat.specs.Argument.{ruleOf, argumentFits}
+use Rattle.flat.specs.Argument.{argumentRule, argumentFits}
 use Rattle.flat.specs.Tree.{DataType, leaf, list, array, struct, headKind, headArg}
 use Rattle.flat.specs.Reading.{Reading, reading, checkedOf, rootOf, RootFits, Ruled}
 use Rattle.flat.specs.declared.error.Error.{Error}
@@ -17,7 +17,7 @@ use Rattle.flat.proofs.Meaning.{Passed, checked-refused, root-kind, roo
 use Rattle.flat.proofs.Plain.{PlainType}
 
 root-ruled : (t : DataType) → Ruled t → (headKind t ≤ Kind.Struct) × (argumentFits (headKind t) (headArg t) ≡ true)
-unfolding Ruled headKind headArg argumentFits ruleOf
+unfolding Ruled headKind headArg argumentFits argumentRule
 root-ruled (leaf k a) r = (omega (arith, r .0), r .1)
 root-ruled (list t) r = (omega arith, refl)
 root-ruled (array w t) r = (omega arith, refl)

@@ -6,7 +6,7 @@ use native.Mathlib.Omega.{arith}
 use borrow.Author.Tests.{eqb-true, eqb-false, lt-leb}
 use lib.Dec.{T, leb, eqb}
 use Rattle.flat.specs.Kind
-use Rattle.flat.specs.Argument.{Rule, decimal, datetime, below, free, ruleOf, follows, argumentFits}
+use Rattle.flat.specs.Argument.{Rule, decimal, datetime, below, free, argumentRule, follows, argumentFits}
 
 -- f holds of the n numbers from lo on
 abbrev pub run : (ℕ → Bool) → ℕ → ℕ → Bool
@@ -89,12 +89,12 @@ free-follows (below n) a t = absurd t
 free-follows free a t = refl
 
 -- a run of kinds whose rules all say v of an argument, by the test p
-pub ruled : (p : Rule → Bool) {v : ℕ → Bool} → ((r : Rule) (a : ℕ) → T (p r) → v a ≡ follows r a) → (lo n : ℕ) → T (run (λ k. leb k Kind.Field && p (ruleOf k)) lo n) → (k a : ℕ) → lo ≤ k → k < lo + n → v a ≡ argumentFits k a
+pub ruled : (p : Rule → Bool) {v : ℕ → Bool} → ((r : Rule) (a : ℕ) → T (p r) → v a ≡ follows r a) → (lo n : ℕ) → T (run (λ k. leb k Kind.Field && p (argumentRule k)) lo n) → (k a : ℕ) → lo ≤ k → k < lo + n → v a ≡ argumentFits k a
 unfolding argumentFits
-ruled p {v} says lo n t k a h l = go (leb k Kind.Field) (in-run (λ k. leb k Kind.Field && p (ruleOf k)) lo n t k h l)
+ruled p {v} says lo n t k a h l = go (leb k Kind.Field) (in-run (λ k. leb k Kind.Field && p (argumentRule k)) lo n t k h l)
   where
-    go : (b : Bool) → T (b && p (ruleOf k)) → v a ≡ (b && follows (ruleOf k) a)
-    go true u = says (ruleOf k) a u
+    go : (b : Bool) → T (b && p (argumentRule k)) → v a ≡ (b && follows (argumentRule k) a)
+    go true u = says (argumentRule k) a u
     go false u = absurd u
 
 pub no-kind : (k a : ℕ) → Kind.Field < k → false ≡ argumentFits k a

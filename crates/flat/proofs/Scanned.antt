@@ -13,7 +13,7 @@ use Rattle.flat.specs.Tree.{DataType, leaf, list, array, struct, Fields,
 use Rattle.flat.specs.Reader.{Children, no-child, under-list, under-array, fields, no-type, children}
 use Rattle.flat.specs.Reading.{lengthFits, reading, checkedOf, onePlain, Ruled, RuledFields}
 use Rattle.flat.specs.Refusals.{FlatForm}
-use Rattle.flat.specs.Scan.{Within, start, settled, wrapped, opened, paid, typeFits, fieldFits, after, scanType, scanFields, accepted}
+use Rattle.flat.specs.Scan.{NoDeeper, start, settled, wrapped, opened, paid, typeFits, fieldFits, after, scanType, scanFields, scanAccepts}
 use Rattle.flat.specs.declared.scan.Scan.{Scan}
 use Rattle.flat.proofs.Positions.{children-leaf}
 use Rattle.flat.proofs.Plain.{plain-type}
@@ -221,7 +221,7 @@ module _ (deep : ℕ) (s : Scan) where
         go false e = inner-field (leb-false (s .owed) (s .outer) e)
 
 -- ---- the scan
-module _ (deep : ℕ) (s : Scan) (w : Within deep s) (ks xs : List ℕ) (x y z : Bool) where
+module _ (deep : ℕ) (s : Scan) (w : NoDeeper deep s) (ks xs : List ℕ) (x y z : Bool) where
   -- a node, from what the scan of the rest tells in each case
   one-node :
       {k a : ℕ} (c : Children)
@@ -265,7 +265,7 @@ module _ (deep : ℕ) (s : Scan) (w : Within deep s) (ks xs : List ℕ) (x y z :
 mutual
   unfolding scanType typeFits fieldFits
 
-  type-then : (deep : ℕ) (ks xs : List ℕ) (s : Scan) → Within deep s → scanType deep s ks xs ≡ true → TypeThen deep s ks xs
+  type-then : (deep : ℕ) (ks xs : List ℕ) (s : Scan) → NoDeeper deep s → scanType deep s ks xs ≡ true → TypeThen deep s ks xs
   type-then deep [] xs s w e = absurd (let z : _≡_ {A = ℕ} 0 1 = cc in omega arith)
   type-then deep (k ∷ ks) [] s w e = absurd (let z : _≡_ {A = ℕ} 0 1 = cc in omega arith)
   type-then deep (k ∷ ks) (a ∷ xs) s w e =
@@ -280,7 +280,7 @@ mutual
       fields-then deep ks xs (opened a s) (opened-within w (opens a s) (leb-true (opened a s .depth) deep (on .0))) (on .1))
       (both .1)
 
-  fields-then : (deep : ℕ) (ks xs : List ℕ) (s : Scan) → Within deep s → scanFields deep s ks xs ≡ true → FieldsThen deep s ks xs
+  fields-then : (deep : ℕ) (ks xs : List ℕ) (s : Scan) → NoDeeper deep s → scanFields deep s ks xs ≡ true → FieldsThen deep s ks xs
   fields-then deep [] [] s w e = no-owed (eqb-true (s .owed) 0 e)
   fields-then deep [] (a ∷ xs) s w e = absurd (let z : _≡_ {A = ℕ} 0 1 = cc in omega arith)
   fields-then deep (k ∷ ks) [] s w e = absurd (let z : _≡_ {A = ℕ} 0 1 = cc in omega arith)
@@ -311,8 +311,8 @@ scanned deep ks xs e = go (type-then deep ks xs start (start-within deep) e)
         )
 
 -- So two arrays that it accepts are a type.
-pub accepted-passed : (nodes deep : ℕ) (ks xs : List ℕ) → accepted nodes deep ks xs ≡ true → Passed nodes deep ks xs
-unfolding accepted
+pub accepted-passed : (nodes deep : ℕ) (ks xs : List ℕ) → scanAccepts nodes deep ks xs ≡ true → Passed nodes deep ks xs
+unfolding scanAccepts
 accepted-passed nodes deep ks xs e =
     let both = and-eq-true-iff (lengthFits nodes ks xs) (scanType deep start ks xs) .0 e in
     let s = scanned deep ks xs (both .1) in
@@ -323,26 +323,26 @@ accepted-passed nodes deep ks xs e =
 
 -- which arrays it accepts
 module _ (nodes deep : ℕ) (ks xs : List ℕ) where
-  pub uneven-told : (length ks ≡ length xs → ⊥) → false ≡ accepted nodes deep ks xs
-  unfolding accepted lengthFits
+  pub uneven-told : (length ks ≡ length xs → ⊥) → false ≡ scanAccepts nodes deep ks xs
+  unfolding scanAccepts lengthFits
   uneven-told e = rw (ne-eqb (length ks) (length xs) e)
 
-  pub many-told : length ks ≡ length xs → nodes < length ks → false ≡ accepted nodes deep ks xs
-  unfolding accepted lengthFits
+  pub many-told : length ks ≡ length xs → nodes < length ks → false ≡ scanAccepts nodes deep ks xs
+  unfolding scanAccepts lengthFits
   many-told e h = rw (eq-eqb (length ks) (length xs) e, lt-ltb 0 (length ks) (omega arith), lt-leb (length ks) nodes h)
 
   module _ (h : 1 ≤ nodes) where
-    leaf-accepted : (k : ℕ) → k < Kind.List → argumentFits k 0 ≡ true → accepted nodes deep (k ∷ []) (0 ∷ []) ≡ true
-    unfolding accepted lengthFits scanType typeFits
+    leaf-accepted : (k : ℕ) → k < Kind.List → argumentFits k 0 ≡ true → scanAccepts nodes deep (k ∷ []) (0 ∷ []) ≡ true
+    unfolding scanAccepts lengthFits scanType typeFits
     leaf-accepted k l f = rw (le-leb 1 nodes h, ne-eqb k Kind.Field (omega arith), f, children-leaf k 0 (omega arith))
 
-    pub plain-told : onePlain ks xs ≡ true → true ≡ accepted nodes deep ks xs
+    pub plain-told : onePlain ks xs ≡ true → true ≡ scanAccepts nodes deep ks xs
     plain-told e =
         let p = plain-type nodes deep ks xs h e in
-        sym (ap₂ (accepted nodes deep) (p .kinds) (p .args) ∙ leaf-accepted (getD ks 0 0) (p .low) (p .fits))
+        sym (ap₂ (scanAccepts nodes deep) (p .kinds) (p .args) ∙ leaf-accepted (getD ks 0 0) (p .low) (p .fits))
 
-pub scan-told : (nodes deep : ℕ) (ks xs : List ℕ) → length ks ≡ length xs → length ks ≤ nodes → scanType deep start ks xs ≡ accepted nodes deep ks xs
-unfolding accepted lengthFits scanType
+pub scan-told : (nodes deep : ℕ) (ks xs : List ℕ) → length ks ≡ length xs → length ks ≤ nodes → scanType deep start ks xs ≡ scanAccepts nodes deep ks xs
+unfolding scanAccepts lengthFits scanType
 scan-told nodes deep [] [] e h = refl
 scan-told nodes deep [] (a ∷ xs) e h = absurd (omega arith)
 scan-told nodes deep (k ∷ ks) xs e h = rw (eq-eqb (length (k ∷ ks)) (length xs) e, lt-ltb 0 (length (k ∷ ks)) (omega arith), le-leb (length (k ∷ ks)) nodes h)

@@ -10,9 +10,9 @@ use lib.Dec.{leb, ltb, eqb}
 use lib.ListN.{length, getD, drop, drop-of-length-le}
 use lib.Seq.{drop-cons}
 use Rattle.flat.specs.Kind
-use Rattle.flat.specs.Argument.{argumentFits, ruleOf, follows}
+use Rattle.flat.specs.Argument.{argumentFits, argumentRule, follows}
 use Rattle.flat.specs.Reader.{children}
-use Rattle.flat.specs.Scan.{Within, start, wrapped, opened, paid, typeFits, fieldFits, after, scanType, scanFields}
+use Rattle.flat.specs.Scan.{NoDeeper, start, wrapped, opened, paid, typeFits, fieldFits, after, scanType, scanFields}
 use Rattle.flat.specs.declared.scan.Scan.{Scan}
 use Rattle.flat.proofs.Positions.{children-leaf, children-list, children-array, children-struct}
 use Rattle.flat.proofs.States.{Opened, outermost, inside, opens, wrapped-owed, paid-owed, start-within, wrapped-within, opened-within, paid-within}
@@ -25,7 +25,7 @@ no-field k a h e = rw (ne-eqb k Kind.Field h) e
 
 -- Decimal's argument is never 0
 zero-decimal : (k a : ℕ) → a ≡ 0 → k ≡ Kind.Decimal → false ≡ argumentFits k a
-unfolding argumentFits ruleOf
+unfolding argumentFits argumentRule
 zero-decimal k a z e = rw (e, z)
 
 -- a leaf with the argument 0
@@ -41,11 +41,11 @@ fitting : (k a : ℕ) → typeFits k a ≡ true → (k ≤ Kind.Struct) × (argu
 unfolding typeFits argumentFits
 fitting k a e =
     let both = and-eq-true-iff (not (eqb k Kind.Field)) (argumentFits k a) .0 e in
-    let low = leb-true k Kind.Field (and-eq-true-iff (leb k Kind.Field) (follows (ruleOf k) a) .0 (both .1) .0) in
+    let low = leb-true k Kind.Field (and-eq-true-iff (leb k Kind.Field) (follows (argumentRule k) a) .0 (both .1) .0) in
     (omega (arith, eqb-false k Kind.Field (not-true (eqb k Kind.Field) (both .0))), both .1)
 
 list-zero : (k a : ℕ) → k ≡ Kind.List → argumentFits k a ≡ true → a ≡ 0
-unfolding argumentFits ruleOf
+unfolding argumentFits argumentRule
 list-zero k a e f = eqb-true a 0 (rw e at f)
 
 -- which answer counts after a node that fits
@@ -64,7 +64,7 @@ module _ (k a : ℕ) (f : typeFits k a ≡ true) (x y z : Bool) where
   after-struct l = rw (f, children-struct k a (omega (arith, fitting k a f)))
 
 struct-few : (k a : ℕ) → k ≡ Kind.Struct → argumentFits k a ≡ true → a ≤ 255
-unfolding argumentFits ruleOf
+unfolding argumentFits argumentRule
 struct-few k a e f = let h = ltb-true a 256 (rw e at f) in omega arith
 
 opened-owed : {m : ℕ} {s r : Scan} → Opened m s r → r .owed ≤ s .owed + m
@@ -78,14 +78,14 @@ module _ (deep : ℕ) (ks xs : List ℕ) (at : ℕ) (s : Scan) where
     pub even : length ks ≡ length xs
     pub here : at ≤ length ks
     pub owed : s .owed ≤ 255 * at
-    pub within : Within deep s
+    pub within : NoDeeper deep s
     pub says : scanType deep start ks xs ≡ scanType deep s (drop at ks) (drop at xs)
 
   pub record AtFields : Type 0 where
     pub even : length ks ≡ length xs
     pub here : at ≤ length ks
     pub owed : s .owed ≤ 255 * at
-    pub within : Within deep s
+    pub within : NoDeeper deep s
     pub says : scanType deep start ks xs ≡ scanFields deep s (drop at ks) (drop at xs)
 
 pub at-start : (deep : ℕ) (ks xs : List ℕ) (r : Scan) → length ks ≡ length xs → r ≡ start → AtType deep ks xs 0 r

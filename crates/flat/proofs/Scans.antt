@@ -10,7 +10,7 @@ use lib.ListN.{length, getD, drop, drop-of-length-le}
 use lib.Seq.{drop-cons}
 use borrow.Author.Tests.{le-leb, lt-leb}
 use Rattle.flat.specs.Kind
-use Rattle.flat.specs.Argument.{ruleOf, follows, argumentFits}
+use Rattle.flat.specs.Argument.{argumentRule, follows, argumentFits}
 use Rattle.flat.specs.Reading.{kindsFit, argumentsFit}
 
 module _ (ks : List ℕ) (i : ℕ) (e : kindsFit ks ≡ kindsFit (drop i ks)) where
@@ -50,7 +50,7 @@ pub arguments-kinds : (ks xs : List ℕ) → length ks ≡ length xs → argumen
 unfolding kindsFit argumentsFit argumentFits
 arguments-kinds [] xs e f = refl
 arguments-kinds (k ∷ ks) [] e f = absurd (omega arith)
-arguments-kinds (k ∷ ks) (a ∷ xs) e f = go (leb k Kind.Field) (follows (ruleOf k) a) (arguments-kinds ks xs (omega arith)) f
+arguments-kinds (k ∷ ks) (a ∷ xs) e f = go (leb k Kind.Field) (follows (argumentRule k) a) (arguments-kinds ks xs (omega arith)) f
   where
     go : (b c : Bool) → (argumentsFit ks xs ≡ true → kindsFit ks ≡ true) → (b && c && argumentsFit ks xs) ≡ true → (b && kindsFit ks) ≡ true
     go true true r q = r q

@@ -13,7 +13,7 @@ use lib.Seq.{drop-cons}
 use Rattle.flat.specs.Kind
 use Rattle.flat.specs.Tree.{DataType, Fields, size, sizes, depth, depths}
 use Rattle.flat.specs.Reader.{Children, no-child, under-list, under-array, fields, no-type, children}
-use Rattle.flat.specs.Walk.{Node, Valid, ValidRun, typeAt, runAt}
+use Rattle.flat.specs.Walk.{FrontType, Valid, ValidRun, typeAt, runAt}
 use Rattle.flat.specs.Span.{spanWithin, spansWithin, wrapping, wrappersOf}
 use Rattle.flat.specs.declared.span.Span.{Span}
 use Rattle.flat.specs.declared.span.Span.the-variants.{Ends, TooDeep}
@@ -111,7 +111,7 @@ pub record Lowest (ks xs : List ℕ) (t : DataType) (n : ℕ) : Type 0 where
   pub levels : depth t ≡ n + depth (typeAt (from n ks) (from n xs))
   pub last : Kind.List ≤ getD ks n 0 → getD ks n 0 ≡ Kind.Struct
 
-no-more : {ks xs : List ℕ} {t : DataType} → Node ks xs t → (Kind.List ≤ getD ks 0 0 → getD ks 0 0 ≡ Kind.Struct) → Lowest ks xs t 0
+no-more : {ks xs : List ℕ} {t : DataType} → FrontType ks xs t → (Kind.List ≤ getD ks 0 0 → getD ks 0 0 ≡ Kind.Struct) → Lowest ks xs t 0
 no-more {ks} {xs} {t} n h =
     let e = type-is ks xs t (n .read) in
     record {
@@ -140,7 +140,7 @@ one-more {k} {a} {n} {f} {ks} {xs} {u} w b =
     past : (j : ℕ) (l : List ℕ) → from (suc n) (j ∷ l) ≡ from n l
     past j l = rest (j ∷ l) (suc n) ∙ sym (rest l n)
 
-lowest : (ks xs : List ℕ) (t : DataType) → Node ks xs t → Lowest ks xs t (wrappersOf ks xs)
+lowest : (ks xs : List ℕ) (t : DataType) → FrontType ks xs t → Lowest ks xs t (wrappersOf ks xs)
 unfolding wrappersOf children
 lowest [] xs t n = absurd (omega arith)
 lowest (k ∷ ks) [] t n = absurd (omega arith)
@@ -150,7 +150,7 @@ lowest (k ∷ ks) (a ∷ xs) t n = go t (at-node (k ∷ ks) (a ∷ xs) t n) n (l
     unary Unary.is-list = refl
     unary Unary.is-array = refl
 
-    go : (t : DataType) → AtNode (k ∷ ks) (a ∷ xs) t → Node (k ∷ ks) (a ∷ xs) t → ((u : DataType) → Node ks xs u → Lowest ks xs u (wrappersOf ks xs)) → Lowest (k ∷ ks) (a ∷ xs) t (wrapping (children k a) (wrappersOf ks xs))
+    go : (t : DataType) → AtNode (k ∷ ks) (a ∷ xs) t → FrontType (k ∷ ks) (a ∷ xs) t → ((u : DataType) → FrontType ks xs u → Lowest ks xs u (wrappersOf ks xs)) → Lowest (k ∷ ks) (a ∷ xs) t (wrapping (children k a) (wrappersOf ks xs))
     go t (at-leaf h) n r = rw (children-leaf k a h) (no-more n (λ g. absurd (omega arith)))
     go t (at-one {f} {u} w m) n r = rw (unary w) (one-more w (r u (rw (rest, rest) at m)))
     go t (at-struct e m) n r = rw (children-struct k a e) (no-more n (λ g. e))

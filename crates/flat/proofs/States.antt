@@ -6,7 +6,7 @@ use native.Mathlib.Omega.{arith}
 use native.Mathlib.Numerals.{add-two}
 use borrow.Author.Tests.{eqb-true, ltb-true, ltb-false, eq-eqb, ne-eqb}
 use lib.Dec.{ltb, eqb}
-use Rattle.flat.specs.Scan.{Within, start, settled, wrapped, opened, paid}
+use Rattle.flat.specs.Scan.{NoDeeper, start, settled, wrapped, opened, paid}
 use Rattle.flat.specs.declared.scan.Scan.{Scan}
 
 -- What r, the settled s, keeps of it: as many fields are owed by inner Structs, and where some are, it is s.
@@ -76,7 +76,7 @@ unfolding paid
 paid-owed s = omega arith
 
 -- the bound, one step on
-module _ {deep : ℕ} {s : Scan} (w : Within deep s) where
+module _ {deep : ℕ} {s : Scan} (w : NoDeeper deep s) where
   pub settled-within : settled s .depth ≤ deep
   settled-within = go (ltb (s .owed) (s .outer)) refl
     where
@@ -84,20 +84,20 @@ module _ {deep : ℕ} {s : Scan} (w : Within deep s) where
       go true e = omega (arith, settles s .back (ltb-true (s .owed) (s .outer) e))
       go false e = omega (arith, settles s .stays (ltb-false (s .owed) (s .outer) e))
 
-  pub within-more : {n : ℕ} → deep ≤ n → Within n s
+  pub within-more : {n : ℕ} → deep ≤ n → NoDeeper n s
   within-more h = record { depth = omega arith; base = omega arith }
 
-  pub wrapped-within : wrapped s .depth ≤ deep → Within deep (wrapped s)
+  pub wrapped-within : wrapped s .depth ≤ deep → NoDeeper deep (wrapped s)
   unfolding wrapped
   wrapped-within h = record { depth = h; base = omega (arith, settles s) }
 
-  pub opened-within : {m : ℕ} {r : Scan} → Opened m s r → r .depth ≤ deep → Within deep r
+  pub opened-within : {m : ℕ} {r : Scan} → Opened m s r → r .depth ≤ deep → NoDeeper deep r
   opened-within (outermost e) h = record { depth = h; base = h }
   opened-within inside h = record { depth = h; base = omega (arith, settles s) }
 
-  pub paid-within : Within deep (paid s)
+  pub paid-within : NoDeeper deep (paid s)
   unfolding paid
   paid-within = record { depth = w .depth; base = w .base }
 
-pub start-within : (deep : ℕ) → Within deep start
+pub start-within : (deep : ℕ) → NoDeeper deep start
 start-within deep = record { depth = omega arith; base = omega arith }

@@ -13,7 +13,7 @@ use borrow.Author.Tests.{eqb-true}
 use Rattle.flat.specs.Kind
 use Rattle.flat.specs.Tree.{DataType, leaf, list, array, struct, Fields, empty, field, size, sizes, count, headKind, headArg}
 use Rattle.flat.specs.Reader.{Children, no-child, under-list, under-array, fields, no-type, children, mapO, bindO, underNode, underField, nodeAt, fieldsAt}
-use Rattle.flat.specs.Walk.{Node, Run, orElse, typeAt, runAt, Valid, ValidRun}
+use Rattle.flat.specs.Walk.{FrontType, FrontFields, withDefault, typeAt, runAt, Valid, ValidRun}
 use Rattle.flat.proofs.Sizes.{size-pos}
 use Rattle.flat.proofs.ReadBack.{View, is-leaf, is-struct, is-other, view, bounded, bounds, count-read, count-is}
 use Rattle.flat.proofs.Positions.{rest, node-at, fields-at, fields-zero}
@@ -29,10 +29,10 @@ length-from j l = rw (rest, length-drop)
 pub shorter : (l : List ℕ) (n t : ℕ) → length l ≡ t → 0 < length l → length (from (n + 1) l) < t
 shorter l n t e h = let a = length-from (n + 1) l in omega arith
 
-pub node-of : (ks xs : List ℕ) (t : DataType) → length ks ≡ length xs → nodeAt ks xs ≡ some t → Node ks xs t
+pub node-of : (ks xs : List ℕ) (t : DataType) → length ks ≡ length xs → nodeAt ks xs ≡ some t → FrontType ks xs t
 node-of ks xs t e r = record { read = r; even = e; pos = size-pos t; within = bounded ks xs t r }
 
-pub run-of : (m : ℕ) (ks xs : List ℕ) (fs : Fields) → length ks ≡ length xs → fieldsAt m ks xs ≡ some fs → Run m ks xs fs
+pub run-of : (m : ℕ) (ks xs : List ℕ) (fs : Fields) → length ks ≡ length xs → fieldsAt m ks xs ≡ some fs → FrontFields m ks xs fs
 run-of m ks xs fs e r = record { read = r; even = e; pos = count-read m ks xs fs r; within = bounds m ks xs fs r }
 
 part-even : (j : ℕ) (ks xs : List ℕ) → length ks ≡ length xs → length (from j ks) ≡ length (from j xs)
@@ -46,14 +46,14 @@ pub data Unary : ℕ → ℕ → (DataType → DataType) → Type 0 where
 -- the cases at a node
 pub data AtNode (ks xs : List ℕ) : DataType → Type 0 where
   at-leaf : getD ks 0 0 ≤ Kind.UnknownIntNeg → AtNode ks xs (leaf (getD ks 0 0) (getD xs 0 0))
-  at-one : {f : DataType → DataType} {u : DataType} → Unary (getD ks 0 0) (getD xs 0 0) f → Node (from 1 ks) (from 1 xs) u → AtNode ks xs (f u)
-  at-struct : {fs : Fields} → getD ks 0 0 ≡ Kind.Struct → Run (getD xs 0 0) (from 1 ks) (from 1 xs) fs → AtNode ks xs (struct fs)
+  at-one : {f : DataType → DataType} {u : DataType} → Unary (getD ks 0 0) (getD xs 0 0) f → FrontType (from 1 ks) (from 1 xs) u → AtNode ks xs (f u)
+  at-struct : {fs : Fields} → getD ks 0 0 ≡ Kind.Struct → FrontFields (getD xs 0 0) (from 1 ks) (from 1 xs) fs → AtNode ks xs (struct fs)
 
 some-of : {A B : Type 0} (f : A → B) (q : Option A) (b : B) → mapO f q ≡ some b → (a : A) × (q ≡ some a) × (b ≡ f a)
 some-of f none b e = absurd (let y : _≡_ {A = ℕ} 0 1 = cc in omega arith)
 some-of f (some a) b e = (a, refl, cc)
 
-pub at-node : (ks xs : List ℕ) (t : DataType) → Node ks xs t → AtNode ks xs t
+pub at-node : (ks xs : List ℕ) (t : DataType) → FrontType ks xs t → AtNode ks xs t
 at-node ks xs t n = go (children (getD ks 0 0) (getD xs 0 0)) (view (getD ks 0 0) (getD xs 0 0)) refl refl (sym (node-at ks xs 0 (omega arith) (omega arith) (children (getD ks 0 0) (getD xs 0 0)) refl) ∙ n .read)
   where
     one : (f : DataType → DataType) → Unary (getD ks 0 0) (getD xs 0 0) f → mapO f (nodeAt (drop 1 ks) (drop 1 xs)) ≡ some t → AtNode ks xs t
@@ -71,9 +71,9 @@ at-node ks xs t n = go (children (getD ks 0 0) (getD xs 0 0)) (view (getD ks 0 0
 -- the cases at m fields
 pub data AtRun (m : ℕ) (ks xs : List ℕ) : Fields → Type 0 where
   at-end : m ≡ 0 → AtRun m ks xs empty
-  at-field : {t : DataType} {fs : Fields} → 0 < m → getD ks 0 0 ≡ Kind.Field → Node (from 1 ks) (from 1 xs) t → ((n : ℕ) → n ≡ size t → Run (m - 1) (from (n + 1) ks) (from (n + 1) xs) fs) → AtRun m ks xs (field (getD xs 0 0) t fs)
+  at-field : {t : DataType} {fs : Fields} → 0 < m → getD ks 0 0 ≡ Kind.Field → FrontType (from 1 ks) (from 1 xs) t → ((n : ℕ) → n ≡ size t → FrontFields (m - 1) (from (n + 1) ks) (from (n + 1) xs) fs) → AtRun m ks xs (field (getD xs 0 0) t fs)
 
-pub at-run : (m : ℕ) (ks xs : List ℕ) (fs : Fields) → Run m ks xs fs → AtRun m ks xs fs
+pub at-run : (m : ℕ) (ks xs : List ℕ) (fs : Fields) → FrontFields m ks xs fs → AtRun m ks xs fs
 at-run zero ks xs fs r = subst (λ (z : Fields). AtRun zero ks xs z) (let e = sym (fields-zero ks xs) ∙ r .read in let y : empty ≡ fs = cc in y) (at-end refl)
 at-run (suc m) ks xs fs r = by-field (eqb (getD ks 0 0) Kind.Field) refl (sym (fields-at (suc m) ks xs 0 (omega arith) (omega arith) (omega arith) (eqb (getD ks 0 0) Kind.Field) refl) ∙ r .read)
   where
@@ -96,17 +96,17 @@ at-run (suc m) ks xs fs r = by-field (eqb (getD ks 0 0) Kind.Field) refl (sym (f
 -- ---- the laws in the words of a walk's contract
 pub type-is : (ks xs : List ℕ) (t : DataType) → nodeAt ks xs ≡ some t → typeAt ks xs ≡ t
 unfolding typeAt
-type-is ks xs t e = ap (orElse (leaf 0 0)) e
+type-is ks xs t e = ap (withDefault (leaf 0 0)) e
 
 pub run-is : (m : ℕ) (ks xs : List ℕ) (fs : Fields) → fieldsAt m ks xs ≡ some fs → runAt m ks xs ≡ fs
 unfolding runAt
-run-is m ks xs fs e = ap (orElse empty) e
+run-is m ks xs fs e = ap (withDefault empty) e
 
-pub valid-of : {ks xs : List ℕ} {t : DataType} → Node ks xs t → Valid ks xs
-valid-of {ks} {xs} {t} n = subst (λ (z : DataType). Node ks xs z) (sym (type-is ks xs t (n .read))) n
+pub valid-of : {ks xs : List ℕ} {t : DataType} → FrontType ks xs t → Valid ks xs
+valid-of {ks} {xs} {t} n = subst (λ (z : DataType). FrontType ks xs z) (sym (type-is ks xs t (n .read))) n
 
-valid-run-of : {m : ℕ} {ks xs : List ℕ} {fs : Fields} → Run m ks xs fs → ValidRun m ks xs
-valid-run-of {m} {ks} {xs} {fs} n = subst (λ (z : Fields). Run m ks xs z) (sym (run-is m ks xs fs (n .read))) n
+valid-run-of : {m : ℕ} {ks xs : List ℕ} {fs : Fields} → FrontFields m ks xs fs → ValidRun m ks xs
+valid-run-of {m} {ks} {xs} {fs} n = subst (λ (z : Fields). FrontFields m ks xs z) (sym (run-is m ks xs fs (n .read))) n
 
 unary-kind : {k a : ℕ} {f : DataType → DataType} → Unary k a f → (Kind.UnknownIntNeg < k) × (k < Kind.Struct)
 unary-kind Unary.is-list = omega arith

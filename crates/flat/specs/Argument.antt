@@ -15,8 +15,8 @@ pub data Rule : Type 0 where
   free : Rule
 
 -- the rule of a kind: all others have 0
-unfoldable pub ruleOf : ℕ → Rule
-ruleOf k =
+unfoldable pub argumentRule : ℕ → Rule
+argumentRule k =
     cond (eqb k Kind.Decimal) decimal
     (cond (eqb k Kind.Datetime) datetime
     (cond (eqb k Kind.Duration) (below timeUnits)
@@ -45,7 +45,7 @@ follows free a = true
 
 -- a is an argument of the kind k; a code above 31 is no kind, and has none
 unfoldable pub argumentFits : ℕ → ℕ → Bool
-argumentFits k a = leb k Kind.Field && follows (ruleOf k) a
+argumentFits k a = leb k Kind.Field && follows (argumentRule k) a
 
 -- one node is a type: its kind has no child, and a is an argument of it
 abbrev pub leafFits : ℕ → ℕ → Bool

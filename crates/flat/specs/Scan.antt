@@ -16,7 +16,7 @@ abbrev pub start : Scan
 start = record { owed = 0; outer = 0; base = 0; depth = 0 }
 
 -- what stands next, and the outermost Struct's fields, are no deeper than so many levels
-pub record Within (deep : ℕ) (s : Scan) : Type 0 where
+pub record NoDeeper (deep : ℕ) (s : Scan) : Type 0 where
   pub depth : s .depth ≤ deep
   pub base : s .base ≤ deep
 
@@ -71,5 +71,5 @@ unfoldable mutual
   scanFields deep s (k ∷ ks) (a ∷ xs) = ltb 0 (s .owed) && fieldFits k a && scanType deep (paid s) ks xs
 
 -- two arrays of any length that the scan accepts
-unfoldable pub accepted : ℕ → ℕ → List ℕ → List ℕ → Bool
-accepted nodes deep ks xs = lengthFits nodes ks xs && scanType deep start ks xs
+unfoldable pub scanAccepts : ℕ → ℕ → List ℕ → List ℕ → Bool
+scanAccepts nodes deep ks xs = lengthFits nodes ks xs && scanType deep start ks xs

@@ -12,7 +12,7 @@ ghost use Prim.Native.Nat.{_*_};
 ghost use lib.ListN.{length};
 ghost use Rattle.flat.specs.Reader.{nodeAt};
 ghost use Rattle.flat.specs.Reading.{kindsFit, argumentsFit, shaped, reading, onePlain, checkedOf, checkedNumber, checkedValue, rootOf, rootNumber, rootKind, rootArg, RootFits};
-ghost use Rattle.flat.specs.Scan.{accepted, start, scanType};
+ghost use Rattle.flat.specs.Scan.{scanAccepts, start, scanType};
 ghost use Rattle.flat.specs.Output.{writtenNumber, writtenValue};
 use argument::argument_fits;
 use error::Error;
@@ -214,7 +214,7 @@ fn accepts_nodes(kinds: &[u8], args: &[u64]) -> bool
     ensures { λ r. do
       nodes ← ⟦Flat::MAX_NODES⟧ .entry
       deep ← ⟦Flat::MAX_DEPTH⟧ .entry
-      ⌜ r ≡ accepted nodes deep (now (kinds .entry)) (now (args .entry)) ⌝ }
+      ⌜ r ≡ scanAccepts nodes deep (now (kinds .entry)) (now (args .entry)) ⌝ }
 {
     if kinds.len() != args.len() {
         return false;
@@ -230,7 +230,7 @@ fn accepts(kinds: &[u8], args: &[u64]) -> bool
     ensures { λ r. do
       nodes ← ⟦Flat::MAX_NODES⟧ .entry
       deep ← ⟦Flat::MAX_DEPTH⟧ .entry
-      ⌜ r ≡ accepted nodes deep (now (kinds .entry)) (now (args .entry)) ⌝ }
+      ⌜ r ≡ scanAccepts nodes deep (now (kinds .entry)) (now (args .entry)) ⌝ }
 {
     if is_plain(kinds, args) {
         return true;

@@ -3,7 +3,7 @@
 ghost use mathlib.Core.Path.{_≡_};
 ghost use Prim.Native.Nat.{_+_, _≤_, _<_};
 ghost use lib.ListN.{length};
-ghost use Rattle.flat.specs.Scan.{Within, start, settled, wrapped, opened, paid, typeFits, fieldFits, scanType};
+ghost use Rattle.flat.specs.Scan.{NoDeeper, start, settled, wrapped, opened, paid, typeFits, fieldFits, scanType};
 use crate::argument::argument_fits;
 use crate::kind::Kind;
 
@@ -48,7 +48,7 @@ fn settled(s: Scan) -> Scan
 
 // Under a List or an Array.
 fn wrapped(s: Scan) -> Scan
-    requires { ⌜ Within 65536 s ⌝ }
+    requires { ⌜ NoDeeper 65536 s ⌝ }
     ensures { λ r. ⌜ r ≡ wrapped s ⌝ }
 {
     let at = settled(s);
@@ -62,7 +62,7 @@ fn wrapped(s: Scan) -> Scan
 
 // Under a Struct of so many fields. Where nothing is owed, it is the outermost one.
 fn opened(s: Scan, fields: usize) -> Scan
-    requires { ⌜ Within 65536 s × (s .owed + fields ≤ 16777216) ⌝ }
+    requires { ⌜ NoDeeper 65536 s × (s .owed + fields ≤ 16777216) ⌝ }
     ensures { λ r. ⌜ r ≡ opened fields s ⌝ }
 {
     let at = settled(s);

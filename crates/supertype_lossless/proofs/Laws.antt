@@ -16,7 +16,7 @@ use Rattle.supertype_numbers.specs.Format.{Format, formatOf, FormatIncludes}
 use Rattle.supertype_numbers.proofs.Tests.{to-listed, each, at, pairs, at-pair}
 use Rattle.supertype_numbers.proofs.Ranges.{inside, includes, least-one}
 use Rattle.supertype_numbers.proofs.Formats.{wider-format}
-use Rattle.supertype_lossless.specs.Lossless.{choose, floats, signed, unsigned, mixed, upcastWhere, upcastOf}
+use Rattle.supertype_lossless.specs.Lossless.{upcastBy, floats, signed, unsigned, mixed, upcastWhere, upcastOf}
 use Rattle.supertype_lossless.specs.Laws.{LosslessLaws}
 use Rattle.supertype_lossless.specs.declared.upcast.Upcast.{Upcast}
 use Rattle.supertype_lossless.specs.declared.upcast.Upcast.the-variants.{To, Nothing}
@@ -35,7 +35,7 @@ abbrev right : ℕ → ℕ → Bool
 right l r = least l r (upcastOf l r)
 
 tested : T (pairs (apart right))
-unfolding isListed upcastOf upcastWhere choose signed unsigned mixed among isFloat isUnknownInt isSignedInteger isUnsignedInteger isInteger isNested isUnknown
+unfolding isListed upcastOf upcastWhere upcastBy signed unsigned mixed among isFloat isUnknownInt isSignedInteger isUnsignedInteger isInteger isNested isUnknown
 tested = tt
 
 module _ (l r : ℕ) (p : Listed l) (q : Listed r) where
@@ -109,7 +109,7 @@ abbrev kept : ℕ → ℕ → Bool
 kept l r = ofFormat (formatOf l) (λ f. ofFormat (formatOf r) (λ g. ofUpcast (upcastOf l r) (λ h. wider h f && wider h g)))
 
 tested-floats : T (area (apart kept) Kind.Float16 3 Kind.Float16 3)
-unfolding formatOf upcastOf upcastWhere choose floats among isFloat isUnknownInt isSignedInteger isUnsignedInteger isInteger isNested isUnknown
+unfolding formatOf upcastOf upcastWhere upcastBy floats among isFloat isUnknownInt isSignedInteger isUnsignedInteger isInteger isNested isUnknown
 tested-floats = tt
 
 is-float : (k : ℕ) (f : Format) → formatOf k ≡ some f → (Kind.Float16 ≤ k) × (k < Kind.Float16 + 3)

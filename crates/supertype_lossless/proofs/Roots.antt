@@ -8,7 +8,7 @@ use native.Mathlib.Decide.{decLe}
 use lib.Dec.{T, leb, eqb, eqb→eq}
 use borrow.Author.Tests.{eqb-true, eq-eqb, ne-eqb}
 use Rattle.flat.specs.Kind
-use Rattle.flat.specs.Argument.{ruleOf, follows, argumentFits}
+use Rattle.flat.specs.Argument.{argumentRule, follows, argumentFits}
 use Rattle.flat.specs.Tree.{DataType, leaf, list, array, struct, headKind, headArg}
 use Rattle.flat.specs.Reading.{Reading, refused, type, rootOf, RootFits}
 use Rattle.flat.specs.declared.Root.{Root}
@@ -23,23 +23,23 @@ use Rattle.supertype_lossless.proofs.Upcasts.{other, other-none}
 
 -- a leaf's kind is in no class of numbers, or it has the argument 0 and is no Unknown int
 abbrev plain : ℕ → Bool
-plain k = isZero (ruleOf k) && not (isUnknownInt k)
+plain k = isZero (argumentRule k) && not (isUnknownInt k)
 
 other-or-plain : (k : ℕ) → k ≤ Kind.Struct → T (other k || plain k)
-unfolding ruleOf among isFloat isUnknownInt isSignedInteger isUnsignedInteger isInteger isUnknown
+unfolding argumentRule among isFloat isUnknownInt isSignedInteger isUnsignedInteger isInteger isUnknown
 other-or-plain k h = in-run (λ k. other k || plain k) Kind.Null 31 tt k (omega arith) (omega arith)
 
-no-argument : (k a : ℕ) → T (isZero (ruleOf k)) → argumentFits k a ≡ true → a ≡ 0
+no-argument : (k a : ℕ) → T (isZero (argumentRule k)) → argumentFits k a ≡ true → a ≡ 0
 unfolding argumentFits
-no-argument k a z e = eqb→eq a 0 (subst T (sym (zero-follows (ruleOf k) a z)) (and-right (leb k Kind.Field) (follows (ruleOf k) a) (subst T (sym e) tt)))
+no-argument k a z e = eqb→eq a 0 (subst T (sym (zero-follows (argumentRule k) a z)) (and-right (leb k Kind.Field) (follows (argumentRule k) a) (subst T (sym e) tt)))
 
 -- so that equal types are those of one kind
 equal-kinds : (k : ℕ) → k ≤ Kind.UnknownIntNeg → T (plain k) → (u : DataType) → RootFits (Root.Node (headKind u) (headArg u)) → equal (leaf k 0) u ≡ eqb k (headKind u)
 unfolding equal equalNode headKind headArg
-equal-kinds k h t (leaf l b) v = go (isUnknownInt k) (and-right (isZero (ruleOf k)) (not (isUnknownInt k)) t) (eqb k l) refl
+equal-kinds k h t (leaf l b) v = go (isUnknownInt k) (and-right (isZero (argumentRule k)) (not (isUnknownInt k)) t) (eqb k l) refl
   where
     zero-at : k ≡ l → 0 ≡ b
-    zero-at e = sym (no-argument l b (subst (λ (j : ℕ). T (isZero (ruleOf j))) e (and-left (isZero (ruleOf k)) (not (isUnknownInt k)) t)) (v .1))
+    zero-at e = sym (no-argument l b (subst (λ (j : ℕ). T (isZero (argumentRule j))) e (and-left (isZero (argumentRule k)) (not (isUnknownInt k)) t)) (v .1))
 
     go : (i : Bool) → T (not i) → (s : Bool) → eqb k l ≡ s → (i && isUnknownInt l || s && eqb 0 b) ≡ s
     go true n s e = absurd n
@@ -71,7 +71,7 @@ by-kinds (leaf k a) u p q = go (other k) refl (other-or-plain k (p .0))
     go : (x : Bool) → other k ≡ x → T (x || plain k) → upcastWhere (equal (leaf k a) u) k (headKind u) ≡ upcastWhere (eqb k (headKind u)) k (headKind u)
     go true e t = whichever (equal (leaf k a) u) (eqb k (headKind u)) k (headKind u) (sym e)
     go false e t =
-        let z : a ≡ 0 = no-argument k a (and-left (isZero (ruleOf k)) (not (isUnknownInt k)) t) (p .1) in
+        let z : a ≡ 0 = no-argument k a (and-left (isZero (argumentRule k)) (not (isUnknownInt k)) t) (p .1) in
         ap (λ (b : Bool). upcastWhere b k (headKind u)) (ap (λ (n : ℕ). equal (leaf k n) u) z ∙ equal-kinds k (low k (p .0) e) t u q)
 by-kinds (list t) u p q = whichever (equal (list t) u) (eqb Kind.List (headKind u)) Kind.List (headKind u) (nested Kind.List (omega arith) (omega arith))
 by-kinds (array w t) u p q = whichever (equal (array w t) u) (eqb Kind.Array (headKind u)) Kind.Array (headKind u) (nested Kind.Array (omega arith) (omega arith))

@@ -1,13 +1,13 @@
 -- The upcast of two kinds: one computed test for all pairs of two classes, and Nothing wherever a side is in no class. Assumes nothing.
 use mathlib.Core.Path.{_≡_, refl, ap, subst}
-use mathlib.Core.Bool.{Bool, true, false, not, _&&_, _||_, or-true}
+use mathlib.Core.Bool.{Bool, true, false, cond, not, _&&_, _||_, or-true}
 use Prim.Native.Nat.{ℕ}
 use lib.Dec.{T, eqb, eqb→eq}
 use borrow.Author.Tests.{eq-eqb, ne-eqb}
 use Rattle.flat.proofs.Rules.{or-right, In, area, in-area}
 use Rattle.dtype.specs.Match.{among}
 use Rattle.dtype.specs.Predicate.{isFloat, isUnknownInt, isSignedInteger, isUnsignedInteger, isInteger, isNested, isUnknown}
-use Rattle.supertype_lossless.specs.Lossless.{pick, choose, floats, signed, unsigned, mixed, upcastWhere, upcastOf}
+use Rattle.supertype_lossless.specs.Lossless.{upcastBy, floats, signed, unsigned, mixed, upcastWhere, upcastOf}
 use Rattle.supertype_lossless.specs.declared.upcast.Upcast.{Upcast}
 use Rattle.supertype_lossless.specs.declared.upcast.Upcast.the-variants.{To, Nothing}
 
@@ -26,7 +26,7 @@ alike-eq Nothing Nothing t = refl
 
 -- f is the upcast of two kinds
 unfoldable pub right : (ℕ → ℕ → Upcast) → ℕ → ℕ → Bool
-unfolding upcastOf upcastWhere choose floats signed unsigned mixed among isFloat isUnknownInt isSignedInteger isUnsignedInteger isInteger isNested isUnknown
+unfolding upcastOf upcastWhere upcastBy floats signed unsigned mixed among isFloat isUnknownInt isSignedInteger isUnsignedInteger isInteger isNested isUnknown
 right f l r = alike (f l r) (upcastOf l r)
 
 -- so all over an area
@@ -59,11 +59,11 @@ pub other-none : (same : Bool) (l r : ℕ) → true ≡ other l → Nothing ≡ 
 unfolding upcastWhere isInteger
 other-none same l r e = go (isUnknown l) (isFloat l) (isSignedInteger l) (isUnsignedInteger l) (isUnknownInt l) (subst T e tt)
   where
-    none-either : (b : Bool) → Nothing ≡ pick b Nothing Nothing
+    none-either : (b : Bool) → Nothing ≡ cond b Nothing Nothing
     none-either true = refl
     none-either false = refl
 
-    go : (u f s w i : Bool) → T (u || not (f || (s || w || i))) → Nothing ≡ pick (u || isUnknown r || isNested l || isNested r || same) Nothing (pick (f && isFloat r) (choose floats l r) (pick (s && isSignedInteger r) (choose signed l r) (pick (w && isUnsignedInteger r) (choose unsigned l r) (pick ((s || w || i) && isInteger r) (choose mixed l r) Nothing))))
+    go : (u f s w i : Bool) → T (u || not (f || (s || w || i))) → Nothing ≡ cond (u || isUnknown r || isNested l || isNested r || same) Nothing (cond (f && isFloat r) (upcastBy floats l r) (cond (s && isSignedInteger r) (upcastBy signed l r) (cond (w && isUnsignedInteger r) (upcastBy unsigned l r) (cond ((s || w || i) && isInteger r) (upcastBy mixed l r) Nothing))))
     go true f s w i t = refl
     go false false false false false t = none-either (isUnknown r || isNested l || isNested r || same)
     go false false false false true t = absurd t

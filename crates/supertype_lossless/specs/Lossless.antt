@@ -1,5 +1,5 @@
 -- `get_numeric_upcast_supertype_lossless` of supertype.rs, arm by arm in the source's order. Assumes nothing: these are definitions.
-use mathlib.Core.Bool.{Bool, true, false, _&&_, _||_}
+use mathlib.Core.Bool.{Bool, cond, _&&_, _||_}
 use mathlib.Core.List.{List, [], _∷_}
 use mathlib.Core.Option.{Option, none, some}
 use Prim.Native.Nat.{ℕ}
@@ -14,28 +14,24 @@ use Rattle.supertype_answer.specs.Join.{Node}
 use Rattle.supertype_lossless.specs.declared.upcast.Upcast.{Upcast}
 use Rattle.supertype_lossless.specs.declared.upcast.Upcast.the-variants.{To, Nothing}
 
-abbrev pub pick : Bool → Upcast → Upcast → Upcast
-pick true a b = a
-pick false a b = b
-
 -- the arm `(k, _) | (_, k) | .. => answer`: one side is one of these kinds
-pub record Arm : Type 0 where
+pub record UpcastArm : Type 0 where
   pub kinds : List ℕ
   pub answer : Upcast
 
 infix 68 _⇒_
-abbrev pub _⇒_ : List ℕ → Upcast → Arm
+abbrev pub _⇒_ : List ℕ → Upcast → UpcastArm
 ks ⇒ a = record { kinds = ks; answer = a }
 
 -- the answer of the first arm that takes a side; behind the last arm the source has None, or a panic where it is debugged, and no pair comes there
-unfoldable pub choose : List Arm → ℕ → ℕ → Upcast
-choose [] l r = Nothing
-choose (x ∷ xs) l r = pick (among (x .kinds) l || among (x .kinds) r) (x .answer) (choose xs l r)
+unfoldable pub upcastBy : List UpcastArm → ℕ → ℕ → Upcast
+upcastBy [] l r = Nothing
+upcastBy (x ∷ xs) l r = cond (among (x .kinds) l || among (x .kinds) r) (x .answer) (upcastBy xs l r)
 
-unfoldable pub floats : List Arm
+unfoldable pub floats : List UpcastArm
 floats = (Float64 ∷ []) ⇒ To Float64 ∷ (Float32 ∷ []) ⇒ To Float32 ∷ []
 
-unfoldable pub signed : List Arm
+unfoldable pub signed : List UpcastArm
 signed =
     (Int128 ∷ []) ⇒ To Int128
     ∷ (Int64 ∷ []) ⇒ To Int64
@@ -44,7 +40,7 @@ signed =
     ∷ (Int8 ∷ []) ⇒ To Int8
     ∷ []
 
-unfoldable pub unsigned : List Arm
+unfoldable pub unsigned : List UpcastArm
 unsigned =
     (UInt128 ∷ []) ⇒ To UInt128
     ∷ (UInt64 ∷ []) ⇒ To UInt64
@@ -54,7 +50,7 @@ unsigned =
     ∷ []
 
 -- one signed, the other unsigned
-unfoldable pub mixed : List Arm
+unfoldable pub mixed : List UpcastArm
 mixed =
     (UInt128 ∷ []) ⇒ Nothing
     ∷ (UInt64 ∷ Int128 ∷ []) ⇒ To Int128
@@ -66,11 +62,11 @@ mixed =
 -- of two kinds, by whether the two types are equal
 unfoldable pub upcastWhere : Bool → ℕ → ℕ → Upcast
 upcastWhere same l r =
-    pick (isUnknown l || isUnknown r || isNested l || isNested r || same) Nothing
-    (pick (isFloat l && isFloat r) (choose floats l r)
-    (pick (isSignedInteger l && isSignedInteger r) (choose signed l r)
-    (pick (isUnsignedInteger l && isUnsignedInteger r) (choose unsigned l r)
-    (pick (isInteger l && isInteger r) (choose mixed l r)
+    cond (isUnknown l || isUnknown r || isNested l || isNested r || same) Nothing
+    (cond (isFloat l && isFloat r) (upcastBy floats l r)
+    (cond (isSignedInteger l && isSignedInteger r) (upcastBy signed l r)
+    (cond (isUnsignedInteger l && isUnsignedInteger r) (upcastBy unsigned l r)
+    (cond (isInteger l && isInteger r) (upcastBy mixed l r)
     Nothing))))
 
 -- of two types

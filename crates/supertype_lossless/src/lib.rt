@@ -8,11 +8,11 @@ ghost use Rattle.supertype_answer.specs.Join.{resultOf, joining, joiningRoots, 
 ghost use Rattle.supertype_lossless.specs.Lossless.{rootUpcast, losslessOf};
 use flat::Flat;
 use flat::Root;
-use upcast::Upcast;
-use upcast::upcast_kinds;
 use supertype_answer::Found;
 use supertype_answer::Joined;
 use supertype_answer::put;
+use upcast::Upcast;
+use upcast::upcast_kinds;
 
 // Of the roots of two types: the refusal of the left, of the right, or the upcast by their kinds.
 pub fn upcast_roots(left: Root, right: Root) -> Found

@@ -19,7 +19,7 @@ use Rattle.supertype_lossless.specs.Lossless.{upcastOf}
 use Rattle.supertype_lossless.specs.declared.upcast.Upcast.the-variants.{To}
 use Rattle.supertype_arms.specs.Supertype.{supertype}
 use Rattle.supertype_arms.proofs.Answers.{to-T}
-use Rattle.supertype_report.specs.Laws.{uint128WithSigned, uint64WithSigned, Logged, left, right, Merged, NumberLaws}
+use Rattle.supertype_report.specs.Laws.{uint128WithSigned, uint64WithSigned, Logged, left, right, MadeOne, NumberLaws}
 use Rattle.supertype_report.proofs.Rounding.{merged}
 use Rattle.supertype_report.proofs.Pairs.{joined, is-joined, Answered, float64, integral, answered, told}
 
@@ -116,7 +116,7 @@ avoidable a b e = let l = uint64-listed a b e in go (answered a b (l .0) (l .1))
     go (float64 d f u x y) = (u, x, y)
     go (integral d l k) = absurd (subst T (sym e ∙ d) tt)
 
-merges : (a b : ℕ) → uint64WithSigned a b ≡ true → Merged a b
+merges : (a b : ℕ) → uint64WithSigned a b ≡ true → MadeOne a b
 unfolding isSignedInteger among
 merges a b e = record {
   one = pos (2 ^ 53);

@@ -15,7 +15,7 @@ use Rattle.supertype_answer.specs.Join.{Node, Supertype, Some, Nothing, node}
 use Rattle.supertype_numbers.specs.Range.{Listed, isListed, Includes}
 use Rattle.supertype_numbers.proofs.Tests.{to-listed, at, pairs, at-pair}
 use Rattle.supertype_numbers.proofs.Ranges.{inside, includes}
-use Rattle.supertype_lossless.specs.Lossless.{choose, floats, signed, unsigned, mixed, upcastWhere, upcastOf}
+use Rattle.supertype_lossless.specs.Lossless.{upcastBy, floats, signed, unsigned, mixed, upcastWhere, upcastOf}
 use Rattle.supertype_lossless.specs.declared.upcast.Upcast.{Upcast}
 use Rattle.supertype_lossless.specs.declared.upcast.Upcast.the-variants.{To, Nothing as NoUpcast}
 use Rattle.supertype_arms.specs.declared.plan.Plan.the-variants.{Kind}
@@ -38,7 +38,7 @@ is-int128 NoUpcast t = absurd t
 
 -- the kind of the supertype: that of the lossless upcast, save where UInt128 or UInt64 meets a signed type
 unfoldable pub joined : ℕ → ℕ → ℕ
-unfolding right-at isNested uint128WithSigned uint64WithSigned upcastOf upcastWhere choose floats signed unsigned mixed
+unfolding right-at isNested uint128WithSigned uint64WithSigned upcastOf upcastWhere upcastBy floats signed unsigned mixed
 joined a b = cond (uint128WithSigned a b) Int128 (cond (uint64WithSigned a b) Float64 (cond (eqb a b) a (kindOf (upcastOf a b))))
 
 -- ---- it is the supertype's

@@ -1,6 +1,6 @@
 -- The report says what is so, and nothing else is: of any two kinds exactly one report is true. Assumes nothing.
 use mathlib.Core.Path.{_≡_, refl, sym, subst, _∙_}
-use mathlib.Core.Bool.{Bool, true, false, _&&_, _||_}
+use mathlib.Core.Bool.{Bool, true, false, cond, _&&_, _||_}
 use Prim.Native.Nat.{ℕ}
 use native.Mathlib.Omega.{arith}
 use lib.Dec.{T}
@@ -13,7 +13,7 @@ use Rattle.supertype_lossless.specs.declared.upcast.Upcast.the-variants.{To, No
 use Rattle.supertype_arms.specs.Supertype.{supertype}
 use Rattle.supertype_report.specs.Kept.{Kept}
 use Rattle.supertype_report.specs.Laws.{uint128WithSigned, uint64WithSigned}
-use Rattle.supertype_report.specs.Report.{Says, pickReport, byUpcast, reportOf, ReportLaws}
+use Rattle.supertype_report.specs.Report.{Says, byUpcast, reportOf, ReportLaws}
 use Rattle.supertype_report.specs.declared.Report.{Report}
 use Rattle.supertype_report.proofs.Pairs.{joined, is-joined, Answered, float64, integral, answered}
 use Rattle.supertype_report.proofs.Keeping.{keeps, misses, rounds, avoidable, unavoidable}
@@ -54,14 +54,14 @@ module _ (a b : ℕ) (p : Listed a) (q : Listed b) where
       go (To k) e = avoidable p q lost e
       go Nothing e = unavoidable p q lost e
 
-  of-integers : Says a b (pickReport (uint64WithSigned a b || uint128WithSigned a b) (byUpcast (upcastOf a b)) Report.Kept)
+  of-integers : Says a b (cond (uint64WithSigned a b || uint128WithSigned a b) (byUpcast (upcastOf a b)) Report.Kept)
   of-integers = go (answered a b p q) (uint64WithSigned a b) (uint128WithSigned a b) refl refl
     where
       is : supertype false false (node a 0) (node b 0) ≡ Some (node (joined a b) 0)
       is = is-joined a b p q false false
 
       go : Answered a b (joined a b) → (x y : Bool) → uint64WithSigned a b ≡ x → uint128WithSigned a b ≡ y
-          → Says a b (pickReport (x || y) (byUpcast (upcastOf a b)) Report.Kept)
+          → Says a b (cond (x || y) (byUpcast (upcastOf a b)) Report.Kept)
       go (float64 e f u v w) true y h g = lossy (rounds a b p q (joined a b) is (omega arith))
       go (float64 e f u v w) false y h g = absurd (subst T (sym e ∙ h) tt)
       go (integral e l k) true y h g = absurd (subst T (sym h ∙ e) tt)
@@ -73,7 +73,7 @@ unfolding reportOf
 means a b = go (isListed a) (isListed b) refl refl
   where
     go : (x y : Bool) → isListed a ≡ x → isListed b ≡ y
-        → Says a b (pickReport (x && y) (pickReport (uint64WithSigned a b || uint128WithSigned a b) (byUpcast (upcastOf a b)) Report.Kept) Report.NotIntegers)
+        → Says a b (cond (x && y) (cond (uint64WithSigned a b || uint128WithSigned a b) (byUpcast (upcastOf a b)) Report.Kept) Report.NotIntegers)
     go true true e f = of-integers a b (to-listed a (subst T (sym e) tt)) (to-listed b (subst T (sym f) tt))
     go true false e f = λ h. subst T f (of-listed b (h .1))
     go false y e f = λ h. subst T e (of-listed a (h .0))

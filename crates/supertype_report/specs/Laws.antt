@@ -30,7 +30,7 @@ pub data Logged (a b : ℕ) (z : ℤ) : Type 0 where
   right : Holds b z → Logged a b z
 
 -- two different numbers of two columns that are one number in Float64
-pub record Merged (a b : ℕ) : Type 0 where
+pub record MadeOne (a b : ℕ) : Type 0 where
   pub one : ℤ
   pub other : ℤ
   pub differ : one ≡ other → ⊥
@@ -51,4 +51,4 @@ pub record NumberLaws : Type 0 where
   -- ... although an integer type includes both ranges, which the lossless upcast finds
   pub avoidable : (a b : ℕ) → uint64WithSigned a b ≡ true → (upcastOf a b ≡ To Int128) × Includes Int128 a × Includes Int128 b
   -- (c) and Float64 makes one number of two that such a pair of columns could hold
-  pub merges : (a b : ℕ) → uint64WithSigned a b ≡ true → Merged a b
+  pub merges : (a b : ℕ) → uint64WithSigned a b ≡ true → MadeOne a b

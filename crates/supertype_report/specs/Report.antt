@@ -1,6 +1,6 @@
 -- What a report says of two columns that are to be joined. Assumes nothing: these are definitions.
 use mathlib.Core.Path.{_≡_}
-use mathlib.Core.Bool.{Bool, true, false, _&&_, _||_}
+use mathlib.Core.Bool.{cond, _&&_, _||_}
 use mathlib.Core.List.{[], _∷_}
 use Prim.Native.Nat.{ℕ}
 use Rattle.flat.specs.Refusal.{numberOf}
@@ -30,10 +30,6 @@ Says a b Report.Unavoidable = Integers a b × (Kept a b → ⊥) × (Room (a ∷
 Says a b Report.NotIntegers = Integers a b → ⊥
 Says a b (Report.Refused e) = ⊥
 
-abbrev pub pickReport : Bool → Report → Report → Report
-pickReport true a b = a
-pickReport false a b = b
-
 abbrev pub byUpcast : Upcast → Report
 byUpcast (To k) = Report.Avoidable
 byUpcast Nothing = Report.Unavoidable
@@ -42,7 +38,7 @@ byUpcast Nothing = Report.Unavoidable
 -- integer type keeps them
 unfoldable pub reportOf : ℕ → ℕ → Report
 reportOf a b =
-    pickReport (isListed a && isListed b) (pickReport (uint64WithSigned a b || uint128WithSigned a b) (byUpcast (upcastOf a b)) Report.Kept)
+    cond (isListed a && isListed b) (cond (uint64WithSigned a b || uint128WithSigned a b) (byUpcast (upcastOf a b)) Report.Kept)
     Report.NotIntegers
 
 -- exactly one report is so, and it is the definition's (proved in proofs/Settled.antt)

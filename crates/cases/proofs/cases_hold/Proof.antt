@@ -1,7 +1,7 @@
 -- The worked cases hold: by computation, for both flags and for an empty Struct and any other. Assumes nothing.
 use mathlib.Core.Path.{refl}
 use mathlib.Core.Bool.{true, false}
-use Rattle.flat.specs.Argument.{argumentFits, ruleOf}
+use Rattle.flat.specs.Argument.{argumentFits, argumentRule}
 use Rattle.flat.specs.Tree.{empty, field, count, headKind, headArg, size, depth, kindsOf, argsOf}
 use Rattle.flat.specs.Reader.{children, nodeAt, nodeIn}
 use Rattle.flat.specs.Reading.{lengthFits, kindsFit, argumentsFit, reading}
@@ -17,7 +17,7 @@ use Rattle.dtype_build.specs.Materialize.{materialize, materializeUnknown}
 use Rattle.dtype.specs.Physical.{physicalLeaf, physicalKind}
 use Rattle.dtype_build.specs.Build.{materialized}
 use Rattle.supertype_answer.specs.Join.{joining}
-use Rattle.supertype_lossless.specs.Lossless.{choose, floats, signed, unsigned, mixed, upcastWhere, upcastOf, lossless, losslessOf}
+use Rattle.supertype_lossless.specs.Lossless.{upcastBy, floats, signed, unsigned, mixed, upcastWhere, upcastOf, lossless, losslessOf}
 use Rattle.supertype_arms.specs.Supertype.{unknownArms, arms, planOf, smallestFitting, dynNumber, run, inner, supertypeWith, knownSupertype, supertype}
 use Rattle.supertype_numbers.specs.Range.{isListed}
 use Rattle.supertype.specs.Pair.{decimalWithInteger, pairChecked, rootSupertype, supertypeOf}
@@ -26,7 +26,7 @@ use Rattle.cases.proofs.cases_hold.Statement.{statement}
 use Rattle.cases.proofs.cases_hold.Tie as tie
 
 returns : tie.Need-returns
-unfolding lists fieldsOf argumentFits ruleOf count headKind headArg size depth kindsOf argsOf children nodeAt nodeIn lengthFits kindsFit argumentsFit reading fitting littleEndian number argBytes argsFrom encoding countIn kindsIn argsIn sizeFits decoding among isFloat isUnknownInt isSignedInteger isUnsignedInteger isInteger isPrimitiveNumeric isPrimitive isNested isString isUnknown equalNode equal castsWithBoolean beforeNested canCastTo valueOf materializeDynInt materializeDynIntPos materializeSmallestDynInt materialize materializeUnknown physicalLeaf physicalKind materialized joining choose floats signed unsigned mixed upcastWhere upcastOf lossless losslessOf unknownArms arms planOf smallestFitting dynNumber run inner supertypeWith knownSupertype supertype isListed decimalWithInteger pairChecked rootSupertype supertypeOf mergedWith mergedOf
+unfolding lists fieldsOf argumentFits argumentRule count headKind headArg size depth kindsOf argsOf children nodeAt nodeIn lengthFits kindsFit argumentsFit reading fitting littleEndian number argBytes argsFrom encoding countIn kindsIn argsIn sizeFits decoding among isFloat isUnknownInt isSignedInteger isUnsignedInteger isInteger isPrimitiveNumeric isPrimitive isNested isString isUnknown equalNode equal castsWithBoolean beforeNested canCastTo valueOf materializeDynInt materializeDynIntPos materializeSmallestDynInt materialize materializeUnknown physicalLeaf physicalKind materialized joining upcastBy floats signed unsigned mixed upcastWhere upcastOf lossless losslessOf unknownArms arms planOf smallestFitting dynNumber run inner supertypeWith knownSupertype supertype isListed decimalWithInteger pairChecked rootSupertype supertypeOf mergedWith mergedOf
 returns c i true empty = refl
 returns c i false empty = refl
 returns c i true (field name t fs) = refl

@@ -60,7 +60,8 @@ use Rattle.flat.proofs.check_root.Symbol.{name as #check-root}
 use Rattle.flat.proofs.check_root.Met as check-root-thm
 use Rattle.channels.specs.declared.ChannelTypes.{ChannelTypes}
 use Rattle.channels.specs.declared.Merged.{Merged}
-use Rattle.channels.specs.Merge.{rootColumn, outcomeOf}
+use Rattle.flat.specs.Both.{rootReading}
+use Rattle.channels.specs.Merge.{outcomeOf}
 use Rattle.channels.proofs.Arms.{by-root}
 use Rattle.channels.proofs.ChannelTypes as S
 use Rattle.channels.proofs.ChannelTypes.Laws as S′
@@ -208,7 +209,7 @@ module _ {M : Type 1} (𝓤 : URA M) (H : Heap 𝓤) (A : Atoms 𝓤) (W : Given
     both : (zs : List ℕ) (a : Merged) → ent 𝓤 (sep 𝓤 (Rooted c) (Merges zs a)) (Said zs a)
     both zs a =
         let Root-is : ℕ → ℕ → Type 0 = λ nodes deep. (c ≡ rootOf (reading nodes deep (now s) (now t))) × RootFits c in
-        let By-root : ℕ → Type 0 = λ channels. record { types = record { codes = zs }; answer = a } ≡ outcomeOf channels h n (rootColumn c) in
+        let By-root : ℕ → Type 0 = λ channels. record { types = record { codes = zs }; answer = a } ≡ outcomeOf channels h n (rootReading c) in
         into 𝓤 H A W run (lent.⟦ChannelTypes·CHANNELS⟧-code κs) tt (Rooted c) (λ channels. fact 𝓤 (By-root channels)) _ (λ channels.
         via 𝓤 _ (comm∗ 𝓤 (Rooted c) (fact 𝓤 (By-root channels)))
         (into 𝓤 H A W run (lent.⟦Flat·MAX-NODES⟧-code κs) tt (fact 𝓤 (By-root channels)) (λ nodes. asked 𝓤 H A run (lent.⟦Flat·MAX-DEPTH⟧-code κs) tt (λ deep. fact 𝓤 (Root-is nodes deep))) _ (λ nodes.

@@ -6,13 +6,13 @@ use Prim.Native.Nat.{_≤_, _-_}
 use native.Mathlib.Omega.{arith}
 use lib.ListN.{length, drop}
 use borrow.Author.Needs.{needs}
-use Rattle.dtype_eq.specs.Nodes.{same}
+use Rattle.dtype_eq.specs.Nodes.{sameList}
 use Rattle.dtype_eq.proofs.Steps.{same-on, same-stop, same-end}
 use Rattle.dtype_eq.proofs.nodes.same_args.Statement.{statement}
 use Rattle.dtype_eq.proofs.nodes.same_args.Tie as tie
 
 abbrev Inv-loop : tie.InvT-loop
-Inv-loop args others same₀ i₀ so-far i = (i ≤ length args) × (same args others ≡ (so-far && same (drop i args) (drop i others)))
+Inv-loop args others same₀ i₀ so-far i = (i ≤ length args) × (sameList args others ≡ (so-far && sameList (drop i args) (drop i others)))
 
 abbrev μ-loop : tie.MeasureT-loop
 μ-loop args others same₀ i₀ so-far i = length args - i

@@ -6,13 +6,13 @@ use Prim.Native.Nat.{_≤_, _-_}
 use native.Mathlib.Omega.{arith}
 use lib.ListN.{length, drop}
 use borrow.Author.Needs.{needs}
-use Rattle.dtype_eq.specs.Nodes.{same}
+use Rattle.dtype_eq.specs.Nodes.{sameList}
 use Rattle.dtype_eq.proofs.Steps.{same-on, same-stop, same-end}
 use Rattle.dtype_eq.proofs.nodes.same_bytes.Statement.{statement}
 use Rattle.dtype_eq.proofs.nodes.same_bytes.Tie as tie
 
 abbrev Inv-loop : tie.InvT-loop
-Inv-loop bytes others same₀ i₀ so-far i = (i ≤ length bytes) × (same bytes others ≡ (so-far && same (drop i bytes) (drop i others)))
+Inv-loop bytes others same₀ i₀ so-far i = (i ≤ length bytes) × (sameList bytes others ≡ (so-far && sameList (drop i bytes) (drop i others)))
 
 abbrev μ-loop : tie.MeasureT-loop
 μ-loop bytes others same₀ i₀ so-far i = length bytes - i
