@@ -16,7 +16,7 @@ use Rattle.encoded.specs.declared.Encoded.{Encoded}
 use Rattle.encoded.proofs.Answers.{puts-type}
 use Rattle.encoded.proofs.Opening.{Opened}
 use Rattle.dtype_inner.specs.Part.{Last}
-use Rattle.dtype_inner.specs.declared.Inner.{Inner}
+use Rattle.flat.specs.declared.Optional.{Optional}
 use Rattle.dtype_inner.specs.Shape.{shape, shapeOf, arraysAt, widthsAt}
 use Rattle.dtype_inner.proofs.Endings.{Found, Finds, finds-inner, finds-leaf, finds-array-leaf}
 use Rattle.dtype_inner.proofs.Shapes.{arrays-fit, shape-at}
@@ -53,7 +53,7 @@ module _ {w nodes deep n : ℕ} {s xs : List ℕ} (o : Opened w nodes deep n s x
     pub part-within : m ≤ n
     part-within = omega (arith, part-found .kinds .within, length-kinds (o .parts .tree), o .tree-size)
 
-    pub part-none : (out : List ℕ) {a : Reply} → m ≡ 0 → a ≡ innerReply Inner.Nothing → PartReply w (partReading (partOf p) (decoding w nodes deep s)) out out a
+    pub part-none : (out : List ℕ) {a : Reply} → m ≡ 0 → a ≡ innerReply Optional.Nothing → PartReply w (partReading (partOf p) (decoding w nodes deep s)) out out a
     part-none out {a} z h = rw (o .reads) (go (partOf p (o .parts .tree)) part-found)
       where
         go : (u : Option DataType) → Found (o .parts .tree) u m → PartReply w (partReading (λ t. u) (type (o .parts .tree))) out out a

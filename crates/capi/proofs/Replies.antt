@@ -25,8 +25,8 @@ use Rattle.dtype.specs.Predicates.{predicateOf, toldBy}
 use Rattle.dtype.specs.Answer.{yesNo, answerOf}
 use Rattle.dtype.specs.declared.predicate.Predicate.{Predicate}
 use Rattle.dtype.proofs.Answers.{some-node, answered}
-use Rattle.supertype_answer.specs.Join.{Joins}
-use Rattle.supertype_answer.specs.declared.Joined.{Joined}
+use Rattle.flat.specs.Output.{WritesFound}
+use Rattle.flat.specs.declared.Optional.{Optional}
 use Rattle.encoded_join.specs.Join.{JoinsBytes}
 use Rattle.capi.specs.Reply.{checkReply, answerReply, writtenReply, bytesReply, joinedReply, DecodeReply, EncodeReply, FlatJoinReply, JoinReply}
 use Rattle.capi.specs.declared.Reply.{Reply}
@@ -58,10 +58,10 @@ unfolding fittingBytes bytesOver
 encode-refused q h = rw q (record { replies = h; bytes = refl })
 
 -- ---- the calls that join two types
-pub flat-join-reply : {found : Option Reading} {ks xs ks′ xs′ : List ℕ} {d : Joined} {a : Reply} → Joins found ks xs ks′ xs′ d → a ≡ joinedReply d → FlatJoinReply found ks xs ks′ xs′ a
+pub flat-join-reply : {found : Option Reading} {ks xs ks′ xs′ : List ℕ} {d : Optional} {a : Reply} → WritesFound found ks xs ks′ xs′ d → a ≡ joinedReply d → FlatJoinReply found ks xs ks′ xs′ a
 flat-join-reply f h = record { replies = h ∙ ap joinedReply (f .answers); kinds = f .kinds; args = f .args }
 
-pub join-reply : {w : ℕ} {found : Option Reading} {out out′ : List ℕ} {d : Joined} {a : Reply} → JoinsBytes w found out out′ d → a ≡ joinedReply d → JoinReply w found out out′ a
+pub join-reply : {w : ℕ} {found : Option Reading} {out out′ : List ℕ} {d : Optional} {a : Reply} → JoinsBytes w found out out′ d → a ≡ joinedReply d → JoinReply w found out out′ a
 join-reply f h = record { replies = h ∙ ap joinedReply (f .answers); bytes = f .bytes }
 
 -- ---- the predicates

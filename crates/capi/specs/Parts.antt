@@ -10,7 +10,7 @@ use Rattle.flat.specs.Reader.{mapO}
 use Rattle.encoded.specs.Answer.{fittingBytes}
 use Rattle.dtype_inner.specs.Inner.{innerDtype, leafDtype, arrayLeafDtype}
 use Rattle.dtype_inner.specs.Nodes.{innerNodes, leafNodes, arrayLeafNodes}
-use Rattle.dtype_inner.specs.declared.Inner.{Inner}
+use Rattle.flat.specs.declared.Optional.{Optional}
 use Rattle.capi.specs.Reply.{innerReply, EncodeReply}
 use Rattle.capi.specs.declared.Reply.{Reply}
 use Rattle.capi.specs.declared.part.Part.{Part}
@@ -34,5 +34,5 @@ partReading part (type t) = mapO type (part t)
 
 -- What the call comes to: None has number 0 and value 0 and writes nothing.
 abbrev pub PartReply : ℕ → Option Reading → (out out′ : List ℕ) → Reply → Type 0
-PartReply w none out out′ reply = (reply ≡ innerReply Inner.Nothing) × (out′ ≡ out)
+PartReply w none out out′ reply = (reply ≡ innerReply Optional.Nothing) × (out′ ≡ out)
 PartReply w (some r) out out′ reply = EncodeReply w (fittingBytes w (length out) r) out out′ reply

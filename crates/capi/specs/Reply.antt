@@ -13,13 +13,13 @@ use Rattle.dtype.specs.Answer.{answerNumber, answerValue}
 use Rattle.dtype.specs.declared.answer.Answer.{Answer}
 use Rattle.dtype.specs.TimeUnit.{unitAnswerNumber, unitAnswerValue}
 use Rattle.dtype.specs.declared.time_unit.Unit.{Unit}
-use Rattle.dtype_inner.specs.Part.{innerNumber, innerValue}
-use Rattle.dtype_inner.specs.declared.Inner.{Inner}
+use Rattle.flat.specs.Output.{optionalNumber, optionalValue}
+use Rattle.flat.specs.declared.Optional.{Optional}
 use Rattle.dtype_cast.specs.Verdict.{verdictNumber, verdictValue}
 use Rattle.dtype_cast.specs.declared.Verdict.{Verdict}
 use Rattle.dtype_cast.specs.declared.dtype.Cast.{Cast}
-use Rattle.supertype_answer.specs.Join.{joinedOf, joinedNumber, joinedValue, kindsFound, argsFound}
-use Rattle.supertype_answer.specs.declared.Joined.{Joined}
+use Rattle.flat.specs.Output.{optionalOf, optionalNumber, optionalValue, kindsFound, argsFound}
+use Rattle.flat.specs.declared.Optional.{Optional}
 use Rattle.supertype_report.specs.Report.{reportNumber, reportValue}
 use Rattle.supertype_report.specs.declared.Report.{Report}
 use Rattle.channels.specs.Merge.{mergedNumber, mergedValue}
@@ -47,8 +47,8 @@ abbrev pub verdictReply : Verdict → Reply
 verdictReply v = record { number = verdictNumber v; value = verdictValue v }
 
 -- the number of nodes of a part, 0 for None
-abbrev pub innerReply : Inner → Reply
-innerReply a = record { number = innerNumber a; value = innerValue a }
+abbrev pub innerReply : Optional → Reply
+innerReply a = record { number = optionalNumber a; value = optionalValue a }
 
 -- the verdict of a cast whose types were checked before
 abbrev pub verdictOf : Cast → Verdict
@@ -69,12 +69,12 @@ abbrev pub writtenReply : Written → Reply
 writtenReply a = record { number = writtenNumber a; value = writtenValue a }
 
 -- what a call answers that joins two types: the number of nodes or of bytes, 0 for None
-abbrev pub joinedReply : Joined → Reply
-joinedReply j = record { number = joinedNumber j; value = joinedValue j }
+abbrev pub joinedReply : Optional → Reply
+joinedReply j = record { number = optionalNumber j; value = optionalValue j }
 
 -- What such a call comes to, of flat types and of encoded ones.
 pub record FlatJoinReply (found : Option Reading) (ks xs ks′ xs′ : List ℕ) (reply : Reply) : Type 0 where
-  pub replies : reply ≡ joinedReply (joinedOf found)
+  pub replies : reply ≡ joinedReply (optionalOf found)
   pub kinds : ks′ ≡ kindsFound found ks
   pub args : xs′ ≡ argsFound found xs
 

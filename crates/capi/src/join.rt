@@ -5,7 +5,8 @@ ghost use lib.Dec.{eqb};
 ghost use lib.ListN.{length};
 ghost use Rattle.flat.specs.Reading.{reading};
 ghost use Rattle.encoded.specs.Encoding.{decoding};
-ghost use Rattle.supertype_answer.specs.Join.{joining, fittingFound};
+ghost use Rattle.flat.specs.Output.{fittingFound};
+ghost use Rattle.supertype_answer.specs.Join.{joining};
 ghost use Rattle.supertype_lossless.specs.Lossless.{losslessOf};
 ghost use Rattle.supertype.specs.Pair.{supertypeOf};
 ghost use Rattle.supertype_report.specs.Report.{typesReport};
@@ -14,9 +15,9 @@ ghost use Rattle.capi.specs.Reply.{joinedReply, JoinReply, FlatJoinReply
 use crate::Reply;
 use encoded::Encoding;
 use flat::Flat;
-use supertype_answer::Joined;
+use flat::Optional;
 
-fn joined_reply(j: Joined) -> Reply
+fn joined_reply(j: Optional) -> Reply
     ensures { λ r. ⌜ r ≡ joinedReply j ⌝ }
 {
     Reply {

@@ -20,11 +20,11 @@ ghost use Rattle.capi.specs.Reply.{checkReply, answerReply, verdictReply
 use dtype::answer;
 use dtype::answer::Answer;
 use dtype_cast::Verdict;
-use dtype_inner::Inner;
 use encoded::Encoded;
 use encoded::Encoding;
 use flat::Checked;
 use flat::Flat;
+use flat::Optional;
 use flat::Written;
 use flat::error::Error;
 
@@ -75,7 +75,7 @@ fn verdict_reply(v: Verdict) -> Reply
 }
 
 // The number of nodes of a part.
-fn inner_reply(inner: Inner) -> Reply
+fn inner_reply(inner: Optional) -> Reply
     ensures { λ r. ⌜ r ≡ innerReply inner ⌝ }
 {
     Reply {

@@ -12,10 +12,10 @@ use crate::Reply;
 use crate::bytes;
 use crate::inner_reply;
 use crate::refusal;
-use dtype_inner::Inner;
 use dtype_inner::Shape;
 use encoded::Encoding;
 use flat::Flat;
+use flat::Optional;
 use flat::Written;
 
 // Which part: the inner type, the leaf type, or the type under an Array's consecutive Arrays.
@@ -54,7 +54,7 @@ fn part_in(part: Part, encoded: &[u8], args: &mut [u64], out: &mut [u8]) -> Repl
             let values = &args[..n];
             let m = part_nodes(part, kinds);
             if m == 0 {
-                return inner_reply(Inner::Nothing);
+                return inner_reply(Optional::Nothing);
             }
             let at = n - m;
             bytes(encoded::put(&kinds[at..], &values[at..], out))

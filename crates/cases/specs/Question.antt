@@ -13,7 +13,8 @@ use Rattle.encoded.specs.Encoding.{encoding, decoding}
 use Rattle.dtype_cast.specs.Cast.{canCastTo}
 use Rattle.supertype_numbers.specs.DynInt.{materializeSmallestDynInt}
 use Rattle.dtype_build.specs.Build.{materialized}
-use Rattle.supertype_answer.specs.Join.{joining, fittingFound, joinedOf, joinedNumber}
+use Rattle.flat.specs.Output.{fittingFound, optionalOf, optionalNumber}
+use Rattle.supertype_answer.specs.Join.{joining}
 use Rattle.supertype_lossless.specs.Lossless.{losslessOf}
 use Rattle.supertype.specs.Pair.{supertypeOf}
 use Rattle.channels.specs.Merge.{mergedOf, mergedNumber, mergedValue, codesAfter}
@@ -46,7 +47,7 @@ readingOf l t = reading (l .nodes) (l .deep) (kindsOf t) (argsOf t)
 abbrev pub callNumber : Limits → Call → ℕ
 callNumber l (check ks xs) = numberGiven (l .nodes) (l .deep) ks xs
 callNumber l (check-encoded s) = checkedNumber (checkedOf (decoding (l .width) (l .nodes) (l .deep) s))
-callNumber l (get-supertype implode toString t u room) = joinedNumber (joinedOf (fittingFound room room (joining (supertypeOf implode toString) (readingOf l t) (readingOf l u))))
+callNumber l (get-supertype implode toString t u room) = optionalNumber (optionalOf (fittingFound room room (joining (supertypeOf implode toString) (readingOf l t) (readingOf l u))))
 callNumber l (materialize-unknown allow t room) = writtenNumber (writtenOf (fitting room room (materialized allow (readingOf l t))))
 callNumber l (merge held channel t) = mergedNumber (mergedOf (l .channels) (replicate (l .channels) held) channel (readingOf l t))
 

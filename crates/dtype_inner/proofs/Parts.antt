@@ -14,17 +14,18 @@ use Rattle.flat.specs.Tree.{DataType, size}
 use Rattle.flat.specs.Reading.{Reading, refused, type, reading, checkedOf}
 use Rattle.flat.proofs.Sizes.{size-pos}
 use Rattle.flat.proofs.Meaning.{holds}
-use Rattle.dtype_inner.specs.Part.{found, some-nodes, innerOf, nodesFound, partKinds, partArgs, Last, EndOf, partAnswer, innerValue}
+use Rattle.flat.specs.Output.{optionalValue}
+use Rattle.dtype_inner.specs.Part.{found, some-nodes, innerOf, nodesFound, partKinds, partArgs, Last, EndOf, partAnswer}
 use Rattle.dtype_inner.specs.Laws.{AtEnd, PartLaws}
-use Rattle.dtype_inner.specs.declared.Inner.{Inner}
+use Rattle.flat.specs.declared.Optional.{Optional}
 use Rattle.dtype_inner.proofs.Endings.{Finds, last-none, finds-inner, finds-leaf, finds-array-leaf}
 
 -- 0 nodes stand for None
-some-or-none : (o : Option DataType) → cond (eqb (nodesFound o) 0) Inner.Nothing (Inner.Nodes (nodesFound o)) ≡ some-nodes o
+some-or-none : (o : Option DataType) → cond (eqb (nodesFound o) 0) Optional.Nothing (Optional.Some (nodesFound o)) ≡ some-nodes o
 some-or-none none = refl
 some-or-none (some t) = rw (ne-eqb (size t) 0 (λ e. omega (arith, size-pos t)))
 
-nodes-in : (o : Option DataType) → innerValue (some-nodes o) ≡ nodesFound o
+nodes-in : (o : Option DataType) → optionalValue (some-nodes o) ≡ nodesFound o
 nodes-in none = refl
 nodes-in (some t) = refl
 
@@ -40,11 +41,11 @@ module _ {f : DataType → Option DataType} {g : List ℕ → ℕ} (law : Finds 
           rw (h .kinds, law .finds t (h .is-type .ruled) .nodes) (some-or-none (f t))
 
   -- the ends of the two arrays that go with an answer
-  module _ {a : Inner} {n : ℕ} (e : a ≡ innerOf f (reading nodes deep ks xs)) (s : n ≡ innerValue a) where
+  module _ {a : Optional} {n : ℕ} (e : a ≡ innerOf f (reading nodes deep ks xs)) (s : n ≡ optionalValue a) where
     lasts : Last n ks (partKinds (found f (reading nodes deep ks xs))) × Last n xs (partArgs (found f (reading nodes deep ks xs)))
     lasts = rw (s, e) (go (reading nodes deep ks xs) refl)
       where
-        go : (r : Reading) → reading nodes deep ks xs ≡ r → Last (innerValue (innerOf f r)) ks (partKinds (found f r)) × Last (innerValue (innerOf f r)) xs (partArgs (found f r))
+        go : (r : Reading) → reading nodes deep ks xs ≡ r → Last (optionalValue (innerOf f r)) ks (partKinds (found f r)) × Last (optionalValue (innerOf f r)) xs (partArgs (found f r))
         go (refused e) q = (last-none ks, last-none xs)
         go (type t) q =
             let h = holds nodes deep ks xs t q in

@@ -11,7 +11,7 @@ use Rattle.flat.specs.Refusal.{numberOf}
 use Rattle.flat.specs.Tree.{DataType, size, kindsOf, argsOf}
 use Rattle.flat.specs.Reading.{Reading, refused, type}
 use Rattle.flat.specs.declared.Checked.{Checked}
-use Rattle.dtype_inner.specs.declared.Inner.{Inner}
+use Rattle.flat.specs.declared.Optional.{Optional}
 
 -- What a call finds in a type; there is none where the call is refused.
 abbrev pub found : (DataType → Option DataType) → Reading → Option DataType
@@ -19,12 +19,12 @@ found inner (refused e) = none
 found inner (type t) = inner t
 
 -- which of the three it is: Some with its number of nodes, None, or the refusal
-abbrev pub some-nodes : Option DataType → Inner
-some-nodes none = Inner.Nothing
-some-nodes (some t) = Inner.Nodes (size t)
+abbrev pub some-nodes : Option DataType → Optional
+some-nodes none = Optional.Nothing
+some-nodes (some t) = Optional.Some (size t)
 
-abbrev pub innerOf : (DataType → Option DataType) → Reading → Inner
-innerOf inner (refused e) = Inner.Refused e
+abbrev pub innerOf : (DataType → Option DataType) → Reading → Optional
+innerOf inner (refused e) = Optional.Refused e
 innerOf inner (type t) = some-nodes (inner t)
 
 -- the nodes, the kinds and the arguments of what was found, and nothing where there is none
@@ -53,17 +53,6 @@ pub record EndOf (bytes : ℕ) (shown : List ℕ) (whole r : RefT (List ℕ)) : 
   pub shows : now r ≡ shown
 
 -- the answer that a check and a number of nodes come to: no type has 0 nodes, so 0 stands for None
-abbrev pub partAnswer : Checked → ℕ → Inner
-partAnswer (Checked.Refused e) n = Inner.Refused e
-partAnswer Checked.Valid n = cond (eqb n 0) Inner.Nothing (Inner.Nodes n)
-
--- document 01's number of an answer, and the value beside it: the number of nodes, 0 for None
-abbrev pub innerNumber : Inner → ℕ
-innerNumber (Inner.Nodes n) = 0
-innerNumber Inner.Nothing = 0
-innerNumber (Inner.Refused e) = numberOf e
-
-abbrev pub innerValue : Inner → ℕ
-innerValue (Inner.Nodes n) = n
-innerValue Inner.Nothing = 0
-innerValue (Inner.Refused e) = 0
+abbrev pub partAnswer : Checked → ℕ → Optional
+partAnswer (Checked.Refused e) n = Optional.Refused e
+partAnswer Checked.Valid n = cond (eqb n 0) Optional.Nothing (Optional.Some n)

@@ -6,43 +6,13 @@ ghost use lib.ListN.{length};
 ghost use Rattle.flat.specs.Reading.{reading, refused};
 ghost use Rattle.dtype_inner.specs.Inner.{innerDtype, leafDtype, arrayLeafDtype};
 ghost use Rattle.dtype_inner.specs.Nodes.{leading, innerNodes, leafNodes, arrayLeafNodes};
-ghost use Rattle.dtype_inner.specs.Part.{found, innerOf, partKinds, partArgs, EndOf, partAnswer, innerNumber, innerValue};
+ghost use Rattle.dtype_inner.specs.Part.{found, innerOf, partKinds, partArgs, EndOf, partAnswer};
 ghost use Rattle.dtype_inner.specs.Shape.{shape, shapeOf, arraysAt, widthsAt};
 use flat::Checked;
 use flat::Flat;
+use flat::Optional;
 use flat::error::Error;
 use flat::kind::Kind;
-
-// Some, with its number of nodes, None, or the refusal.
-pub enum Inner {
-    Nodes(usize),
-    Nothing,
-    Refused(Error),
-}
-
-impl Inner {
-    // Document 01's number.
-    pub fn number(self) -> u64
-        ensures { λ r. ⌜ r ≡ innerNumber self ⌝ }
-    {
-        match self {
-            Inner::Nodes(_) => 0,
-            Inner::Nothing => 0,
-            Inner::Refused(e) => e.number(),
-        }
-    }
-
-    // The value beside the number: how many nodes the part has.
-    pub fn value(self) -> u64
-        ensures { λ r. ⌜ r ≡ innerValue self ⌝ }
-    {
-        match self {
-            Inner::Nodes(n) => n as u64,
-            Inner::Nothing => 0,
-            Inner::Refused(_) => 0,
-        }
-    }
-}
 
 // The widths down an Array's consecutive Arrays; the number is 0 or a refusal's.
 #[repr(C)]
@@ -117,22 +87,22 @@ pub fn array_leaf_nodes(kinds: &[u8]) -> usize
 }
 
 // The answer that a check and a number of nodes come to.
-fn answer(checked: Checked, n: usize) -> Inner
+fn answer(checked: Checked, n: usize) -> Optional
     ensures { λ r. ⌜ r ≡ partAnswer checked n ⌝ }
 {
     match checked {
-        Checked::Refused(e) => Inner::Refused(e),
+        Checked::Refused(e) => Optional::Refused(e),
         Checked::Valid => {
             if n == 0 {
-                return Inner::Nothing;
+                return Optional::Nothing;
             }
-            Inner::Nodes(n)
+            Optional::Some(n)
         }
     }
 }
 
 // The type under a List or an Array.
-pub fn inner_dtype(kinds: &[u8], args: &[u64]) -> Inner
+pub fn inner_dtype(kinds: &[u8], args: &[u64]) -> Optional
     ensures { λ r. do
       nodes ← ⟦Flat::MAX_NODES⟧ .entry
       deep ← ⟦Flat::MAX_DEPTH⟧ .entry
@@ -164,7 +134,7 @@ pub fn inner_dtype_args<'a>(kinds: &[u8], args: &'a [u64]) -> &'a [u64]
 }
 
 // The type under all Lists and Arrays.
-pub fn leaf_dtype(kinds: &[u8], args: &[u64]) -> Inner
+pub fn leaf_dtype(kinds: &[u8], args: &[u64]) -> Optional
     ensures { λ r. do
       nodes ← ⟦Flat::MAX_NODES⟧ .entry
       deep ← ⟦Flat::MAX_DEPTH⟧ .entry
@@ -196,7 +166,7 @@ pub fn leaf_dtype_args<'a>(kinds: &[u8], args: &'a [u64]) -> &'a [u64]
 }
 
 // The type under an Array's consecutive Arrays.
-pub fn array_leaf_dtype(kinds: &[u8], args: &[u64]) -> Inner
+pub fn array_leaf_dtype(kinds: &[u8], args: &[u64]) -> Optional
     ensures { λ r. do
       nodes ← ⟦Flat::MAX_NODES⟧ .entry
       deep ← ⟦Flat::MAX_DEPTH⟧ .entry

@@ -8,26 +8,26 @@ use Rattle.flat.specs.Reading.{Reading, refused, type}
 use Rattle.flat.specs.declared.error.Error.{Error}
 use Rattle.encoded.specs.Answer.{fittingBytes, bytesOver, encodedOf, Encodes}
 use Rattle.encoded.specs.declared.Encoded.{Encoded}
-use Rattle.supertype_answer.specs.declared.Joined.{Joined}
+use Rattle.flat.specs.declared.Optional.{Optional}
 use Rattle.encoded_join.specs.Join.{fittingFoundBytes, joinedBytes, JoinsBytes}
 
-pub joins-refused : (w m : ℕ) {found : Option Reading} {e : Error} {out : List ℕ} → found ≡ some (refused e) → JoinsBytes w (fittingFoundBytes w m found) out out (Joined.Refused e)
+pub found-refused : (w m : ℕ) {found : Option Reading} {e : Error} {out : List ℕ} → found ≡ some (refused e) → JoinsBytes w (fittingFoundBytes w m found) out out (Optional.Refused e)
 unfolding fittingBytes bytesOver
-joins-refused w m h = rw h (record { answers = refl; bytes = refl })
+found-refused w m h = rw h (record { answers = refl; bytes = refl })
 
 -- what was found, as `encode` leaves it
 module _ (w : ℕ) where
-  bytes-joined : (r : Reading) {n : ℕ} → Encoded.Bytes n ≡ encodedOf w r → Joined.Written n ≡ joinedBytes w (some r)
+  bytes-joined : (r : Reading) {n : ℕ} → Encoded.Bytes n ≡ encodedOf w r → Optional.Some n ≡ joinedBytes w (some r)
   bytes-joined (refused e) q = absurd (let z : _≡_ {A = ℕ} 0 1 = cc in omega arith)
   bytes-joined (type t) q = cc
 
-  refusal-joined : (r : Reading) {e : Error} → Encoded.Refused e ≡ encodedOf w r → Joined.Refused e ≡ joinedBytes w (some r)
+  refusal-joined : (r : Reading) {e : Error} → Encoded.Refused e ≡ encodedOf w r → Optional.Refused e ≡ joinedBytes w (some r)
   refusal-joined (refused d) q = cc
   refusal-joined (type t) q = absurd (let z : _≡_ {A = ℕ} 0 1 = cc in omega arith)
 
   module _ {r : Reading} {out out′ : List ℕ} {a : Encoded} (p : Encodes w r out out′ a) where
-    pub joins-bytes : {n : ℕ} → a ≡ Encoded.Bytes n → JoinsBytes w (some r) out out′ (Joined.Written n)
+    pub joins-bytes : {n : ℕ} → a ≡ Encoded.Bytes n → JoinsBytes w (some r) out out′ (Optional.Some n)
     joins-bytes q = record { answers = bytes-joined r (sym q ∙ p .answers); bytes = p .bytes }
 
-    pub joins-refusal : {e : Error} → a ≡ Encoded.Refused e → JoinsBytes w (some r) out out′ (Joined.Refused e)
-    joins-refusal q = record { answers = refusal-joined r (sym q ∙ p .answers); bytes = p .bytes }
+    pub found-refusal : {e : Error} → a ≡ Encoded.Refused e → JoinsBytes w (some r) out out′ (Optional.Refused e)
+    found-refusal q = record { answers = refusal-joined r (sym q ∙ p .answers); bytes = p .bytes }

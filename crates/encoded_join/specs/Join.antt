@@ -8,17 +8,17 @@ use Rattle.flat.specs.Reading.{Reading, refused, type}
 use Rattle.flat.specs.Reader.{mapO}
 use Rattle.encoded.specs.Encoding.{encodedSize}
 use Rattle.encoded.specs.Answer.{fittingBytes, bytesOver}
-use Rattle.supertype_answer.specs.declared.Joined.{Joined}
+use Rattle.flat.specs.declared.Optional.{Optional}
 
 -- 8 last of all, and only where there is a type to write to m bytes
 abbrev pub fittingFoundBytes : ℕ → ℕ → Option Reading → Option Reading
 fittingFoundBytes w m = mapO (fittingBytes w m)
 
 -- the answer: the number of bytes
-abbrev pub joinedBytes : ℕ → Option Reading → Joined
-joinedBytes w none = Joined.Nothing
-joinedBytes w (some (refused e)) = Joined.Refused e
-joinedBytes w (some (type t)) = Joined.Written (encodedSize w (size t))
+abbrev pub joinedBytes : ℕ → Option Reading → Optional
+joinedBytes w none = Optional.Nothing
+joinedBytes w (some (refused e)) = Optional.Refused e
+joinedBytes w (some (type t)) = Optional.Some (encodedSize w (size t))
 
 -- the lent bytes after the call: None writes nothing
 abbrev pub bytesFound : ℕ → Option Reading → List ℕ → List ℕ
@@ -26,6 +26,6 @@ bytesFound w none out = out
 bytesFound w (some r) out = bytesOver w r out
 
 -- What such a call comes to: its answer, and the lent bytes, out before the call and out′ after it.
-pub record JoinsBytes (w : ℕ) (found : Option Reading) (out out′ : List ℕ) (answer : Joined) : Type 0 where
+pub record JoinsBytes (w : ℕ) (found : Option Reading) (out out′ : List ℕ) (answer : Optional) : Type 0 where
   pub answers : answer ≡ joinedBytes w found
   pub bytes : out′ ≡ bytesFound w found out

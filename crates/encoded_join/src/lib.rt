@@ -15,28 +15,28 @@ use encoded::Encoded;
 use encoded::Encoding;
 use encoded::check_root;
 use flat::Flat;
+use flat::Optional;
 use supertype::join_roots;
 use supertype_answer::Found;
-use supertype_answer::Joined;
 use supertype_lossless::upcast_roots;
 use supertype_report::Report;
 use supertype_report::report_roots;
 
 // Encodes the type that was found to the front of out: refusal 8.
-fn put(found: Found, out: &mut [u8]) -> Joined
+fn put(found: Found, out: &mut [u8]) -> Optional
     ensures { λ r. do
       w ← ⟦Encoding::ARGUMENT_BYTES⟧ .entry
       ⌜ JoinsBytes w (fittingFoundBytes w (length (now (out .entry))) (resultOf found)) (now (out .entry)) (now (out .exit)) r ⌝ }
 {
     match found {
-        Found::Nothing => Joined::Nothing,
-        Found::Refused(e) => Joined::Refused(e),
+        Found::Nothing => Optional::Nothing,
+        Found::Refused(e) => Optional::Refused(e),
         Found::Some(k, a) => {
             let kinds = [k];
             let args = [a];
             match encoded::put(&kinds, &args, out) {
-                Encoded::Bytes(size) => Joined::Written(size),
-                Encoded::Refused(e) => Joined::Refused(e),
+                Encoded::Bytes(size) => Optional::Some(size),
+                Encoded::Refused(e) => Optional::Refused(e),
             }
         }
     }
@@ -49,7 +49,7 @@ pub fn get_supertype_with_options(
     allow_implode_list: bool,
     allow_primitive_to_string: bool,
     out: &mut [u8],
-) -> Joined
+) -> Optional
     ensures { λ r. do
       nodes ← ⟦Flat::MAX_NODES⟧ .entry
       deep ← ⟦Flat::MAX_DEPTH⟧ .entry
@@ -62,7 +62,7 @@ pub fn get_supertype_with_options(
 }
 
 // `get_numeric_upcast_supertype_lossless`: refusals 1 to 5 of the left type, of the right, then 8.
-pub fn get_numeric_upcast_supertype_lossless(left: &[u8], right: &[u8], out: &mut [u8]) -> Joined
+pub fn get_numeric_upcast_supertype_lossless(left: &[u8], right: &[u8], out: &mut [u8]) -> Optional
     ensures { λ r. do
       nodes ← ⟦Flat::MAX_NODES⟧ .entry
       deep ← ⟦Flat::MAX_DEPTH⟧ .entry

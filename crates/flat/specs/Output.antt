@@ -2,14 +2,17 @@
 use mathlib.Core.Path.{_≡_}
 use mathlib.Core.Bool.{_&&_}
 use mathlib.Core.List.{List, _++_}
+use mathlib.Core.Option.{Option, none, some}
 use Prim.Native.Nat.{ℕ}
 use lib.Dec.{leb}
 use lib.ListN.{length, drop}
 use Rattle.flat.specs.Refusal.{numberOf}
 use Rattle.flat.specs.Tree.{size, kindsOf, argsOf}
+use Rattle.flat.specs.Reader.{mapO}
 use Rattle.flat.specs.Reading.{Reading, refused, type, unless}
 use Rattle.flat.specs.declared.error.Error.the-variants.{OutputTooShort}
 use Rattle.flat.specs.declared.Written.{Written}
+use Rattle.flat.specs.declared.Optional.{Optional}
 
 -- 8: the output arrays, of k kinds and a arguments, are shorter than the result, where there is one
 unfoldable pub fitting : ℕ → ℕ → Reading → Reading
@@ -49,3 +52,41 @@ pub record Writes (r : Reading) (ks xs ks′ xs′ : List ℕ) (answer : Written
   pub answers : answer ≡ writtenOf r
   pub kinds : ks′ ≡ kindsOver r ks
   pub args : xs′ ≡ argsOver r xs
+
+-- ---- a call whose result may be the source's None, which writes nothing
+
+-- 8 last of all, and only where there is a type to write
+abbrev pub fittingFound : ℕ → ℕ → Option Reading → Option Reading
+fittingFound k a = mapO (fitting k a)
+
+-- the answer: the number of nodes
+abbrev pub optionalOf : Option Reading → Optional
+optionalOf none = Optional.Nothing
+optionalOf (some (refused e)) = Optional.Refused e
+optionalOf (some (type t)) = Optional.Some (size t)
+
+-- its number, and the value beside it: how many nodes or bytes, 0 for None
+abbrev pub optionalNumber : Optional → ℕ
+optionalNumber (Optional.Some n) = 0
+optionalNumber Optional.Nothing = 0
+optionalNumber (Optional.Refused e) = numberOf e
+
+abbrev pub optionalValue : Optional → ℕ
+optionalValue (Optional.Some n) = n
+optionalValue Optional.Nothing = 0
+optionalValue (Optional.Refused e) = 0
+
+-- a lent array of kinds after the call, and one of arguments
+abbrev pub kindsFound : Option Reading → List ℕ → List ℕ
+kindsFound none out = out
+kindsFound (some r) out = kindsOver r out
+
+abbrev pub argsFound : Option Reading → List ℕ → List ℕ
+argsFound none out = out
+argsFound (some r) out = argsOver r out
+
+-- What such a call comes to: its answer, and the two lent arrays, ks and xs before the call and ks′ and xs′ after it.
+pub record WritesFound (found : Option Reading) (ks xs ks′ xs′ : List ℕ) (answer : Optional) : Type 0 where
+  pub answers : answer ≡ optionalOf found
+  pub kinds : ks′ ≡ kindsFound found ks
+  pub args : xs′ ≡ argsFound found xs

@@ -13,7 +13,7 @@ ghost use lib.ListN.{length};
 ghost use Rattle.flat.specs.Reader.{nodeAt};
 ghost use Rattle.flat.specs.Reading.{kindsFit, argumentsFit, shaped, reading, onePlain, checkedOf, checkedNumber, checkedValue, rootOf, rootNumber, rootKind, rootArg, RootFits};
 ghost use Rattle.flat.specs.Scan.{scanAccepts, start, scanType};
-ghost use Rattle.flat.specs.Output.{writtenNumber, writtenValue};
+ghost use Rattle.flat.specs.Output.{writtenNumber, writtenValue, optionalNumber, optionalValue};
 use argument::argument_fits;
 use error::Error;
 use kind::Kind;
@@ -82,6 +82,37 @@ impl Written {
         match self {
             Written::Nodes(n) => n as u64,
             Written::Refused(_) => 0,
+        }
+    }
+}
+
+// What a call answers whose result may be the source's None: Some, with how many nodes or bytes it has, None, or the refusal.
+pub enum Optional {
+    Some(usize),
+    Nothing,
+    Refused(Error),
+}
+
+impl Optional {
+    // Document 01's number.
+    pub fn number(self) -> u64
+        ensures { λ r. ⌜ r ≡ optionalNumber self ⌝ }
+    {
+        match self {
+            Optional::Some(_) => 0,
+            Optional::Nothing => 0,
+            Optional::Refused(e) => e.number(),
+        }
+    }
+
+    // The value beside the number: 0 for None.
+    pub fn value(self) -> u64
+        ensures { λ r. ⌜ r ≡ optionalValue self ⌝ }
+    {
+        match self {
+            Optional::Some(n) => n as u64,
+            Optional::Nothing => 0,
+            Optional::Refused(_) => 0,
         }
     }
 }

@@ -20,8 +20,8 @@ use dtype::answer::Answer;
 use dtype_cast::can_cast_to;
 use dtype_eq::contains_dtype_recursive;
 use dtype_eq::equal;
-use dtype_inner::Inner;
 use flat::Flat;
+use flat::Optional;
 use flat::error::Error;
 use supertype_report::join_report;
 
@@ -50,7 +50,7 @@ fn predicate(entry: u64, kinds: &[u8], args: &[u64]) -> Answer {
 }
 
 // The room is recorded first. The port gives parts of the input and the recorded call copies, so only that one is refused for its room.
-fn is_part(inner: Inner, kinds: &[u8], args: &[u64], recorded: &[u64]) -> bool {
+fn is_part(inner: Optional, kinds: &[u8], args: &[u64], recorded: &[u64]) -> bool {
     if recorded.len() == 0 {
         return false;
     }

@@ -6,8 +6,8 @@ use crate::parts::first;
 use crate::parts::from;
 use crate::parts::rest;
 use crate::reader::NODES;
+use flat::Optional;
 use flat::Written;
-use supertype_answer::Joined;
 
 // What stands in the arrays before a call: no kind, and an argument that no recorded type has.
 const KIND: u8 = 255;
@@ -53,7 +53,7 @@ fn join(
     right_args: &[u64],
     out_kinds: &mut [u8],
     out_args: &mut [u64],
-) -> Joined {
+) -> Optional {
     match rule {
         Rule::Lossless => supertype_lossless::get_numeric_upcast_supertype_lossless(
             left_kinds,

@@ -5,18 +5,19 @@ ghost use mathlib.Core.Path.{_≡_};
 ghost use mathlib.Core.Bool.{false};
 ghost use lib.ListN.{length};
 ghost use Rattle.flat.specs.Reading.{reading, RootFits};
-ghost use Rattle.supertype_answer.specs.Join.{node, resultOf, joining, joiningRoots, fittingFound, Joins};
+ghost use Rattle.flat.specs.Output.{fittingFound, WritesFound};
+ghost use Rattle.supertype_answer.specs.Join.{node, resultOf, joining, joiningRoots};
 ghost use Rattle.supertype.specs.Pair.{decimalWithInteger, pairChecked, rootSupertype, supertypeOf};
 use dtype::kind::is_nested;
 use flat::Checked;
 use flat::Flat;
+use flat::Optional;
 use flat::Root;
 use flat::error::Error;
 use flat::kind::Kind;
 use node::node_supertype;
 use supertype_answer::Common;
 use supertype_answer::Found;
-use supertype_answer::Joined;
 use supertype_answer::put;
 use supertype_numbers::integer::is_listed;
 
@@ -86,11 +87,11 @@ pub fn get_supertype_with_options(
     allow_primitive_to_string: bool,
     out_kinds: &mut [u8],
     out_args: &mut [u64],
-) -> Joined
+) -> Optional
     ensures { λ r. do
       nodes ← ⟦Flat::MAX_NODES⟧ .entry
       deep ← ⟦Flat::MAX_DEPTH⟧ .entry
-      ⌜ Joins (fittingFound (length (now («out_kinds» .entry))) (length (now («out_args» .entry))) (joining (supertypeOf «allow_implode_list» «allow_primitive_to_string») (reading nodes deep (now («left_kinds» .entry)) (now («left_args» .entry))) (reading nodes deep (now («right_kinds» .entry)) (now («right_args» .entry))))) (now («out_kinds» .entry)) (now («out_args» .entry)) (now («out_kinds» .exit)) (now («out_args» .exit)) r ⌝ }
+      ⌜ WritesFound (fittingFound (length (now («out_kinds» .entry))) (length (now («out_args» .entry))) (joining (supertypeOf «allow_implode_list» «allow_primitive_to_string») (reading nodes deep (now («left_kinds» .entry)) (now («left_args» .entry))) (reading nodes deep (now («right_kinds» .entry)) (now («right_args» .entry))))) (now («out_kinds» .entry)) (now («out_args» .entry)) (now («out_kinds» .exit)) (now («out_args» .exit)) r ⌝ }
 {
     let left = flat::check_root(left_kinds, left_args);
     let right = flat::check_root(right_kinds, right_args);

@@ -4,12 +4,13 @@ pub mod upcast;
 ghost use mathlib.Core.Path.{_≡_};
 ghost use lib.ListN.{length};
 ghost use Rattle.flat.specs.Reading.{reading};
-ghost use Rattle.supertype_answer.specs.Join.{resultOf, joining, joiningRoots, fittingFound, Joins};
+ghost use Rattle.flat.specs.Output.{fittingFound, WritesFound};
+ghost use Rattle.supertype_answer.specs.Join.{resultOf, joining, joiningRoots};
 ghost use Rattle.supertype_lossless.specs.Lossless.{rootUpcast, losslessOf};
 use flat::Flat;
+use flat::Optional;
 use flat::Root;
 use supertype_answer::Found;
-use supertype_answer::Joined;
 use supertype_answer::put;
 use upcast::Upcast;
 use upcast::upcast_kinds;
@@ -39,11 +40,11 @@ pub fn get_numeric_upcast_supertype_lossless(
     right_args: &[u64],
     out_kinds: &mut [u8],
     out_args: &mut [u64],
-) -> Joined
+) -> Optional
     ensures { λ r. do
       nodes ← ⟦Flat::MAX_NODES⟧ .entry
       deep ← ⟦Flat::MAX_DEPTH⟧ .entry
-      ⌜ Joins (fittingFound (length (now («out_kinds» .entry))) (length (now («out_args» .entry))) (joining losslessOf (reading nodes deep (now («left_kinds» .entry)) (now («left_args» .entry))) (reading nodes deep (now («right_kinds» .entry)) (now («right_args» .entry))))) (now («out_kinds» .entry)) (now («out_args» .entry)) (now («out_kinds» .exit)) (now («out_args» .exit)) r ⌝ }
+      ⌜ WritesFound (fittingFound (length (now («out_kinds» .entry))) (length (now («out_args» .entry))) (joining losslessOf (reading nodes deep (now («left_kinds» .entry)) (now («left_args» .entry))) (reading nodes deep (now («right_kinds» .entry)) (now («right_args» .entry))))) (now («out_kinds» .entry)) (now («out_args» .entry)) (now («out_kinds» .exit)) (now («out_args» .exit)) r ⌝ }
 {
     let left = flat::check_root(left_kinds, left_args);
     let right = flat::check_root(right_kinds, right_args);

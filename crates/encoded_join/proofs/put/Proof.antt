@@ -4,7 +4,7 @@ use borrow.Author.Needs.{needs}
 use Rattle.flat.specs.Tree.{leaf, kindsOf, argsOf}
 use Rattle.encoded.proofs.Answers.{puts-type}
 use Rattle.supertype_answer.specs.Join.{resultOf}
-use Rattle.encoded_join.proofs.Joining.{joins-refused, joins-bytes, joins-refusal}
+use Rattle.encoded_join.proofs.Joining.{found-refused, joins-bytes, found-refusal}
 use Rattle.encoded_join.proofs.put.Statement.{statement}
 use Rattle.encoded_join.proofs.put.Tie as tie
 
@@ -12,7 +12,7 @@ returns : tie.Need-returns
 returns c = rw (c .enum-told .given .1) (record { answers = refl; bytes = refl })
 
 returns-2 : tie.Need-returns-2
-returns-2 c = joins-refused _ _ (ap resultOf (c .before .found .given .1))
+returns-2 c = found-refused _ _ (ap resultOf (c .before .found .given .1))
 
 returns-3 : tie.Need-returns-3
 unfolding kindsOf argsOf
@@ -26,7 +26,7 @@ unfolding kindsOf argsOf
 returns-4 c =
     let at = c .before .before .before .before .before in
     let found = at .before .before .before .before .before .found2 in
-    rw (found .given .1) (joins-refusal _ (puts-type (leaf (found .given .0 .0) (found .given .0 .1 .0)) refl refl (at .put .ensures)) (c .before .e .given .1))
+    rw (found .given .1) (found-refusal _ (puts-type (leaf (found .given .0 .0) (found .given .0 .1 .0)) refl refl (at .put .ensures)) (c .before .e .given .1))
 
 pub put-spec : {M : Type 1} → statement M
 put-spec =

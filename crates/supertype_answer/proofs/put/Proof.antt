@@ -3,7 +3,8 @@ use mathlib.Core.Path.{refl, ap}
 use native.Mathlib.Omega.{arith}
 use borrow.Author.Needs.{needs}
 use Rattle.supertype_answer.specs.Join.{resultOf}
-use Rattle.supertype_answer.proofs.Joins.{joins-nothing, joins-refusal, kinds-too-short, args-too-short, one-node}
+use Rattle.flat.proofs.Outputs.{found-nothing, found-refusal}
+use Rattle.supertype_answer.proofs.Joins.{kinds-too-short, args-too-short, one-node}
 use Rattle.supertype_answer.proofs.put.Statement.{statement}
 use Rattle.supertype_answer.proofs.put.Tie as tie
 
@@ -14,10 +15,10 @@ returns-2 : tie.Need-returns-2
 returns-2 c = args-too-short _ _ _ (c .before .before .before .found2 .given .1) _ _ (omega arith) (omega arith)
 
 returns-3 : tie.Need-returns-3
-returns-3 c = joins-nothing (rw (c .enum-told .given .1) refl)
+returns-3 c = found-nothing (rw (c .enum-told .given .1) refl)
 
 returns-4 : tie.Need-returns-4
-returns-4 c = joins-refusal _ _ (ap resultOf (c .before .found .given .1))
+returns-4 c = found-refusal _ _ (ap resultOf (c .before .found .given .1))
 
 returns-5 : tie.Need-returns-5
 returns-5 c = one-node _ _ _ (c .before .before .before .found2 .given .1) _ _ (omega arith) (omega arith)
