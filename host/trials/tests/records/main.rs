@@ -1,7 +1,8 @@
 //! What is written in README.md and docs/ beside the sources: the list of entry points, the names of definitions, laws and
-//! tests, and the width of lines.
+//! tests, and the width of lines; and how the Rattle crates are written.
 
 mod entry_points;
+mod house;
 mod names;
 
 use std::fs;
