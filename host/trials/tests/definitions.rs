@@ -1,9 +1,9 @@
 //! What stands in `specs/` and no proof can hold to anything: numbers, held to Rust's own constants, and the names of the
 //! units, held to the crate's.
 
-const INTEGER: &str = include_str!("../../../crates/datatypes/specs/Integer.antt");
-const FORMAT: &str = include_str!("../../../crates/utils_numbers/specs/Format.antt");
-const TIME_UNIT: &str = include_str!("../../../crates/datatypes/specs/TimeUnit.antt");
+const INTEGER: &str = include_str!("../../../crates/supertype_numbers/specs/Integer.antt");
+const FORMAT: &str = include_str!("../../../crates/supertype_numbers/specs/Format.antt");
+const TIME_UNIT: &str = include_str!("../../../crates/dtype/specs/TimeUnit.antt");
 
 #[test]
 fn the_widths_are_those_of_rusts_integers() {

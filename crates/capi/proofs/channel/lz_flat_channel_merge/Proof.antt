@@ -49,13 +49,13 @@ use Rattle.channels.proofs.merge_in_place.Symbol as place-def
 use Rattle.channels.proofs.merge_in_place.Symbol.{name as #merge-in-place}
 use Rattle.channels.proofs.merge_in_place.Met as place-thm
 use Rattle.capi.specs.Reply.{mergedReply}
-use Rattle.capi.specs.declared.Reply.{Reply}
-use Rattle.capi.proofs.Reply as R
-use Rattle.capi.proofs.Reply.Laws as R′
-use Rattle.capi.proofs.channel.merged_reply as replying
-use Rattle.capi.proofs.channel.merged_reply.Symbol as replying-def
-use Rattle.capi.proofs.channel.merged_reply.Symbol.{name as #merged-reply}
-use Rattle.capi.proofs.channel.merged_reply.Met as replying-thm
+use Rattle.capi.specs.declared.reply.Reply.{Reply}
+use Rattle.capi.proofs.reply.Reply as R
+use Rattle.capi.proofs.reply.Reply.Laws as R′
+use Rattle.capi.proofs.reply.merged_reply as replying
+use Rattle.capi.proofs.reply.merged_reply.Symbol as replying-def
+use Rattle.capi.proofs.reply.merged_reply.Symbol.{name as #merged-reply}
+use Rattle.capi.proofs.reply.merged_reply.Met as replying-thm
 use Rattle.capi.proofs.Merges.{merge-reply}
 use Rattle.capi.proofs.channel.lz_flat_channel_merge.Key.{name as #lz-flat-channel-merge}
 use Rattle.capi.proofs.channel.lz_flat_channel_merge as lent
