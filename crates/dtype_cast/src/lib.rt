@@ -1,19 +1,17 @@
 // Which casts make sense: `can_cast_to` of dtype.rs.
-pub mod datatype;
-pub mod field;
 mod roots;
 pub mod scan;
+mod walk;
 
 ghost use mathlib.Core.Path.{_≡_};
 ghost use Rattle.flat.specs.Reading.{reading};
-ghost use Rattle.flat.specs.Walk.{typeAt};
+ghost use Rattle.flat.specs.Walk.{Valid, typeAt};
 ghost use Rattle.dtype_cast.specs.Cast.{canCastTo};
-ghost use Rattle.dtype_cast.specs.Walk.{WholeType};
 ghost use Rattle.dtype_cast.specs.Verdict.{verdict, castOf, verdictNumber, verdictValue};
-use datatype::Cast;
 use flat::Checked;
 use flat::Flat;
 use flat::error::Error;
+use walk::Cast;
 
 pub enum Verdict {
     No,
@@ -46,15 +44,15 @@ impl Verdict {
     }
 }
 
-// The verdict on two whole types that were checked: the scan says most of the yeses, the walk the rest.
+// The verdict on two types that were checked, at the front of the arrays: the scan says yes, or the walk decides.
 pub fn checked_cast(
     from_kinds: &[u8],
     from_args: &[u64],
     to_kinds: &[u8],
     to_args: &[u64],
 ) -> Verdict
-    requires { ⌜ WholeType (now «from_kinds») (now «from_args») ⌝ }
-    requires { ⌜ WholeType (now «to_kinds») (now «to_args») ⌝ }
+    requires { ⌜ Valid (now «from_kinds») (now «from_args») ⌝ }
+    requires { ⌜ Valid (now «to_kinds») (now «to_args») ⌝ }
     ensures { λ r. do
       let from = typeAt (now («from_kinds» .entry)) (now («from_args» .entry))
       let to = typeAt (now («to_kinds» .entry)) (now («to_args» .entry))
@@ -63,7 +61,7 @@ pub fn checked_cast(
     if scan::all_yes(from_kinds, from_args, to_kinds, to_args) {
         return Verdict::Yes;
     }
-    match datatype::node_cast(from_kinds, from_args, to_kinds, to_args) {
+    match walk::node_cast(from_kinds, from_args, to_kinds, to_args) {
         Cast::Yes(_, _) => Verdict::Yes,
         Cast::No => Verdict::No,
         Cast::NoVerdict => Verdict::NoVerdict,
