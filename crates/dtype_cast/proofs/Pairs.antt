@@ -1,24 +1,25 @@
--- The walk over two nodes: what is known at its places, as a record each, and a law for each answer. Assumes nothing.
+-- The walk over two nodes: what is known at each of its places, as a record, and a law for each of its answers. Assumes nothing.
 use mathlib.Core.Path.{_≡_, refl, sym, ap, ap₂, subst, _∙_}
 use mathlib.Core.Bool.{Bool, true, false, cond}
 use mathlib.Core.Option.{Option, none, some}
 use mathlib.Core.List.{List}
-use Prim.Native.Nat.{ℕ, suc, _+_, _≤_, _<_}
+use Prim.Native.Nat.{ℕ, suc, _+_, _^_, _≤_, _<_}
 use native.Mathlib.Omega.{arith}
 use lib.Dec.{eqb}
 use lib.ListN.{length, getD}
 use borrow.Author.Tests.{eq-eqb, ne-eqb}
 use Rattle.flat.specs.Kind
-use Rattle.flat.specs.Tree.{DataType, leaf, list, array, struct, Fields, empty, field, count, headKind, headArg, size, sizes}
+use Rattle.flat.specs.Tree.{DataType, struct, Fields, empty, headKind, headArg, size, sizes}
 use Rattle.flat.specs.Walk.{Valid, ValidRun, typeAt, runAt}
-use Rattle.flat.proofs.Walks.{from, length-from, Unary, is-list, is-array, AtNode, at-leaf, at-one, at-struct, at-node, shorter, type-kind, type-arg, type-leaf, type-one, one-valid, unary-size, type-struct, struct-valid, struct-count, run-end}
+use Rattle.flat.proofs.Walks.{from, length-from, shorter, Unary, is-list, is-array, unary-size, AtNode, at-leaf, at-one, at-struct, at-node}
+use Rattle.flat.proofs.Walks.{type-kind, type-arg, type-leaf, type-one, type-struct, one-valid, struct-valid, struct-count, run-end}
 use Rattle.dtype_cast.specs.Cast.{canCastTo, fieldsCast}
 use Rattle.dtype_cast.specs.Walk.{castWith, castAnswer, fieldsAnswer, castAfter, Within, earlyOf}
 use Rattle.dtype_cast.specs.declared.walk.Cast.{Cast}
 use Rattle.dtype_cast.specs.declared.walk.Cast.the-variants.{Yes, No, NoVerdict}
 use Rattle.dtype_cast.specs.declared.roots.Early.{Early}
 use Rattle.dtype_cast.specs.declared.roots.Early.the-variants as early
-use Rattle.dtype_cast.proofs.Arms.{arms, first, Rooted, by-roots, yes-leaf}
+use Rattle.dtype_cast.proofs.Arms.{arms, first, Rooted, by-roots, yes-leaf, other-arms, one-arms, width-arms, struct-arms}
 
 -- an answer's numbers are those of the two types
 within : (l : ℕ) (r : Cast) (q : Option Bool) (n m : ℕ) → r ≡ castWith q n m → n ≤ l → m ≤ l → Within l r
@@ -42,83 +43,57 @@ one-more none n m = refl
 one-more (some false) n m = refl
 one-more (some true) n m = ap₂ Yes (let y : 1 + n ≡ suc n = omega arith in y) (let y : 1 + m ≡ suc m = omega arith in y)
 
--- the arms of two roots of different kinds, and of two Lists or Arrays
-other-arms : (t u : DataType) → (headKind t ≡ headKind u → ⊥) → arms t u ≡ none
-unfolding headKind
-other-arms (leaf k a) u f = refl
-other-arms (list t) (leaf l b) f = refl
-other-arms (list t) (list u) f = absurd (f refl)
-other-arms (list t) (array v u) f = refl
-other-arms (list t) (struct gs) f = refl
-other-arms (array w t) (leaf l b) f = refl
-other-arms (array w t) (list u) f = refl
-other-arms (array w t) (array v u) f = absurd (f refl)
-other-arms (array w t) (struct gs) f = refl
-other-arms (struct fs) (leaf l b) f = refl
-other-arms (struct fs) (list u) f = refl
-other-arms (struct fs) (array v u) f = refl
-other-arms (struct fs) (struct gs) f = absurd (f refl)
-
-one-arms : {k a l b : ℕ} {f g : DataType → DataType} → Unary k a f → Unary l b g → k ≡ l → b ≡ a → (t u : DataType) → arms (f t) (g u) ≡ canCastTo t u
-one-arms is-list is-list p q t u = refl
-one-arms is-list is-array p q t u = absurd (omega arith)
-one-arms is-array is-list p q t u = absurd (omega arith)
-one-arms (is-array {a}) (is-array {a = b}) p q t u = rw (eq-eqb a b (sym q))
-
-width-arms : {k a l b : ℕ} {f g : DataType → DataType} → Unary k a f → Unary l b g → k ≡ l → (b ≡ a → ⊥) → (t u : DataType) → arms (f t) (g u) ≡ some false
-width-arms is-list is-list p q t u = absurd (q refl)
-width-arms is-list is-array p q t u = absurd (omega arith)
-width-arms is-array is-list p q t u = absurd (omega arith)
-width-arms (is-array {a}) (is-array {a = b}) p q t u = rw (ne-eqb a b (λ e. q (sym e)))
-
--- of two Structs, the first with a field
-pub struct-arms : (fs gs : Fields) → (count fs ≡ 0 → ⊥) → arms (struct fs) (struct gs) ≡ cond (eqb (count fs) (count gs)) (fieldsCast fs gs) (some false)
-unfolding count
-struct-arms empty gs z = absurd (z refl)
-struct-arms (field name t fs) gs z = refl
-
--- ---- what the walk says of the types at the front of two pairs of arrays, and of m fields there
+-- ---- the walk's answers
+-- on the types at the front of two pairs of arrays, and on m fields there
 abbrev pub answered : List ℕ → List ℕ → List ℕ → List ℕ → Cast
 answered ks xs ls ys = castAnswer (typeAt ks xs) (typeAt ls ys)
 
 abbrev pub fields-answered : ℕ → List ℕ → List ℕ → List ℕ → List ℕ → Cast
 fields-answered m ks xs ls ys = fieldsAnswer (runAt m ks xs) (runAt m ls ys)
 
--- what the roots decide
+-- of the two roots
 abbrev early-at : List ℕ → List ℕ → List ℕ → List ℕ → Early
 early-at ks xs ls ys = earlyOf (getD ks 0 0) (getD xs 0 0) (getD ls 0 0) (getD ys 0 0)
 
 -- ---- the places of the walk
+-- A call was made: the walk's measure is t, and the numbers of nodes are far from the largest number.
+pub record Called (t : ℕ) (ks ls : List ℕ) : Type 0 where
+  pub measure : length ks ≡ t
+  pub short : length ks ≤ 2 ^ 63
+  pub short-right : length ls ≤ 2 ^ 63
+
 -- The roots of two types have told: a yes, a no, or that they leave it open.
-pub record Roots (told : Early) (ks xs ls ys : List ℕ) : Type 0 where
+pub record Roots (t : ℕ) (told : Early) (ks xs ls ys : List ℕ) : Type 0 where
+  pub called : Called t ks ls
   pub left : Valid ks xs
   pub right : Valid ls ys
   pub says : told ≡ early-at ks xs ls ys
 
 -- Two types of one kind whose roots leave it open.
-pub record SameKind (ks xs ls ys : List ℕ) : Type 0 where
-  pub roots : Roots early.Open ks xs ls ys
+pub record SameKind (t : ℕ) (ks xs ls ys : List ℕ) : Type 0 where
+  pub roots : Roots t early.Open ks xs ls ys
   pub same-kind : getD ks 0 0 ≡ getD ls 0 0
 
 -- Two Structs.
-pub record Structs (ks xs ls ys : List ℕ) : Type 0 where
-  pub kinds : SameKind ks xs ls ys
+pub record Structs (t : ℕ) (ks xs ls ys : List ℕ) : Type 0 where
+  pub kinds : SameKind t ks xs ls ys
   pub is-struct : getD ks 0 0 ≡ Kind.Struct
 
 -- Two Structs with as many fields, and one at least.
-pub record AsMany (ks xs ls ys : List ℕ) : Type 0 where
-  pub structs : Structs ks xs ls ys
+pub record AsMany (t : ℕ) (ks xs ls ys : List ℕ) : Type 0 where
+  pub structs : Structs t ks xs ls ys
   pub some-field : getD xs 0 0 ≡ 0 → ⊥
   pub same-count : getD xs 0 0 ≡ getD ys 0 0
 
 -- Two Lists or two Arrays.
-pub record Inners (ks xs ls ys : List ℕ) : Type 0 where
-  pub kinds : SameKind ks xs ls ys
+pub record Inners (t : ℕ) (ks xs ls ys : List ℕ) : Type 0 where
+  pub kinds : SameKind t ks xs ls ys
   pub nested : Kind.List ≤ getD ks 0 0
   pub no-struct : getD ks 0 0 ≡ Kind.Struct → ⊥
 
 -- ---- the laws: one for each answer
-module _ {told : Early} {ks xs ls ys : List ℕ} (r : Roots told ks xs ls ys) where
+module _ {t : ℕ} {told : Early} {ks xs ls ys : List ℕ} (r : Roots t told ks xs ls ys) where
+  -- the left type is a leaf of a kind without children, or nested
   rooted : Rooted (typeAt ks xs)
   rooted = go (typeAt ks xs) (at-node ks xs (typeAt ks xs) (r .left))
     where
@@ -126,10 +101,10 @@ module _ {told : Early} {ks xs ls ys : List ℕ} (r : Roots told ks xs ls ys) wh
       one is-list u = tt
       one is-array u = tt
 
-      go : (t : DataType) → AtNode ks xs t → Rooted t
-      go t (at-leaf h) = h
-      go t (at-one {f} {u} o n) = one o u
-      go t (at-struct e q) = tt
+      go : (u : DataType) → AtNode ks xs u → Rooted u
+      go u (at-leaf h) = h
+      go u (at-one {u = v} o n) = one o v
+      go u (at-struct e q) = tt
 
   heads : earlyOf (headKind (typeAt ks xs)) (headArg (typeAt ks xs)) (headKind (typeAt ls ys)) (headArg (typeAt ls ys)) ≡ told
   heads = rw (type-kind ks xs (r .left), type-arg ks xs (r .left), type-kind ls ys (r .right), type-arg ls ys (r .right)) (sym (r .says))
@@ -145,21 +120,21 @@ by-verdict t u q e = ap (λ (z : Option Bool). castWith z (size t) (size u)) (sy
 by-yes : (t u : DataType) {n : ℕ} → size t ≡ 1 → n ≡ size u → canCastTo t u ≡ some true → Yes 1 n ≡ castAnswer t u
 by-yes t u s e q = ap₂ Yes (sym s) e ∙ by-verdict t u (some true) q
 
-module _ {ks xs ls ys : List ℕ} where
-  pub roots-yes : Roots early.Yes ks xs ls ys → {n : ℕ} → n ≡ size (typeAt ls ys) → Yes 1 n ≡ answered ks xs ls ys
+module _ {t : ℕ} {ks xs ls ys : List ℕ} where
+  pub roots-yes : Roots t early.Yes ks xs ls ys → {n : ℕ} → n ≡ size (typeAt ls ys) → Yes 1 n ≡ answered ks xs ls ys
   roots-yes r q = by-yes _ _ (yes-leaf (typeAt ks xs) (typeAt ls ys) (sym (heads r))) q (decides r)
 
-  pub roots-no : Roots early.No ks xs ls ys → No ≡ answered ks xs ls ys
+  pub roots-no : Roots t early.No ks xs ls ys → No ≡ answered ks xs ls ys
   roots-no r = by-verdict _ _ (some false) (decides r)
 
-  pub other-kinds : Roots early.Open ks xs ls ys → (getD ks 0 0 ≡ getD ls 0 0 → ⊥) → NoVerdict ≡ answered ks xs ls ys
+  pub other-kinds : Roots t early.Open ks xs ls ys → (getD ks 0 0 ≡ getD ls 0 0 → ⊥) → NoVerdict ≡ answered ks xs ls ys
   other-kinds r f = by-verdict _ _ none (decides r ∙ other-arms (typeAt ks xs) (typeAt ls ys) (λ e. f (sym (type-kind ks xs (r .left)) ∙ e ∙ type-kind ls ys (r .right))))
 
-  pub two-leaves : SameKind ks xs ls ys → getD ks 0 0 < Kind.List → NoVerdict ≡ answered ks xs ls ys
-  two-leaves u h = by-verdict _ _ none (decides (u .roots) ∙ ap (λ (t : DataType). arms t (typeAt ls ys)) (type-leaf ks xs (u .roots .left) h))
+  pub two-leaves : SameKind t ks xs ls ys → getD ks 0 0 < Kind.List → NoVerdict ≡ answered ks xs ls ys
+  two-leaves u h = by-verdict _ _ none (decides (u .roots) ∙ ap (λ (z : DataType). arms z (typeAt ls ys)) (type-leaf ks xs (u .roots .left) h))
 
 -- ---- two Structs
-module _ {ks xs ls ys : List ℕ} (u : Structs ks xs ls ys) where
+module _ {t : ℕ} {ks xs ls ys : List ℕ} (u : Structs t ks xs ls ys) where
   right-struct : getD ls 0 0 ≡ Kind.Struct
   right-struct = sym (u .kinds .same-kind) ∙ u .is-struct
 
@@ -187,20 +162,21 @@ module _ {ks xs ls ys : List ℕ} (u : Structs ks xs ls ys) where
   pub other-count : (getD xs 0 0 ≡ 0 → ⊥) → (getD xs 0 0 ≡ getD ys 0 0 → ⊥) → No ≡ answered ks xs ls ys
   other-count z q = by-verdict _ _ (some false) (by-fields z ∙ rw (ne-eqb (getD xs 0 0) (getD ys 0 0) q))
 
-module _ {ks xs ls ys : List ℕ} (u : AsMany ks xs ls ys) where
+module _ {t : ℕ} {ks xs ls ys : List ℕ} (u : AsMany t ks xs ls ys) where
   both-runs : ValidRun (getD xs 0 0) (from 1 ks) (from 1 xs) × ValidRun (getD xs 0 0) (from 1 ls) (from 1 ys)
   both-runs =
       let s = u .structs in
       (struct-valid ks xs (s .kinds .roots .left) (s .is-struct), rw (u .same-count) (struct-valid ls ys (s .kinds .roots .right) (right-struct s)))
 
-  -- t is the walk's measure
-  pub fields-call : {t : ℕ} → length ks ≡ t
-      → (length (from 1 ks) < t) × (ValidRun (getD xs 0 0) (from 1 ks) (from 1 xs) × ValidRun (getD xs 0 0) (from 1 ls) (from 1 ys))
-  fields-call {t} e = (shorter ks 0 t e (omega (arith, u .structs .kinds .roots .left)), both-runs)
+  pub fields-call : (length (from 1 ks) < t)
+      × (ValidRun (getD xs 0 0) (from 1 ks) (from 1 xs) × ValidRun (getD xs 0 0) (from 1 ls) (from 1 ys))
+  fields-call = let r = u .structs .kinds .roots in (shorter ks 0 t (r .called .measure) (omega (arith, r .left)), both-runs)
 
   module _ {r : Cast} (e : r ≡ fields-answered (getD xs 0 0) (from 1 ks) (from 1 xs) (from 1 ls) (from 1 ys)) where
-    pub fields-within : {l : ℕ} → length ks ≤ l → length ls ≤ l → Within l r
-    fields-within {l} n m = within-fields l r _ _ e (omega (arith, both-runs .0 .within, length-from 1 ks)) (omega (arith, both-runs .1 .within, length-from 1 ls))
+    pub fields-within : Within (2 ^ 63) r
+    fields-within =
+        let c = u .structs .kinds .roots .called in
+        within-fields (2 ^ 63) r _ _ e (omega (arith, c .short, both-runs .0 .within, length-from 1 ks)) (omega (arith, c .short-right, both-runs .1 .within, length-from 1 ls))
 
     pub fields-cast : castAfter 1 1 r ≡ answered ks xs ls ys
     unfolding fieldsAnswer size
@@ -214,7 +190,7 @@ module _ {ks xs ls ys : List ℕ} (u : AsMany ks xs ls ys) where
         ∙ by-verdict _ _ (fieldsCast fs gs) (by-fields s (u .some-field) ∙ rw (eq-eqb (getD xs 0 0) (getD ys 0 0) (u .same-count)))
 
 -- ---- two Lists or two Arrays
-module _ {ks xs ls ys : List ℕ} (u : Inners ks xs ls ys) where
+module _ {t : ℕ} {ks xs ls ys : List ℕ} (u : Inners t ks xs ls ys) where
   nested-right : Kind.List ≤ getD ls 0 0
   nested-right = omega (arith, u .kinds .same-kind, u .nested)
 
@@ -235,20 +211,21 @@ module _ {ks xs ls ys : List ℕ} (u : Inners ks xs ls ys) where
   both-inner : Valid (from 1 ks) (from 1 xs) × Valid (from 1 ls) (from 1 ys)
   both-inner = (one-valid ks xs (u .kinds .roots .left) (u .nested) (u .no-struct), one-valid ls ys (u .kinds .roots .right) nested-right no-struct-right)
 
-  -- t is the walk's measure
-  pub inner-call : {t : ℕ} → length ks ≡ t → (length (from 1 ks) < t) × (Valid (from 1 ks) (from 1 xs) × Valid (from 1 ls) (from 1 ys))
-  inner-call {t} e = (shorter ks 0 t e (omega (arith, u .kinds .roots .left)), both-inner)
+  pub inner-call : (length (from 1 ks) < t) × (Valid (from 1 ks) (from 1 xs) × Valid (from 1 ls) (from 1 ys))
+  inner-call = let r = u .kinds .roots in (shorter ks 0 t (r .called .measure) (omega (arith, r .left)), both-inner)
 
   module _ {r : Cast} (e : r ≡ answered (from 1 ks) (from 1 xs) (from 1 ls) (from 1 ys)) where
-    pub inner-within : {l : ℕ} → length ks ≤ l → length ls ≤ l → Within l r
-    inner-within {l} n m = within-types l r _ _ e (omega (arith, both-inner .0 .within, length-from 1 ks)) (omega (arith, both-inner .1 .within, length-from 1 ls))
+    pub inner-within : Within (2 ^ 63) r
+    inner-within =
+        let c = u .kinds .roots .called in
+        within-types (2 ^ 63) r _ _ e (omega (arith, c .short, both-inner .0 .within, length-from 1 ks)) (omega (arith, c .short-right, both-inner .1 .within, length-from 1 ls))
 
     pub inner-cast : getD ys 0 0 ≡ getD xs 0 0 → castAfter 1 1 r ≡ answered ks xs ls ys
     unfolding castAnswer
     inner-cast q =
-        let t : DataType = typeAt (from 1 ks) (from 1 xs) in
-        let s : DataType = typeAt (from 1 ls) (from 1 ys) in
-        ap (castAfter 1 1) e ∙ one-more (canCastTo t s) (size t) (size s)
-        ∙ ap₂ (castWith (canCastTo t s)) (sym (ap size (inner-left .2) ∙ unary-size (inner-left .1) t)) (sym (ap size (inner-right .2) ∙ unary-size (inner-right .1) s))
-        ∙ by-verdict _ _ (canCastTo t s)
-        (decides (u .kinds .roots) ∙ ap₂ arms (inner-left .2) (inner-right .2) ∙ one-arms (inner-left .1) (inner-right .1) (u .kinds .same-kind) q t s)
+        let v : DataType = typeAt (from 1 ks) (from 1 xs) in
+        let w : DataType = typeAt (from 1 ls) (from 1 ys) in
+        ap (castAfter 1 1) e ∙ one-more (canCastTo v w) (size v) (size w)
+        ∙ ap₂ (castWith (canCastTo v w)) (sym (ap size (inner-left .2) ∙ unary-size (inner-left .1) v)) (sym (ap size (inner-right .2) ∙ unary-size (inner-right .1) w))
+        ∙ by-verdict _ _ (canCastTo v w)
+        (decides (u .kinds .roots) ∙ ap₂ arms (inner-left .2) (inner-right .2) ∙ one-arms (inner-left .1) (inner-right .1) (u .kinds .same-kind) q v w)

@@ -4,7 +4,7 @@ use mathlib.Core.Path.{_≡_, refl, sym, ap, ap₂, _∙_}
 use mathlib.Core.Bool.{Bool, true, false}
 use mathlib.Core.Option.{Option, none, some}
 use mathlib.Core.List.{List}
-use Prim.Native.Nat.{ℕ, suc, _+_, _-_, _≤_, _<_}
+use Prim.Native.Nat.{ℕ, suc, _+_, _-_, _^_, _≤_, _<_}
 use native.Mathlib.Omega.{arith}
 use lib.ListN.{length}
 use Rattle.flat.specs.Tree.{DataType, Fields, field, size, sizes}
@@ -16,7 +16,7 @@ use Rattle.dtype_cast.specs.Cast.{andThen, canCastTo, fieldsCast}
 use Rattle.dtype_cast.specs.Walk.{castWith, castAnswer, fieldsAnswer, castAfter}
 use Rattle.dtype_cast.specs.declared.walk.Cast.{Cast}
 use Rattle.dtype_cast.specs.declared.walk.Cast.the-variants.{Yes, No, NoVerdict}
-use Rattle.dtype_cast.proofs.Pairs.{answered, fields-answered}
+use Rattle.dtype_cast.proofs.Pairs.{Called, answered, fields-answered}
 
 -- the answer for the first field's types, then for the others
 abbrev after-first : Cast → Cast → Cast
@@ -57,13 +57,14 @@ pub record Along (m : ℕ) (ks xs ls ys : List ℕ) (i j left : ℕ) : Type 0 wh
   pub goes-on : fields-answered m ks xs ls ys ≡ castAfter i j (rest-answered left ks xs ls ys i j)
 
 -- A field is left.
-pub record Ahead (m : ℕ) (ks xs ls ys : List ℕ) (i j left : ℕ) : Type 0 where
+pub record Ahead (t m : ℕ) (ks xs ls ys : List ℕ) (i j left : ℕ) : Type 0 where
+  pub called : Called t ks ls
   pub along : Along m ks xs ls ys i j left
   pub more : 0 < left
 
 -- The types of the next field, of n and o nodes, have yes.
-pub record FieldYes (m : ℕ) (ks xs ls ys : List ℕ) (i j left n o : ℕ) : Type 0 where
-  pub ahead : Ahead m ks xs ls ys i j left
+pub record FieldYes (t m : ℕ) (ks xs ls ys : List ℕ) (i j left n o : ℕ) : Type 0 where
+  pub ahead : Ahead t m ks xs ls ys i j left
   pub yes : Yes n o ≡ next-answered ks xs ls ys i j
 
 not-moved : (c : Cast) → c ≡ castAfter 0 0 c
@@ -93,7 +94,7 @@ fields-done {m} {ks} {xs} {ls} {ys} {i} {j} {left} al z =
     (al .goes-on ∙ ap (castAfter i j) (ap₂ fieldsAnswer (run-end left (from i ks) (from i xs) z) (run-end left (from j ls) (from j ys) z))
     ∙ ap₂ Yes (let y : i + 0 ≡ i = omega arith in y) (let y : j + 0 ≡ j = omega arith in y))
 
-module _ {m : ℕ} {ks xs ls ys : List ℕ} {i j left : ℕ} (a : Ahead m ks xs ls ys i j left) where
+module _ {t m : ℕ} {ks xs ls ys : List ℕ} {i j left : ℕ} (a : Ahead t m ks xs ls ys i j left) where
   some-left : left ≡ 0 → ⊥
   some-left e = absurd (omega (arith, a .more))
 
@@ -101,8 +102,8 @@ module _ {m : ℕ} {ks xs ls ys : List ℕ} {i j left : ℕ} (a : Ahead m ks xs 
   next-types : Valid (from (i + 1) ks) (from (i + 1) xs) × Valid (from (j + 1) ls) (from (j + 1) ys)
   next-types = (next-valid left i ks xs (a .along .one) some-left, next-valid left j ls ys (a .along .other) some-left)
 
-  pub next-call : {t : ℕ} → length ks ≡ t → (length (from (i + 1) ks) < t) × (Valid (from (i + 1) ks) (from (i + 1) xs) × Valid (from (j + 1) ls) (from (j + 1) ys))
-  next-call {t} e = (shorter ks i t e (omega (arith, a .along .within, a .more)), next-types)
+  pub next-call : (length (from (i + 1) ks) < t) × (Valid (from (i + 1) ks) (from (i + 1) xs) × Valid (from (j + 1) ls) (from (j + 1) ys))
+  next-call = (shorter ks i t (a .called .measure) (omega (arith, a .along .within, a .more)), next-types)
 
   -- the answer from here on, by the answer for the next field's types
   ahead : (r : Cast) → r ≡ next-answered ks xs ls ys i j → (n o : ℕ) → n ≡ size (typeAt (from (i + 1) ks) (from (i + 1) xs)) → o ≡ size (typeAt (from (j + 1) ls) (from (j + 1) ys))
@@ -119,16 +120,19 @@ module _ {m : ℕ} {ks xs ls ys : List ℕ} {i j left : ℕ} (a : Ahead m ks xs 
   pub field-unsure : NoVerdict ≡ next-answered ks xs ls ys i j → NoVerdict ≡ fields-answered m ks xs ls ys
   field-unsure e = sym (ahead NoVerdict e _ _ refl refl)
 
-module _ {m : ℕ} {ks xs ls ys : List ℕ} {i j left n o : ℕ} (s : FieldYes m ks xs ls ys i j left n o) where
+module _ {t m : ℕ} {ks xs ls ys : List ℕ} {i j left n o : ℕ} (s : FieldYes t m ks xs ls ys i j left n o) where
   counts : (n ≡ size (typeAt (from (i + 1) ks) (from (i + 1) xs))) × (o ≡ size (typeAt (from (j + 1) ls) (from (j + 1) ys)))
   unfolding castAnswer
   counts = yes-sizes (canCastTo (typeAt (from (i + 1) ks) (from (i + 1) xs)) (typeAt (from (j + 1) ls) (from (j + 1) ys))) _ _ n o (s .yes)
 
-  pub field-ends : (i + 1 + n ≤ length ks) × (j + 1 + o ≤ length ls)
-  field-ends =
+  ends : (i + 1 + n ≤ length ks) × (j + 1 + o ≤ length ls)
+  ends =
       let al = s .ahead .along in
       let v = next-types (s .ahead) in
       (omega (arith, al .within, counts .0, v .0 .within, length-from (i + 1) ks), omega (arith, al .within-other, counts .1, v .1 .within, length-from (j + 1) ls))
+
+  pub field-ends : (i + 1 + n ≤ 2 ^ 63) × (j + 1 + o ≤ 2 ^ 63)
+  field-ends = let c = s .ahead .called in (omega (arith, ends .0, c .short), omega (arith, ends .1, c .short-right))
 
   pub field-done : Along m ks xs ls ys (i + 1 + n) (j + 1 + o) (left - 1)
   field-done =
@@ -138,7 +142,7 @@ module _ {m : ℕ} {ks xs ls ys : List ℕ} {i j left n o : ℕ} (s : FieldYes m
       record {
         one = v;
         other = w;
-        within = omega (arith, field-ends .0, v .pos, v .within, length-from (i + 1 + n) ks);
-        within-other = omega (arith, field-ends .1, w .pos, w .within, length-from (j + 1 + o) ls);
+        within = omega (arith, ends .0, v .pos, v .within, length-from (i + 1 + n) ks);
+        within-other = omega (arith, ends .1, w .pos, w .within, length-from (j + 1 + o) ls);
         goes-on = ahead a (Yes n o) (s .yes) n o (counts .0) (counts .1) ∙ moved i j n o (rest-answered (left - 1) ks xs ls ys (i + 1 + n) (j + 1 + o));
       }
