@@ -1,7 +1,7 @@
 -- `canCastTo` by the roots of two types: what they decide, and else the arm of their kind. Equal types have yes from their arms too, so that the arms need no
 -- test of equality. Assumes nothing.
 use mathlib.Core.Path.{_≡_, refl, sym, ap}
-use mathlib.Core.Bool.{Bool, true, false, cond, _&&_}
+use mathlib.Core.Bool.{Bool, true, false, cond, _&&_, and-false}
 use mathlib.Core.Option.{Option, none, some}
 use Prim.Native.Nat.{ℕ, suc, _≤_}
 use native.Mathlib.Omega.{arith}
@@ -9,6 +9,8 @@ use lib.Dec.{eqb}
 use borrow.Author.Tests.{le-leb, eq-eqb, ne-eqb}
 use Rattle.flat.specs.Kind
 use Rattle.flat.specs.Tree.{DataType, leaf, list, array, struct, Fields, empty, field, count, headKind, headArg, size}
+use Rattle.flat.proofs.Truths.{impossible, never, both-true}
+use Rattle.flat.proofs.Walks.{Unary, is-list, is-array}
 use Rattle.dtype.specs.Match.{among, ifList, ifArray, ifStruct, isEmpty}
 use Rattle.dtype.specs.Predicate.{isUnknownInt, isPrimitiveNumeric, isFloat, isInteger, isSignedInteger, isUnsignedInteger}
 use Rattle.dtype.specs.Equality.{equalNode, equal, equalFields}
@@ -16,17 +18,6 @@ use Rattle.dtype_cast.specs.Cast.{castsWithBoolean, beforeNested, canCas
 use Rattle.dtype_cast.specs.Walk.{equalLeaves, earlyOf, decided}
 use Rattle.dtype_cast.specs.declared.roots.Early.{Early}
 use Rattle.dtype_cast.specs.declared.roots.Early.the-variants.{Yes, No, Open}
-
-never : {A : Type 0} → false ≡ true → A
-never e = absurd (let y : _≡_ {A = ℕ} 0 1 = cc in omega arith)
-
-both : (a b : Bool) → (a && b) ≡ true → (a ≡ true) × (b ≡ true)
-both true b e = (refl, e)
-both false b e = never e
-
-and-false : (a : Bool) → (a && false) ≡ false
-and-false true = refl
-and-false false = refl
 
 -- ---- equal types cast
 pub cast-equal : (t u : DataType) → equal t u ≡ true → canCastTo t u ≡ some true
@@ -36,16 +27,16 @@ cast-equal (list t) u e = rw e
 cast-equal (array w t) u e = rw e
 cast-equal (struct fs) u e = rw e
 
--- so do equal fields, which are as many
+-- equal fields cast, and are as many
 fields-equal : (fs gs : Fields) → equalFields fs gs ≡ true → (count fs ≡ count gs) × (fieldsCast fs gs ≡ some true)
 unfolding equal canCastTo count
 fields-equal empty empty e = (refl, refl)
 fields-equal empty (field other u gs) e = never e
 fields-equal (field name t fs) empty e = never e
 fields-equal (field name t fs) (field other u gs) e =
-    let s = both (eqb name other && equal t u) (equalFields fs gs) e in
+    let s = both-true (eqb name other && equal t u) (equalFields fs gs) e in
     let r = fields-equal fs gs (s .1) in
-    (ap suc (r .0), rw (cast-equal t u (both (eqb name other) (equal t u) (s .0) .1)) (r .1))
+    (ap suc (r .0), rw (cast-equal t u (both-true (eqb name other) (equal t u) (s .0) .1)) (r .1))
 
 -- ---- the arms of nested types
 abbrev pub arms : DataType → DataType → Option Bool
@@ -104,7 +95,7 @@ leaf-first k a h u =
 
 -- Arrays and Structs that are equal have yes from their arms; Lists by `cast-equal`.
 arrays-equal : (w v : ℕ) (t u : DataType) → (eqb w v && equal t u) ≡ true → cond (eqb w v) (canCastTo t u) (some false) ≡ some true
-arrays-equal w v t u e = let s = both (eqb w v) (equal t u) e in rw (s .0) (cast-equal t u (s .1))
+arrays-equal w v t u e = let s = both-true (eqb w v) (equal t u) e in rw (s .0) (cast-equal t u (s .1))
 
 structs-equal : (fs gs : Fields) → equalFields fs gs ≡ true → cond (isEmpty fs) (some true) (cond (eqb (count fs) (count gs)) (fieldsCast fs gs) (some false)) ≡ some true
 structs-equal fs gs e = let s = fields-equal fs gs e in go (isEmpty fs) (eq-eqb (count fs) (count gs) (s .0)) (s .1)
@@ -131,8 +122,8 @@ by-roots (struct fs) (array v u) r = refl
 by-roots (struct fs) (struct gs) r = no-test (equalFields fs gs) _ (structs-equal fs gs)
 
 not-yes : (b : Bool) {A : Type 0} → Yes ≡ cond b No Open → A
-not-yes true e = absurd (let y : _≡_ {A = ℕ} 0 1 = cc in omega arith)
-not-yes false e = absurd (let y : _≡_ {A = ℕ} 0 1 = cc in omega arith)
+not-yes true e = impossible cc
+not-yes false e = impossible cc
 
 -- A yes of the roots is one of a leaf.
 pub yes-leaf : (t u : DataType) → Yes ≡ earlyOf (headKind t) (headArg t) (headKind u) (headArg u) → size t ≡ 1
@@ -141,3 +132,41 @@ yes-leaf (leaf k a) u e = refl
 yes-leaf (list t) u e = not-yes (eqb (headKind u) Kind.Boolean) e
 yes-leaf (array w t) u e = not-yes (eqb (headKind u) Kind.Boolean) e
 yes-leaf (struct fs) u e = not-yes (eqb (headKind u) Kind.Boolean) e
+
+-- ---- the arms by the kinds and the arguments of two roots
+-- two kinds
+pub other-arms : (t u : DataType) → (headKind t ≡ headKind u → ⊥) → arms t u ≡ none
+unfolding headKind
+other-arms (leaf k a) u f = refl
+other-arms (list t) (leaf l b) f = refl
+other-arms (list t) (list u) f = absurd (f refl)
+other-arms (list t) (array v u) f = refl
+other-arms (list t) (struct gs) f = refl
+other-arms (array w t) (leaf l b) f = refl
+other-arms (array w t) (list u) f = refl
+other-arms (array w t) (array v u) f = absurd (f refl)
+other-arms (array w t) (struct gs) f = refl
+other-arms (struct fs) (leaf l b) f = refl
+other-arms (struct fs) (list u) f = refl
+other-arms (struct fs) (array v u) f = refl
+other-arms (struct fs) (struct gs) f = absurd (f refl)
+
+-- two Lists, or two Arrays of one width
+pub one-arms : {k a l b : ℕ} {f g : DataType → DataType} → Unary k a f → Unary l b g → k ≡ l → b ≡ a → (t u : DataType) → arms (f t) (g u) ≡ canCastTo t u
+one-arms is-list is-list p q t u = refl
+one-arms is-list is-array p q t u = absurd (omega arith)
+one-arms is-array is-list p q t u = absurd (omega arith)
+one-arms (is-array {a}) (is-array {a = b}) p q t u = rw (eq-eqb a b (sym q))
+
+-- two Arrays of different widths
+pub width-arms : {k a l b : ℕ} {f g : DataType → DataType} → Unary k a f → Unary l b g → k ≡ l → (b ≡ a → ⊥) → (t u : DataType) → arms (f t) (g u) ≡ some false
+width-arms is-list is-list p q t u = absurd (q refl)
+width-arms is-list is-array p q t u = absurd (omega arith)
+width-arms is-array is-list p q t u = absurd (omega arith)
+width-arms (is-array {a}) (is-array {a = b}) p q t u = rw (ne-eqb a b (λ e. q (sym e)))
+
+-- two Structs, the first with a field
+pub struct-arms : (fs gs : Fields) → (count fs ≡ 0 → ⊥) → arms (struct fs) (struct gs) ≡ cond (eqb (count fs) (count gs)) (fieldsCast fs gs) (some false)
+unfolding count
+struct-arms empty gs z = absurd (z refl)
+struct-arms (field name t fs) gs z = refl

@@ -11,8 +11,7 @@ use Rattle.dtype.specs.Predicate.{isUnknownInt, isPrimitiveNumeric, isFloat, is
 use Rattle.dtype_cast.specs.Cast.{andThen, castsWithBoolean, canCastTo, fieldsCast}
 use Rattle.dtype_cast.specs.Walk.{equalLeaves, earlyOf}
 use Rattle.dtype_cast.specs.Laws.{append, AllCast, no-fields, one-more, CastLaws}
-use Rattle.dtype_cast.proofs.Arms.{arms, by-roots}
-use Rattle.dtype_cast.proofs.Pairs.{struct-arms}
+use Rattle.dtype_cast.proofs.Arms.{arms, by-roots, struct-arms}
 
 -- the roots of two Structs leave it open
 by-arms : (fs gs : Fields) → canCastTo (struct fs) (struct gs) ≡ arms (struct fs) (struct gs)
