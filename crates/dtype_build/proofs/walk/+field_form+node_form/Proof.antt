@@ -11,15 +11,15 @@ use borrow.Fn.PlainCycle.{Measures, is, falls, and}
 use Rattle.flat.proofs.Walks.{shorter, struct-valid, one-valid, struct-nodes, one-nodes}
 use Rattle.flat.proofs.Onward.{next-valid}
 use Rattle.dtype_build.proofs.Builds.{Along, start, leaf-built, one-room, one-built, struct-room, struct-built, fields-built, next-room, all-nodes, field-done, built-size, built-sizes}
-use Rattle.dtype_build.proofs.datatype.node_form.Reads as node-form
-use Rattle.dtype_build.proofs.datatype.node_form.Kinds as node-form-kinds
-use Rattle.dtype_build.proofs.+datatype-node_form+field-field_form.Lts-datatype-node_form as node-form-lts
-use Rattle.dtype_build.proofs.field.field_form.Reads as field-form
-use Rattle.dtype_build.proofs.field.field_form.Kinds as field-form-kinds
-use Rattle.dtype_build.proofs.+datatype-node_form+field-field_form.Lts-field-field_form as field-form-lts
+use Rattle.dtype_build.proofs.walk.node_form.Reads as node-form
+use Rattle.dtype_build.proofs.walk.node_form.Kinds as node-form-kinds
+use Rattle.dtype_build.proofs.walk.+field_form+node_form.Lts-node_form as node-form-lts
+use Rattle.dtype_build.proofs.walk.field_form.Reads as field-form
+use Rattle.dtype_build.proofs.walk.field_form.Kinds as field-form-kinds
+use Rattle.dtype_build.proofs.walk.+field_form+node_form.Lts-field_form as field-form-lts
 use Rattle.dtype_build.proofs.leaf.leaf_form.Reads as leaf-form-reads
-use Rattle.dtype_build.proofs.+datatype-node_form+field-field_form.{statement}
-use Rattle.dtype_build.proofs.+datatype-node_form+field-field_form.Tie.{close}
+use Rattle.dtype_build.proofs.walk.+field_form+node_form.{statement}
+use Rattle.dtype_build.proofs.walk.+field_form+node_form.Tie.{close}
 
 abbrev μ-node-form : Measures 4 node-form-kinds.ps ℕ
 μ-node-form κs a = length (a .1 .0 .now)
@@ -110,8 +110,21 @@ field-form-loop-again t c =
 field-form-returns : (t : ℕ) → field-form-lts.Need-returns (field-form-claims t) (field-form-at t) field-form.Post field-form-Inv-loop field-form-μ-loop
 field-form-returns t c = fields-built (c .before .loop .inv .2) (omega arith)
 
-pub +datatype·node-form+field·field-form-spec : {M : Type 1} → statement M
-+datatype·node-form+field·field-form-spec = close μ-node-form μ-field-form (λ t. node-form-lts.spec (node-form-claims t)
+pub +field-form+node-form-spec : {M : Type 1} → statement M
++field-form+node-form-spec = close μ-field-form μ-node-form (λ t. field-form-lts.spec (field-form-claims t)
+    (field-form-at t)
+    field-form.Post
+    field-form-Inv-loop
+    field-form-μ-loop
+    (field-form-loop-holds t)
+    (λ c. search needs) (λ c. search needs) (λ c. search needs) (λ c. search needs) (λ c. search needs) (λ c. search needs) (λ c. search needs) (λ c. search needs) (λ c. search needs) (λ c. search needs) (λ c. search needs) (λ c. search needs) (λ c. search needs) (λ c. simp length-set (omega arith)) (λ c. simp length-set (omega arith)) (λ c. search needs) (λ c. search needs) (λ c. simp length-set (omega arith)) (λ c. simp length-set (omega arith)) (λ c. search needs)
+    (field-form-node-form-requires t)
+    (field-form-add-at t)
+    (λ c. search needs) (λ c. search needs)
+    (field-form-loop-again t)
+    (λ c. c .before .loop .inv .0) (λ c. c .before .loop .inv .1)
+    (field-form-returns t))
+    λ t. node-form-lts.spec (node-form-claims t)
     (node-form-at t)
     node-form.Post
     (λ c. search needs) (λ c. search needs) (λ c κs. record { kinds = omega arith; args = omega arith }) (λ c. search needs) (λ c. search needs)
@@ -125,17 +138,4 @@ pub +datatype·node-form+field·field-form-spec : {M : Type 1} → statement M
     (node-form-node-form-requires t)
     (node-form-add-result-2 t)
     (λ c. c .before .before .before .out-kinds3 .given .1 ∙ simp length-set) (λ c. c .before .out-args3 .given .1 ∙ simp length-set)
-    (node-form-returns-3 t))
-    λ t. field-form-lts.spec (field-form-claims t)
-    (field-form-at t)
-    field-form.Post
-    field-form-Inv-loop
-    field-form-μ-loop
-    (field-form-loop-holds t)
-    (λ c. search needs) (λ c. search needs) (λ c. search needs) (λ c. search needs) (λ c. search needs) (λ c. search needs) (λ c. search needs) (λ c. search needs) (λ c. search needs) (λ c. search needs) (λ c. search needs) (λ c. search needs) (λ c. search needs) (λ c. simp length-set (omega arith)) (λ c. simp length-set (omega arith)) (λ c. search needs) (λ c. search needs) (λ c. simp length-set (omega arith)) (λ c. simp length-set (omega arith)) (λ c. search needs)
-    (field-form-node-form-requires t)
-    (field-form-add-at t)
-    (λ c. search needs) (λ c. search needs)
-    (field-form-loop-again t)
-    (λ c. c .before .loop .inv .0) (λ c. c .before .loop .inv .1)
-    (field-form-returns t)
+    (node-form-returns-3 t)
