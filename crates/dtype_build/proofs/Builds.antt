@@ -48,11 +48,19 @@ pub record Node : Type 0 where
 abbrev pub result : Node → DataType
 result p = mapLeaves (leafOf (p .form)) (typeAt (p .ks) (p .xs))
 
+-- the parts of K and A that it hands on, once the node at the front is stored
+abbrev pub kindsAfter : Node → List ℕ
+kindsAfter p = after 0 (getD (p .ks) 0 0) (p .K)
+
+abbrev pub argsAfter : Node → List ℕ
+argsAfter p = after 0 (getD (p .xs) 0 0) (p .A)
+
 module _ (p : Node) where
   open Node p using (form, ks, xs, K, A, valid)
 
   -- where the type is a leaf, the leaf is all of it
-  pub leaf-built : getD ks 0 0 < Kind.List → {K′ A′ : List ℕ} {r : ℕ} → BuiltType (leafOf form (getD ks 0 0) (getD xs 0 0)) K A K′ A′ r → BuiltType (result p) K A K′ A′ r
+  pub leaf-built : getD ks 0 0 < Kind.List → {K′ A′ : List ℕ} {r : ℕ} →
+      BuiltType (leafOf form (getD ks 0 0) (getD xs 0 0)) K A K′ A′ r → BuiltType (result p) K A K′ A′ r
   unfolding mapLeaves
   leaf-built l w = rw (type-leaf ks xs valid l) w
 
@@ -61,14 +69,25 @@ module _ (p : Node) where
   built-size w = w .nodes ∙ length-kinds (result p) ∙ size-map form (typeAt ks xs)
 
   -- and what was built was written
-  pub built-writes : {K′ A′ : List ℕ} {r : ℕ} → BuiltType (result p) K A K′ A′ r → Writes (fitting (length K) (length A) (type (result p))) K A K′ A′ (Written.Nodes r)
-  built-writes w = writes-type (room _ _ _ (rw size-map (p .room .kinds)) (rw size-map (p .room .args))) (w .nodes ∙ length-kinds _) (w .kinds) (w .args)
+  pub built-writes : {K′ A′ : List ℕ} {r : ℕ} → BuiltType (result p) K A K′ A′ r →
+      Writes (fitting (length K) (length A) (type (result p))) K A K′ A′ (Written.Nodes r)
+  built-writes w =
+      let fits = room (length K) (length A) (result p) (rw size-map (p .room .kinds)) (rw size-map (p .room .args)) in
+      writes-type fits (w .nodes ∙ length-kinds (result p)) (w .kinds) (w .args)
 
 -- ---- a node that is no leaf
 
--- What stands under it: m nodes, which are built as the kinds P and the arguments Q.
-pub record Parent : Type 0 where
+-- the kinds and the arguments that are built of fields
+abbrev pub kindsBuilt : Form → Fields → List ℕ
+kindsBuilt form fs = kindsOfs (mapFields (leafOf form) fs)
+
+abbrev pub argsBuilt : Form → Fields → List ℕ
+argsBuilt form fs = argsOfs (mapFields (leafOf form) fs)
+
+-- What stands under the node: m nodes, which are built as the kinds P and the arguments Q. Below says that they stand there, by the node's argument.
+pub record Parent (Below : ℕ → List ℕ → List ℕ → Type 0) : Type 0 where
   pub node : Node
+  pub below : Below (getD (node .xs) 0 0) (from 1 (node .ks)) (from 1 (node .xs))
   pub m : ℕ
   pub P : List ℕ
   pub Q : List ℕ
@@ -76,126 +95,118 @@ pub record Parent : Type 0 where
   pub kinds : kindsOf (result node) ≡ getD (node .ks) 0 0 ∷ P
   pub args : argsOf (result node) ≡ getD (node .xs) 0 0 ∷ Q
 
--- the node is stored: the parts after it have room for the rest
-under-room : (p : Parent) → HasRoom (p .m) (after 0 (getD (p .node .ks) 0 0) (p .node .K)) (after 0 (getD (p .node .xs) 0 0) (p .node .A))
-under-room p =
-    let o = p .node .room in
-    record {
-      kinds = omega (arith, p .nodes, after-length 0 (getD (p .node .ks) 0 0) (p .node .K));
-      args = omega (arith, p .nodes, after-length 0 (getD (p .node .xs) 0 0) (p .node .A));
-    }
+module _ (p : Node) where
+  open Node p using (form, ks, xs, valid)
 
--- The parts came back with the rest in them, as L and M.
-pub record Back : Type 0 where
-  pub parent : Parent
+  -- a Struct
+  module _ (kind : getD ks 0 0 ≡ Kind.Struct) where
+    abbrev fields : Fields
+    fields = runAt (getD xs 0 0) (from 1 ks) (from 1 xs)
+
+    pub over-fields : (kindsOf (result p) ≡ getD ks 0 0 ∷ kindsBuilt form fields) ×
+        (argsOf (result p) ≡ getD xs 0 0 ∷ argsBuilt form fields)
+    unfolding kindsOf argsOf mapLeaves
+    over-fields =
+        let c = count-map (leafOf form) fields ∙ struct-count ks xs valid kind in
+        rw (type-struct ks xs valid kind, c, kind) (refl, refl)
+
+    abbrev pub struct-parent : Parent ValidRun
+    struct-parent =
+        record {
+          node = p;
+          below = struct-valid ks xs valid kind;
+          m = sizes fields;
+          P = kindsBuilt form fields;
+          Q = argsBuilt form fields;
+          nodes = struct-nodes ks xs valid kind;
+          kinds = over-fields .0;
+          args = over-fields .1;
+        }
+
+  -- a List or an Array
+  module _ (nested : Kind.List ≤ getD ks 0 0) (other : getD ks 0 0 ≡ Kind.Struct → ⊥) where
+    abbrev inner : DataType
+    inner = typeAt (from 1 ks) (from 1 xs)
+
+    pub over-inner : (kindsOf (result p) ≡ getD ks 0 0 ∷ kindsOf (mapLeaves (leafOf form) inner)) ×
+        (argsOf (result p) ≡ getD xs 0 0 ∷ argsOf (mapLeaves (leafOf form) inner))
+    unfolding kindsOf argsOf mapLeaves
+    over-inner = let f = type-one ks xs valid nested other in rw (f .2) (go (f .1))
+      where
+        go : {k a : ℕ} {f : DataType → DataType} → Unary k a f →
+            (kindsOf (mapLeaves (leafOf form) (f inner)) ≡ k ∷ kindsOf (mapLeaves (leafOf form) inner)) ×
+            (argsOf (mapLeaves (leafOf form) (f inner)) ≡ a ∷ argsOf (mapLeaves (leafOf form) inner))
+        go is-list = (refl, refl)
+        go is-array = (refl, refl)
+
+    abbrev pub wrapper-parent : Parent (λ width. Valid)
+    wrapper-parent =
+        record {
+          node = p;
+          below = one-valid ks xs valid nested other;
+          m = size inner;
+          P = kindsOf (mapLeaves (leafOf form) inner);
+          Q = argsOf (mapLeaves (leafOf form) inner);
+          nodes = one-nodes ks xs valid nested other;
+          kinds = over-inner .0;
+          args = over-inner .1;
+        }
+
+-- the node is stored: what the walk over what stands under it requires
+pub under-requires : {Below : ℕ → List ℕ → List ℕ → Type 0} (p : Parent Below) →
+    Below (getD (p .node .xs) 0 0) (from 1 (p .node .ks)) (from 1 (p .node .xs)) ×
+    HasRoom (p .m) (kindsAfter (p .node)) (argsAfter (p .node))
+under-requires p =
+    let o = p .node .room in
+    let kinds = after-length 0 (getD (p .node .ks) 0 0) (p .node .K) in
+    let args = after-length 0 (getD (p .node .xs) 0 0) (p .node .A) in
+    (p .below, record { kinds = omega (arith, p .nodes); args = omega (arith, p .nodes) })
+
+-- That walk is done, and the two parts came back as L and M.
+pub record Back (Below : ℕ → List ℕ → List ℕ → Type 0) : Type 0 where
+  pub parent : Parent Below
   pub L : List ℕ
   pub M : List ℕ
   pub n : ℕ
-  pub built : Built (parent .P) (parent .Q) (after 0 (getD (parent .node .ks) 0 0) (parent .node .K)) (after 0 (getD (parent .node .xs) 0 0) (parent .node .A)) L M n
+  pub built : Built (parent .P) (parent .Q) (kindsAfter (parent .node)) (argsAfter (parent .node)) L M n
 
-module _ (b : Back) where
+module _ {Below : ℕ → List ℕ → List ℕ → Type 0} (b : Back Below) where
   open Back b using (parent, L, M, n, built)
-  open Parent parent using (node, P, Q, kinds, args)
-  open Node node using (ks, xs, K, A, valid)
+  open Node (parent .node) using (ks, xs, K, A, valid, room as has-room)
 
-  pub back-built : BuiltType (result node) K A (back 0 (getD ks 0 0) K L) (back 0 (getD xs 0 0) A M) (n + 1)
+  pub back-built : BuiltType (result (parent .node)) K A (back 0 (getD ks 0 0) K L) (back 0 (getD xs 0 0) A M) (n + 1)
   back-built =
-      let o = node .room in
-      rw (kinds, args) (record {
+      let v = valid in
+      let o = has-room in
+      rw (parent .kinds, parent .args) (record {
         nodes = add-one n ∙ ap suc (built .nodes);
-        kinds = over-front (getD ks 0 0) P K (omega (arith, valid)) (built .kinds);
-        args = over-front (getD xs 0 0) Q A (omega (arith, valid)) (built .args);
+        kinds = over-front (getD ks 0 0) (parent .P) K (omega arith) (built .kinds);
+        args = over-front (getD xs 0 0) (parent .Q) A (omega arith) (built .args);
       })
 
   pub back-within : n + 1 ≤ length ks
-  back-within = omega (arith, built-size node back-built, valid)
-
--- a Struct
-pub record Struct : Type 0 where
-  pub node : Node
-  pub kind : getD (node .ks) 0 0 ≡ Kind.Struct
-
-module _ (p : Struct) where
-  open Struct p using (node, kind)
-  open Node node using (form, ks, xs, K, A, valid)
-
-  abbrev fields : Fields
-  fields = runAt (getD xs 0 0) (from 1 ks) (from 1 xs)
-
-  pub over-fields : (kindsOf (result node) ≡ getD ks 0 0 ∷ kindsOfs (mapFields (leafOf form) fields)) × (argsOf (result node) ≡ getD xs 0 0 ∷ argsOfs (mapFields (leafOf form) fields))
-  unfolding kindsOf argsOf mapLeaves
-  over-fields =
-      let c : count (mapFields (leafOf form) fields) ≡ getD xs 0 0 = count-map (leafOf form) _ ∙ struct-count ks xs valid kind in
-      rw (type-struct ks xs valid kind, c, kind) (refl, refl)
-
-  abbrev pub struct-parent : Parent
-  struct-parent =
-      record {
-        node = node;
-        m = sizes fields;
-        P = kindsOfs (mapFields (leafOf form) fields);
-        Q = argsOfs (mapFields (leafOf form) fields);
-        nodes = struct-nodes ks xs valid kind;
-        kinds = over-fields .0;
-        args = over-fields .1;
-      }
-
-  -- what the walk over its fields requires
-  pub struct-requires : ValidRun (getD xs 0 0) (from 1 ks) (from 1 xs) × HasRoom (sizes fields) (after 0 (getD ks 0 0) K) (after 0 (getD xs 0 0) A)
-  struct-requires = (struct-valid ks xs valid kind, under-room struct-parent)
-
--- a List or an Array
-pub record Wrapper : Type 0 where
-  pub node : Node
-  pub nested : Kind.List ≤ getD (node .ks) 0 0
-  pub other : getD (node .ks) 0 0 ≡ Kind.Struct → ⊥
-
-unary-map : (rule : ℕ → ℕ → DataType) {k a : ℕ} {f : DataType → DataType} → Unary k a f → (t : DataType) → (kindsOf (mapLeaves rule (f t)) ≡ k ∷ kindsOf (mapLeaves rule t)) × (argsOf (mapLeaves rule (f t)) ≡ a ∷ argsOf (mapLeaves rule t))
-unfolding kindsOf argsOf mapLeaves
-unary-map rule is-list t = (refl, refl)
-unary-map rule is-array t = (refl, refl)
-
-module _ (p : Wrapper) where
-  open Wrapper p using (node, nested, other)
-  open Node node using (form, ks, xs, K, A, valid)
-
-  abbrev inner : DataType
-  inner = typeAt (from 1 ks) (from 1 xs)
-
-  pub over-inner : (kindsOf (result node) ≡ getD ks 0 0 ∷ kindsOf (mapLeaves (leafOf form) inner)) × (argsOf (result node) ≡ getD xs 0 0 ∷ argsOf (mapLeaves (leafOf form) inner))
-  over-inner = let f = type-one ks xs valid nested other in rw (f .2) (unary-map (leafOf form) (f .1) inner)
-
-  abbrev pub wrapper-parent : Parent
-  wrapper-parent =
-      record {
-        node = node;
-        m = size inner;
-        P = kindsOf (mapLeaves (leafOf form) inner);
-        Q = argsOf (mapLeaves (leafOf form) inner);
-        nodes = one-nodes ks xs valid nested other;
-        kinds = over-inner .0;
-        args = over-inner .1;
-      }
-
-  -- what the walk over its inner type requires
-  pub wrapper-requires : Valid (from 1 ks) (from 1 xs) × HasRoom (size inner) (after 0 (getD ks 0 0) K) (after 0 (getD xs 0 0) A)
-  wrapper-requires = (one-valid ks xs valid nested other, under-room wrapper-parent)
+  back-within = omega (arith, built-size (parent .node) back-built, valid)
 
 -- ---- the fields of a Struct
 
--- The loop of a walk over m fields, at the place `at` with `left` of them left. The m fields over what the two arrays held at first come to those that are
--- left, from this place on, over what the arrays hold now. What the walk was given stands here too, so that no answer goes back beyond the loop.
+-- the m fields from a place on
+abbrev pub runFrom : (at m : ℕ) → List ℕ → List ℕ → Fields
+runFrom at m ks xs = runAt m (from at ks) (from at xs)
+
+-- The loop of a walk over m fields, at the place `at` with `left` of them left. The m fields over what the two arrays held at first, K₀ and A₀, come to those
+-- that are left, from this place on, over what the arrays hold now. What the walk was given stands here too, so that no answer goes back beyond the loop.
 pub record Along (form : Form) (m : ℕ) (ks xs K₀ A₀ : List ℕ) (at left : ℕ) (K A : List ℕ) : Type 0 where
   pub valid : ValidRun m ks xs
   pub room : HasRoom (sizes (runAt m ks xs)) K₀ A₀
   pub others : ValidRun left (from at ks) (from at xs)
-  pub nodes : sizes (runAt m ks xs) ≡ at + sizes (runAt left (from at ks) (from at xs))
+  pub nodes : sizes (runAt m ks xs) ≡ at + sizes (runFrom at left ks xs)
   pub long-kinds : length K ≡ length K₀
   pub long-args : length A ≡ length A₀
-  pub kinds : over (kindsOfs (mapFields (leafOf form) (runAt m ks xs))) K₀ ≡ toBe at (kindsOfs (mapFields (leafOf form) (runAt left (from at ks) (from at xs)))) K
-  pub args : over (argsOfs (mapFields (leafOf form) (runAt m ks xs))) A₀ ≡ toBe at (argsOfs (mapFields (leafOf form) (runAt left (from at ks) (from at xs)))) A
+  pub kinds : over (kindsBuilt form (runAt m ks xs)) K₀ ≡ toBe at (kindsBuilt form (runFrom at left ks xs)) K
+  pub args : over (argsBuilt form (runAt m ks xs)) A₀ ≡ toBe at (argsBuilt form (runFrom at left ks xs)) A
 
-pub start : {form : Form} {m : ℕ} {ks xs K A : List ℕ} → ValidRun m ks xs × HasRoom (sizes (runAt m ks xs)) K A → Along form m ks xs K A 0 m K A
+pub start : {form : Form} {m : ℕ} {ks xs K A : List ℕ} → ValidRun m ks xs × HasRoom (sizes (runAt m ks xs)) K A →
+    Along form m ks xs K A 0 m K A
 start {form} {m} {ks} {xs} {K} {A} p =
     record {
       valid = p .0;
@@ -214,58 +225,69 @@ module _ {form : Form} {m : ℕ} {ks xs K₀ A₀ : List ℕ} {at left : ℕ} {K
   unfolding kindsOf argsOf mapLeaves size
   fields-built z =
       let e = run-end left (from at ks) (from at xs) z in
+      let n = length-kindss (mapFields (leafOf form) (runAt m ks xs)) ∙ sizes-map form (runAt m ks xs) ∙ a .nodes in
       record {
-        nodes = sym (length-kindss (mapFields (leafOf form) (runAt m ks xs)) ∙ sizes-map form (runAt m ks xs) ∙ a .nodes ∙ rw e (add-zero at));
+        nodes = sym (n ∙ rw e (add-zero at));
         kinds = sym (a .kinds ∙ rw e (take-append-drop at K));
         args = sym (a .args ∙ rw e (take-append-drop at A));
       }
 
-  module _ (p : left ≡ 0 → ⊥) where
+  module _ (more : left ≡ 0 → ⊥) where
+    -- the type of the next field
     abbrev type-next : DataType
     type-next = typeAt (from (at + 1) ks) (from (at + 1) xs)
 
-    -- how many nodes all fields have, the next of n nodes
-    all-nodes : (n : ℕ) → n ≡ size type-next → sizes (runAt m ks xs) ≡ at + 1 + n + sizes (runAt (left - 1) (from (at + 1 + n) ks) (from (at + 1 + n) xs))
-    all-nodes n e = a .nodes ∙ rw (next-nodes left at ks xs (a .others) p n e) (omega arith)
+    -- how many nodes all fields have, where that type has n
+    all-nodes : (n : ℕ) → n ≡ size type-next → sizes (runAt m ks xs) ≡ at + 1 + n + sizes (runFrom (at + 1 + n) (left - 1) ks xs)
+    all-nodes n e = a .nodes ∙ rw (next-nodes left at ks xs (a .others) more n e) (omega arith)
 
-    -- the next field is stored: what the walk over its type is given
-    abbrev field-node : Node
-    field-node =
+    -- the field is stored: what the walk over its type is given
+    abbrev node-next : Node
+    node-next =
         let n = all-nodes (size type-next) refl in
+        let kinds = after-length at Kind.Field K in
+        let args = after-length at (getD xs at 0) A in
         record {
           form = form;
           ks = from (at + 1) ks;
           xs = from (at + 1) xs;
           K = after at Kind.Field K;
           A = after at (getD xs at 0) A;
-          valid = next-valid left at ks xs (a .others) p;
-          room = record { kinds = omega (arith, after-length at Kind.Field K); args = omega (arith, after-length at (getD xs at 0) A) };
+          valid = next-valid left at ks xs (a .others) more;
+          room = record { kinds = omega arith; args = omega arith };
         }
 
-    -- how many nodes that is, and what that walk requires
+    pub next-requires : Valid (from (at + 1) ks) (from (at + 1) xs) × HasRoom (size type-next) (after at Kind.Field K) (after at (getD xs at 0) A)
+    next-requires = (node-next .valid, node-next .room)
+
     pub next-shorter : length (from (at + 1) ks) < length ks
     next-shorter = omega (arith, length-from (at + 1) ks, all-nodes (size type-next) refl)
 
-    pub next-requires : Valid (from (at + 1) ks) (from (at + 1) xs) × HasRoom (size type-next) (after at Kind.Field K) (after at (getD xs at 0) A)
-    next-requires = (field-node .valid, field-node .room)
-
-    -- it came back with the type built, as L and M
-    pub field-done : {L M : List ℕ} {n : ℕ} → BuiltType (mapLeaves (leafOf form) type-next) (after at Kind.Field K) (after at (getD xs at 0) A) L M n → Along form m ks xs K₀ A₀ (at + 1 + n) (left - 1) (back at Kind.Field K L) (back at (getD xs at 0) A M)
+    -- that walk is done, and the two parts came back as L and M
+    pub field-done : {L M : List ℕ} {n : ℕ} →
+        BuiltType (mapLeaves (leafOf form) type-next) (after at Kind.Field K) (after at (getD xs at 0) A) L M n →
+        Along form m ks xs K₀ A₀ (at + 1 + n) (left - 1) (back at Kind.Field K L) (back at (getD xs at 0) A M)
     unfolding kindsOf argsOf mapLeaves
     field-done {L} {M} {n} w =
-        let t : DataType = result field-node in
-        let e = built-size field-node w in
+        let t : DataType = result node-next in
+        let e = built-size node-next w in
         let q : n ≡ length (argsOf t) = e ∙ sym (length-args t ∙ size-map form type-next) in
-        let g : Fields = runAt (left - 1) (from (at + 1 + n) ks) (from (at + 1 + n) xs) in
-        let f = next-field left at ks xs (a .others) p n e in
+        let f = next-field left at ks xs (a .others) more n e in
         let i = all-nodes n e in
+        let g : Fields = runFrom (at + 1 + n) (left - 1) ks xs in
         record {
           valid = a .valid;
           room = a .room;
-          others = next-run left at ks xs (a .others) p n e;
+          others = next-run left at ks xs (a .others) more n e;
           nodes = i;
           long-kinds = back-length at Kind.Field (kindsOf t) K (omega arith) (w .kinds) (omega arith) ∙ a .long-kinds;
           long-args = back-length at (getD xs at 0) (argsOf t) A (omega arith) (w .args) (omega arith) ∙ a .long-args;
-          kinds = a .kinds ∙ ap (λ (h : Fields). toBe at (kindsOfs (mapFields (leafOf form) h)) K) f ∙ sym (next at Kind.Field (kindsOf t) K (omega arith) (w .kinds) (kindsOfs (mapFields (leafOf form) g)) n (w .nodes));
-          args = a .args ∙ ap (λ (h : Fields). toBe at (argsOfs (mapFields (leafOf form) h)) A) f ∙ sym (next at (getD xs at 0) (argsOf t) A (omega arith) (w .args) (argsOfs (mapFields (leafOf form) g)) n q);
+          kinds =
+              a .kinds
+              ∙ ap (λ (h : Fields). toBe at (kindsBuilt form h) K) f
+              ∙ sym (next at Kind.Field (kindsOf t) K (omega arith) (w .kinds) (kindsBuilt form g) n (w .nodes));
+          args =
+              a .args
+              ∙ ap (λ (h : Fields). toBe at (argsBuilt form h) A) f
+              ∙ sym (next at (getD xs at 0) (argsOf t) A (omega arith) (w .args) (argsBuilt form g) n q);
         }

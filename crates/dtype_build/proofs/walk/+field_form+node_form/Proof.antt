@@ -12,8 +12,9 @@ use mathlib.Core.Path.{_∙_}
 use lib.ListN.{length, length-set}
 use borrow.Fn.Kinds.{In}
 use borrow.Fn.PlainCycle.{Measures, is, falls, and}
-use Rattle.dtype_build.proofs.Builds.{Node, leaf-built, Struct, struct-parent, struct-requires}
-use Rattle.dtype_build.proofs.Builds.{Wrapper, wrapper-parent, wrapper-requires, Back, back-built, back-within}
+use Rattle.flat.specs.Walk.{Valid, ValidRun}
+use Rattle.dtype_build.proofs.Builds.{Node, leaf-built, Parent, struct-parent, wrapper-parent, under-requires}
+use Rattle.dtype_build.proofs.Builds.{Back, back-built, back-within}
 use Rattle.dtype_build.proofs.Builds.{Along, start, fields-built, next-shorter, next-requires, field-done}
 use Rattle.dtype_build.proofs.walk.field_form.Reads as field-form
 use Rattle.dtype_build.proofs.walk.field_form.Kinds as field-form-kinds
@@ -68,16 +69,16 @@ module _ (t : ℕ) where
       leaf-built (node (l .before)) (l .if1 .taken) (w .leaf-form .ensures)
 
   -- the node is stored, and is a Struct
-  abbrev struct : node-form-lts.Then2 (node-form-claims t) (node-form-at t) node-form.Post → Struct
-  struct c = record { node = node (c .before .before .before .before); kind = c .if2 .taken }
+  abbrev struct : node-form-lts.Then2 (node-form-claims t) (node-form-at t) node-form.Post → Parent ValidRun
+  struct c = struct-parent (node (c .before .before .before .before)) (c .if2 .taken)
 
   field-form-requires : node-form-lts.Need-field-form-requires (node-form-claims t) (node-form-at t) node-form.Post
-  field-form-requires c κs = (search needs, struct-requires (struct (c .before .before)))
+  field-form-requires c κs = (search needs, under-requires (struct (c .before .before)))
 
-  abbrev struct-back : node-form-lts.After-slice-known6 (node-form-claims t) (node-form-at t) node-form.Post → Back
+  abbrev struct-back : node-form-lts.After-slice-known6 (node-form-claims t) (node-form-at t) node-form.Post → Back ValidRun
   struct-back c =
       let w = c .before .before .before .before in
-      record { parent = struct-parent (struct (w .before .before .before)); L = _; M = _; n = _; built = w .field-form .ensures }
+      record { parent = struct (w .before .before .before); L = _; M = _; n = _; built = w .field-form .ensures }
 
   struct-adds : node-form-lts.Need-add-result (node-form-claims t) (node-form-at t) node-form.Post
   struct-adds c = omega (arith, back-within (struct-back c))
@@ -86,18 +87,18 @@ module _ (t : ℕ) where
   struct-returns c = back-built (struct-back c)
 
   -- the node is stored, and is a List or an Array
-  abbrev wrapper : node-form-lts.Else2 (node-form-claims t) (node-form-at t) node-form.Post → Wrapper
+  abbrev wrapper : node-form-lts.Else2 (node-form-claims t) (node-form-at t) node-form.Post → Parent (λ width. Valid)
   wrapper c =
       let l = c .before .before .before in
-      record { node = node (l .before); nested = l .if1 .left; other = c .if2 .left }
+      wrapper-parent (node (l .before)) (l .if1 .left) (c .if2 .left)
 
   node-form-requires : node-form-lts.Need-node-form-requires (node-form-claims t) (node-form-at t) node-form.Post
-  node-form-requires c κs = (search needs, wrapper-requires (wrapper (c .before .before)))
+  node-form-requires c κs = (search needs, under-requires (wrapper (c .before .before)))
 
-  abbrev wrapper-back : node-form-lts.After-slice-known8 (node-form-claims t) (node-form-at t) node-form.Post → Back
+  abbrev wrapper-back : node-form-lts.After-slice-known8 (node-form-claims t) (node-form-at t) node-form.Post → Back (λ width. Valid)
   wrapper-back c =
       let w = c .before .before .before .before in
-      record { parent = wrapper-parent (wrapper (w .before .before .before)); L = _; M = _; n = _; built = w .node-form .ensures }
+      record { parent = wrapper (w .before .before .before); L = _; M = _; n = _; built = w .node-form .ensures }
 
   wrapper-adds : node-form-lts.Need-add-result-2 (node-form-claims t) (node-form-at t) node-form.Post
   wrapper-adds c = omega (arith, back-within (wrapper-back c))
