@@ -1,7 +1,6 @@
 // Types that are built anew: `materialize_unknown` and `to_physical` of dtype.rs.
-pub mod datatype;
-pub mod field;
 pub mod leaf;
+pub mod walk;
 
 ghost use mathlib.Core.Path.{_≡_};
 ghost use mathlib.Core.Bool.{not, _&&_};
@@ -42,7 +41,7 @@ fn build(
         leaf::leaf_form(form, kinds[0], args[0], out_kinds, out_args);
         return Written::Nodes(1);
     }
-    let n = datatype::node_form(form, kinds, args, out_kinds, out_args);
+    let n = walk::node_form(form, kinds, args, out_kinds, out_args);
     Written::Nodes(n)
 }
 
