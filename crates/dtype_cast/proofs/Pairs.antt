@@ -13,18 +13,18 @@ use Rattle.flat.specs.Tree.{DataType, leaf, list, array, struct, Fields, empty,
 use Rattle.flat.specs.Walk.{Valid, ValidRun, typeAt, runAt}
 use Rattle.flat.proofs.Walks.{from, length-from, Unary, is-list, is-array, AtNode, at-leaf, at-one, at-struct, at-node, type-kind, type-arg, type-leaf, type-one, one-valid, unary-size, type-struct, struct-valid, struct-count, run-end}
 use Rattle.dtype_cast.specs.Cast.{canCastTo, fieldsCast}
-use Rattle.dtype_cast.specs.Walk.{answer, castAnswer, fieldsAnswer, castAfter, Within, earlyOf}
-use Rattle.dtype_cast.specs.declared.datatype.Cast.{Cast}
-use Rattle.dtype_cast.specs.declared.datatype.Cast.the-variants.{Yes, No, NoVerdict}
+use Rattle.dtype_cast.specs.Walk.{castWith, castAnswer, fieldsAnswer, castAfter, Within, earlyOf}
+use Rattle.dtype_cast.specs.declared.walk.Cast.{Cast}
+use Rattle.dtype_cast.specs.declared.walk.Cast.the-variants.{Yes, No, NoVerdict}
 use Rattle.dtype_cast.specs.declared.roots.Early.{Early}
 use Rattle.dtype_cast.specs.declared.roots.Early.the-variants as early
 use Rattle.dtype_cast.proofs.Arms.{arms, first, Rooted, by-roots, yes-leaf}
 
 -- an answer's numbers are those of the two types
-within : (l : ℕ) (r : Cast) (q : Option Bool) (n m : ℕ) → r ≡ answer q n m → n ≤ l → m ≤ l → Within l r
+within : (l : ℕ) (r : Cast) (q : Option Bool) (n m : ℕ) → r ≡ castWith q n m → n ≤ l → m ≤ l → Within l r
 within l r q n m e h g = subst (Within l) (sym e) (go q)
   where
-    go : (q : Option Bool) → Within l (answer q n m)
+    go : (q : Option Bool) → Within l (castWith q n m)
     go none = tt
     go (some false) = tt
     go (some true) = (h, g)
@@ -37,7 +37,7 @@ fields-within : (l : ℕ) (r : Cast) (fs gs : Fields) → r ≡ fieldsAnswer fs 
 unfolding fieldsAnswer
 fields-within l r fs gs e h g = within l r (fieldsCast fs gs) (sizes fs) (sizes gs) e h g
 
-one-more : (q : Option Bool) (n m : ℕ) → castAfter 1 1 (answer q n m) ≡ answer q (suc n) (suc m)
+one-more : (q : Option Bool) (n m : ℕ) → castAfter 1 1 (castWith q n m) ≡ castWith q (suc n) (suc m)
 one-more none n m = refl
 one-more (some false) n m = refl
 one-more (some true) n m = ap₂ Yes (let y : 1 + n ≡ suc n = omega arith in y) (let y : 1 + m ≡ suc m = omega arith in y)
@@ -97,9 +97,9 @@ module _ (ks xs : List ℕ) (v : Valid ks xs) (ls ys : List ℕ) (w : Valid ls y
   decides e q = by-roots (typeAt ks xs) (typeAt ls ys) rooted ∙ ap (λ (z : Early). first z (arms (typeAt ks xs) (typeAt ls ys))) (roots ∙ sym q)
 
   -- an answer from the verdict, and from the numbers of nodes where it is yes
-  says : (q : Option Bool) → canCastTo (typeAt ks xs) (typeAt ls ys) ≡ q → answer q (size (typeAt ks xs)) (size (typeAt ls ys)) ≡ castAnswer (typeAt ks xs) (typeAt ls ys)
+  says : (q : Option Bool) → canCastTo (typeAt ks xs) (typeAt ls ys) ≡ q → castWith q (size (typeAt ks xs)) (size (typeAt ls ys)) ≡ castAnswer (typeAt ks xs) (typeAt ls ys)
   unfolding castAnswer
-  says q e = ap (λ (z : Option Bool). answer z (size (typeAt ks xs)) (size (typeAt ls ys))) (sym e)
+  says q e = ap (λ (z : Option Bool). castWith z (size (typeAt ks xs)) (size (typeAt ls ys))) (sym e)
 
   says-yes : size (typeAt ks xs) ≡ 1 → (n : ℕ) → n ≡ size (typeAt ls ys) → canCastTo (typeAt ks xs) (typeAt ls ys) ≡ some true → Yes 1 n ≡ castAnswer (typeAt ks xs) (typeAt ls ys)
   says-yes s n e q = ap₂ Yes (sym s) e ∙ says (some true) q
@@ -141,7 +141,7 @@ module _ (ks xs : List ℕ) (v : Valid ks xs) (ls ys : List ℕ) (w : Valid ls y
             let t : DataType = typeAt (from 1 ks) (from 1 xs) in
             let u : DataType = typeAt (from 1 ls) (from 1 ys) in
             ap (castAfter 1 1) e ∙ one-more (canCastTo t u) (size t) (size u)
-            ∙ ap₂ (answer (canCastTo t u)) (sym (ap size (one-left .2) ∙ unary-size (one-left .1) t)) (sym (ap size (one-right .2) ∙ unary-size (one-right .1) u))
+            ∙ ap₂ (castWith (canCastTo t u)) (sym (ap size (one-left .2) ∙ unary-size (one-left .1) t)) (sym (ap size (one-right .2) ∙ unary-size (one-right .1) u))
             ∙ says (canCastTo t u) (decides early.Open o ∙ ap₂ arms (one-left .2) (one-right .2) ∙ one-arms (one-left .1) (one-right .1) p q t u)
 
       -- two Structs
@@ -180,5 +180,5 @@ module _ (ks xs : List ℕ) (v : Valid ks xs) (ls ys : List ℕ) (w : Valid ls y
               let fs : Fields = runAt (getD xs 0 0) (from 1 ks) (from 1 xs) in
               let gs : Fields = runAt (getD ys 0 0) (from 1 ls) (from 1 ys) in
               ap (castAfter 1 1) (e ∙ ap (λ (m : ℕ). fieldsAnswer fs (runAt m (from 1 ls) (from 1 ys))) q) ∙ one-more (fieldsCast fs gs) (sizes fs) (sizes gs)
-              ∙ ap₂ (answer (fieldsCast fs gs)) (sym (ap size struct-left)) (sym (ap size struct-right))
+              ∙ ap₂ (castWith (fieldsCast fs gs)) (sym (ap size struct-left)) (sym (ap size struct-right))
               ∙ says (fieldsCast fs gs) (structs ∙ rw (eq-eqb (getD xs 0 0) (getD ys 0 0) q))

@@ -1,7 +1,7 @@
 -- The scan over two types at once: what is left after i nodes decides, and where all nodes of two valid types say yes, the cast makes sense. Assumes nothing.
-use mathlib.Core.Path.{_≡_, refl, sym, _∙_}
+use mathlib.Core.Path.{_≡_, refl, sym, subst, _∙_}
 use mathlib.Core.Bool.{Bool, true, false, cond, _&&_, _||_, and-false, and-eq-true-iff, or-false}
-use mathlib.Core.List.{List, [], _∷_, _++_, append-assoc, append-nil}
+use mathlib.Core.List.{List, [], _∷_, _++_, append-assoc}
 use mathlib.Core.Option.{some}
 use Prim.Native.Nat.{ℕ, _+_, _≤_, _<_}
 use native.Mathlib.Omega.{arith}
@@ -11,9 +11,10 @@ use lib.ListN.{length, getD, drop, drop-of-length-le}
 use lib.Seq.{drop-cons}
 use borrow.Author.Tests.{eq-eqb, ne-eqb, eqb-true}
 use Rattle.flat.specs.Kind
-use Rattle.flat.specs.Tree.{DataType, leaf, list, array, struct, Fields, empty, field, count, headKind, kindsOf, kindsOfs, argsOf, argsOfs}
-use Rattle.flat.specs.Reading.{Ruled, RuledFields}
-use Rattle.flat.proofs.Meaning.{Holds}
+use Rattle.flat.specs.Tree.{DataType, leaf, list, array, struct, Fields, empty, field, count, headKind, size, kindsOf, kindsOfs, argsOf, argsOfs}
+use Rattle.flat.specs.Walk.{Valid, typeAt}
+use Rattle.flat.proofs.ReadBack.{Good, Goods, Sound, sound}
+use Rattle.flat.proofs.Truths.{impossible}
 use Rattle.dtype.specs.Match.{among}
 use Rattle.dtype.specs.Predicate.{isUnknownInt, isPrimitiveNumeric, isFloat, isInteger, isSignedInteger, isUnsignedInteger}
 use Rattle.dtype.specs.Equality.{equal}
@@ -86,7 +87,7 @@ module _ {k a l b : ℕ} (e : nodeYes k a l b ≡ true) where
     where
       go : Told k a l b → (k ≡ l) × (a ≡ b)
       go (same p q) = (p, q)
-      go (numeric y) = absurd (let z : _≡_ {A = ℕ} 0 1 = cc in omega arith)
+      go (numeric y) = impossible cc
 
   from-nested : (Kind.List ≤ k) × (k ≤ Kind.Struct) → (k ≡ l) × (a ≡ b)
   from-nested h = same-node (h .1) (rw (not-numeric k h))
@@ -116,9 +117,9 @@ module _ (t u : DataType) (c : canCastTo t u ≡ some true) where
 
 -- A type's nodes say where it ends: whatever stands after two types, they are looked at first.
 mutual
-  unfolding Ruled kindsOf argsOf count
+  unfolding Good kindsOf argsOf count
 
-  types-yes : (t u : DataType) → Ruled t → Ruled u → (ks xs ls ys : List ℕ) → allYes (kindsOf t ++ ks) (argsOf t ++ xs) (kindsOf u ++ ls) (argsOf u ++ ys) ≡ true → (canCastTo t u ≡ some true) × (allYes ks xs ls ys ≡ true)
+  types-yes : (t u : DataType) → Good t → Good u → (ks xs ls ys : List ℕ) → allYes (kindsOf t ++ ks) (argsOf t ++ xs) (kindsOf u ++ ls) (argsOf u ++ ys) ≡ true → (canCastTo t u ≡ some true) × (allYes ks xs ls ys ≡ true)
   types-yes (leaf k a) (leaf l b) r s ks xs ls ys e = (leaves-yes k a l b (omega arith) (first e .node), first e .next)
   types-yes (leaf k a) (list u) r s ks xs ls ys e = absurd (omega (arith, to-nested (first e .node) (omega arith) (omega arith)))
   types-yes (leaf k a) (array v u) r s ks xs ls ys e = absurd (omega (arith, to-nested (first e .node) (omega arith) (omega arith)))
@@ -137,20 +138,23 @@ mutual
   types-yes (struct fs) (list u) r s ks xs ls ys e = absurd (omega (arith, from-nested (first e .node) (omega arith)))
   types-yes (struct fs) (array v u) r s ks xs ls ys e = absurd (omega (arith, from-nested (first e .node) (omega arith)))
   types-yes (struct fs) (struct gs) r s ks xs ls ys e =
-      let q = fields-yes fs gs (r .1) (s .1) (from-nested (first e .node) (omega arith) .1) ks xs ls ys (first e .next) in
+      let q = fields-yes fs gs r s (from-nested (first e .node) (omega arith) .1) ks xs ls ys (first e .next) in
       (cast-laws .all-cast (q .0), q .1)
 
-  fields-yes : (fs gs : Fields) → RuledFields fs → RuledFields gs → count fs ≡ count gs → (ks xs ls ys : List ℕ) → allYes (kindsOfs fs ++ ks) (argsOfs fs ++ xs) (kindsOfs gs ++ ls) (argsOfs gs ++ ys) ≡ true → AllCast fs gs × (allYes ks xs ls ys ≡ true)
+  fields-yes : (fs gs : Fields) → Goods fs → Goods gs → count fs ≡ count gs → (ks xs ls ys : List ℕ) → allYes (kindsOfs fs ++ ks) (argsOfs fs ++ xs) (kindsOfs gs ++ ls) (argsOfs gs ++ ys) ≡ true → AllCast fs gs × (allYes ks xs ls ys ≡ true)
   fields-yes empty empty r s n ks xs ls ys e = (no-fields, e)
   fields-yes empty (field other u gs) r s n ks xs ls ys e = absurd (omega arith)
   fields-yes (field name t fs) empty r s n ks xs ls ys e = absurd (omega arith)
   fields-yes (field name t fs) (field other u gs) r s n ks xs ls ys e =
       let f = simp append-assoc at (first e .next) in
-      let p = types-yes t u (r .1) (s .1) (kindsOfs fs ++ ks) (argsOfs fs ++ xs) (kindsOfs gs ++ ls) (argsOfs gs ++ ys) f in
-      let q = fields-yes fs gs (r .2) (s .2) (omega arith) ks xs ls ys (p .1) in
+      let p = types-yes t u (r .0) (s .0) (kindsOfs fs ++ ks) (argsOfs fs ++ xs) (kindsOfs gs ++ ls) (argsOfs gs ++ ys) f in
+      let q = fields-yes fs gs (r .1) (s .1) (omega arith) ks xs ls ys (p .1) in
       (one-more name other (p .0) (q .0), q .1)
 
--- what the scan says where the four lists are the flat forms of two valid types
-module _ {nodes deep : ℕ} {ks xs ls ys : List ℕ} {t u : DataType} (left : Holds nodes deep ks xs t) (right : Holds nodes deep ls ys u) where
-  pub all-yes : allYes ks xs ls ys ≡ true → canCastTo t u ≡ some true
-  all-yes e = types-yes t u (left .is-type .ruled) (right .is-type .ruled) [] [] [] [] (simp append-nil (rw (← left .kinds, ← left .args, ← right .kinds, ← right .args) e)) .0
+-- Where a type stands at the front of either two lists and the scan says yes, the cast makes sense.
+pub all-yes : {ks xs ls ys : List ℕ} → Valid ks xs → Valid ls ys → allYes ks xs ls ys ≡ true → canCastTo (typeAt ks xs) (typeAt ls ys) ≡ some true
+all-yes {ks} {xs} {ls} {ys} v w e =
+    let l : Sound ks xs (some (typeAt ks xs)) = subst (Sound ks xs) (v .read) (sound ks xs) in
+    let r : Sound ls ys (some (typeAt ls ys)) = subst (Sound ls ys) (w .read) (sound ls ys) in
+    types-yes (typeAt ks xs) (typeAt ls ys) (l .2) (r .2) (drop (size (typeAt ks xs)) ks) (drop (size (typeAt ks xs)) xs) (drop (size (typeAt ls ys)) ls) (drop (size (typeAt ls ys)) ys)
+    (rw (← l .0, ← l .1, ← r .0, ← r .1) e) .0

@@ -12,9 +12,9 @@ use Rattle.flat.specs.Walk.{Valid, ValidRun, typeAt, runAt}
 use Rattle.flat.proofs.Walks.{from, length-from, run-end}
 use Rattle.flat.proofs.Onward.{from-zero, next-valid, next-run, next-field}
 use Rattle.dtype_cast.specs.Cast.{andThen, canCastTo, fieldsCast}
-use Rattle.dtype_cast.specs.Walk.{answer, castAnswer, fieldsAnswer, castAfter}
-use Rattle.dtype_cast.specs.declared.datatype.Cast.{Cast}
-use Rattle.dtype_cast.specs.declared.datatype.Cast.the-variants.{Yes, No, NoVerdict}
+use Rattle.dtype_cast.specs.Walk.{castWith, castAnswer, fieldsAnswer, castAfter}
+use Rattle.dtype_cast.specs.declared.walk.Cast.{Cast}
+use Rattle.dtype_cast.specs.declared.walk.Cast.the-variants.{Yes, No, NoVerdict}
 
 -- the answer for the first field's types, then for the others
 abbrev after-first : Cast → Cast → Cast
@@ -26,14 +26,14 @@ first-field : (name other : ℕ) (t u : DataType) (fs gs : Fields) → fieldsAns
 unfolding fieldsAnswer castAnswer canCastTo size
 first-field name other t u fs gs = go (canCastTo t u) (fieldsCast fs gs)
   where
-    go : (c d : Option Bool) → answer (andThen c d) (suc (size t + sizes fs)) (suc (size u + sizes gs)) ≡ after-first (answer c (size t) (size u)) (answer d (sizes fs) (sizes gs))
+    go : (c d : Option Bool) → castWith (andThen c d) (suc (size t + sizes fs)) (suc (size u + sizes gs)) ≡ after-first (castWith c (size t) (size u)) (castWith d (sizes fs) (sizes gs))
     go none d = refl
     go (some false) d = refl
     go (some true) none = refl
     go (some true) (some false) = refl
     go (some true) (some true) = ap₂ Yes (let y : suc (size t + sizes fs) ≡ 1 + size t + sizes fs = omega arith in y) (let y : suc (size u + sizes gs) ≡ 1 + size u + sizes gs = omega arith in y)
 
-yes-sizes : (q : Option Bool) (n m i j : ℕ) → Yes i j ≡ answer q n m → (i ≡ n) × (j ≡ m)
+yes-sizes : (q : Option Bool) (n m i j : ℕ) → Yes i j ≡ castWith q n m → (i ≡ n) × (j ≡ m)
 yes-sizes none n m i j e = absurd (let y : _≡_ {A = ℕ} 0 1 = cc in omega arith)
 yes-sizes (some false) n m i j e = absurd (let y : _≡_ {A = ℕ} 0 1 = cc in omega arith)
 yes-sizes (some true) n m i j e = (cc, cc)

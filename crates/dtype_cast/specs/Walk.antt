@@ -8,24 +8,24 @@ use Rattle.flat.specs.Tree.{DataType, Fields, size, sizes}
 use Rattle.dtype.specs.Predicate.{isPrimitiveNumeric}
 use Rattle.dtype.specs.Equality.{equalNode}
 use Rattle.dtype_cast.specs.Cast.{castsWithBoolean, canCastTo, fieldsCast}
-use Rattle.dtype_cast.specs.declared.datatype.Cast.{Cast}
-use Rattle.dtype_cast.specs.declared.datatype.Cast.the-variants.{Yes, No, NoVerdict}
+use Rattle.dtype_cast.specs.declared.walk.Cast.{Cast}
+use Rattle.dtype_cast.specs.declared.walk.Cast.the-variants.{Yes, No, NoVerdict}
 use Rattle.dtype_cast.specs.declared.roots.Early.{Early}
 use Rattle.dtype_cast.specs.declared.roots.Early.the-variants as early
 
 -- the source's Option, a yes with two numbers of nodes
-abbrev pub answer : Option Bool → ℕ → ℕ → Cast
-answer none n m = NoVerdict
-answer (some false) n m = No
-answer (some true) n m = Yes n m
+abbrev pub castWith : Option Bool → ℕ → ℕ → Cast
+castWith none n m = NoVerdict
+castWith (some false) n m = No
+castWith (some true) n m = Yes n m
 
 -- of two types
 unfoldable pub castAnswer : DataType → DataType → Cast
-castAnswer t u = answer (canCastTo t u) (size t) (size u)
+castAnswer t u = castWith (canCastTo t u) (size t) (size u)
 
 -- of two runs of fields
 unfoldable pub fieldsAnswer : Fields → Fields → Cast
-fieldsAnswer fs gs = answer (fieldsCast fs gs) (sizes fs) (sizes gs)
+fieldsAnswer fs gs = castWith (fieldsCast fs gs) (sizes fs) (sizes gs)
 
 -- behind n nodes on one side and m on the other
 abbrev pub castAfter : ℕ → ℕ → Cast → Cast

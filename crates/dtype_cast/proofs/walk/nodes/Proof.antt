@@ -1,4 +1,4 @@
--- `dtype_cast::dtype::nodes` meets its contract: no type is deeper than it has nodes. Assumes nothing.
+-- `dtype_cast::walk::nodes` meets its contract: no type is deeper than it has nodes. Assumes nothing.
 use mathlib.Core.Path.{_≡_, sym, ap, _∙_}
 use mathlib.Core.List.{List}
 use Prim.Native.Nat.{ℕ}
@@ -12,8 +12,8 @@ use Rattle.flat.specs.declared.span.Span.the-variants.{TooDeep}
 use Rattle.flat.proofs.Sizes.{depth-lt}
 use Rattle.flat.proofs.Walks.{type-leaf}
 use Rattle.flat.proofs.Spans.{type-ended, type-deeper}
-use Rattle.dtype_cast.proofs.datatype.nodes.Statement.{statement}
-use Rattle.dtype_cast.proofs.datatype.nodes.Tie as tie
+use Rattle.dtype_cast.proofs.walk.nodes.Statement.{statement}
+use Rattle.dtype_cast.proofs.walk.nodes.Tie as tie
 
 no-deeper : {ks xs : List ℕ} → Valid ks xs → TooDeep ≡ spanWithin (length ks) (typeAt ks xs) → ⊥
 no-deeper {ks} {xs} v e = omega (arith, type-deeper (length ks) (typeAt ks xs) e, depth-lt (typeAt ks xs))

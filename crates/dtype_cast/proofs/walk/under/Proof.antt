@@ -1,11 +1,11 @@
--- `dtype_cast::dtype::under` meets its contract. Assumes nothing.
+-- `dtype_cast::walk::under` meets its contract. Assumes nothing.
 use mathlib.Core.Path.{sym, ap, subst}
 use Prim.Native.Nat.{_^_}
 use native.Mathlib.Omega.{arith}
 use borrow.Author.Needs.{needs}
 use Rattle.dtype_cast.specs.Walk.{castAfter, Within}
-use Rattle.dtype_cast.proofs.datatype.under.Statement.{statement}
-use Rattle.dtype_cast.proofs.datatype.under.Tie as tie
+use Rattle.dtype_cast.proofs.walk.under.Statement.{statement}
+use Rattle.dtype_cast.proofs.walk.under.Tie as tie
 
 add-t5 : tie.Need-add-t5
 add-t5 c = let h = subst (Within (2 ^ 63)) (c .before .c .given .1) (c .before .before .before .pre) in omega (arith, h .0)

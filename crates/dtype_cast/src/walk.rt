@@ -1,10 +1,9 @@
-// The walk over two types at once: a type hands its fields to a walk over fields, which hands each field back.
+// The walk over two types at once. A type hands its fields to a walk over fields, which hands each field's type back.
 ghost use mathlib.Core.Path.{_≡_};
 ghost use Prim.Native.Nat.{_^_};
 ghost use Rattle.flat.specs.Tree.{size};
-ghost use Rattle.flat.specs.Walk.{Valid, typeAt};
-ghost use Rattle.dtype_cast.specs.Walk.{castAnswer, castAfter, Within};
-use crate::field::field_cast;
+ghost use Rattle.flat.specs.Walk.{Valid, ValidRun, typeAt, runAt};
+ghost use Rattle.dtype_cast.specs.Walk.{castAnswer, fieldsAnswer, castAfter, Within};
 use crate::roots::Early;
 use crate::roots::before_nested;
 use flat::kind::Kind;
@@ -44,11 +43,14 @@ fn under(c: Cast) -> Cast
     }
 }
 
-// The types at the front of either two arrays. Equality is tested of leaves only: equal nested types have yes from their arms.
+// The types at the front of the arrays. Equality is tested of leaves only: equal nested types have yes from their arms.
 pub fn node_cast(from_kinds: &[u8], from_args: &[u64], to_kinds: &[u8], to_args: &[u64]) -> Cast
     requires { ⌜ Valid (now «from_kinds») (now «from_args») ⌝ }
     requires { ⌜ Valid (now «to_kinds») (now «to_args») ⌝ }
-    ensures { λ r. ⌜ r ≡ castAnswer (typeAt (now («from_kinds» .entry)) (now («from_args» .entry))) (typeAt (now («to_kinds» .entry)) (now («to_args» .entry))) ⌝ }
+    ensures { λ r. do
+      let from = typeAt (now («from_kinds» .entry)) (now («from_args» .entry))
+      let to = typeAt (now («to_kinds» .entry)) (now («to_args» .entry))
+      ⌜ r ≡ castAnswer from to ⌝ }
 {
     let k = from_kinds[0];
     let a = from_args[0];
@@ -87,4 +89,44 @@ pub fn node_cast(from_kinds: &[u8], from_args: &[u64], to_kinds: &[u8], to_args:
             }
         }
     }
+}
+
+// The given number of fields at the front of the arrays, left to right: the first no or no verdict decides. Names don't
+// count.
+fn field_cast(
+    from_kinds: &[u8],
+    from_args: &[u64],
+    to_kinds: &[u8],
+    to_args: &[u64],
+    count: u64,
+) -> Cast
+    requires { ⌜ ValidRun count (now «from_kinds») (now «from_args») ⌝ }
+    requires { ⌜ ValidRun count (now «to_kinds») (now «to_args») ⌝ }
+    ensures { λ r. do
+      let from = runAt count (now («from_kinds» .entry)) (now («from_args» .entry))
+      let to = runAt count (now («to_kinds» .entry)) (now («to_args» .entry))
+      ⌜ r ≡ fieldsAnswer from to ⌝ }
+{
+    let mut i = 0;
+    let mut j = 0;
+    let mut left = count;
+    while left > 0 {
+        let from = i + 1;
+        let to = j + 1;
+        match node_cast(
+            &from_kinds[from..],
+            &from_args[from..],
+            &to_kinds[to..],
+            &to_args[to..],
+        ) {
+            Cast::Yes(n, m) => {
+                i = from + n;
+                j = to + m;
+                left = left - 1;
+            }
+            Cast::No => return Cast::No,
+            Cast::NoVerdict => return Cast::NoVerdict,
+        }
+    }
+    Cast::Yes(i, j)
 }
