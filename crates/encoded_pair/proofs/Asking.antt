@@ -9,6 +9,7 @@ use borrow.Author.Tests.{leb-true}
 use lib.Dec.{leb}
 use lib.ListN.{length, getD, take, drop}
 use Rattle.flat.specs.Tree.{DataType}
+use Rattle.flat.specs.Walk.{typeAt}
 use Rattle.flat.specs.Reading.{Reading, refused, type, reading, checkedOf}
 use Rattle.flat.specs.Both.{bothOf}
 use Rattle.flat.specs.declared.Checked.{Checked}
@@ -39,7 +40,7 @@ use Rattle.encoded_pair.specs.declared.Question.{Question}
 -- ---- what a question says, as the answer of its call
 module _ (question : Question) (p : DataType → DataType → Bool) (h : (t u : DataType) → askedOf question t u ≡ some (p t u)) where
   answers-as : (l r : Reading) → answerIn (pairVerdict question l r) ≡ answersOf p l r
-  unfolding pairVerdict bothOf
+  unfolding bothOf
   answers-as (refused e) r = refl
   answers-as (type t) (refused e) = refl
   answers-as (type t) (type u) = rw (h t u) (yes-no (p t u))
@@ -54,12 +55,6 @@ answers-equal = answers-as Question.Equal equal (λ t u. refl)
 pub answers-contains : (l r : Reading) → answerIn (pairVerdict Question.Contains l r) ≡ answersOf containsDtypeRecursive l r
 answers-contains = answers-as Question.Contains containsDtypeRecursive (λ t u. refl)
 
-pub says-cast : (l r : Reading) → pairVerdict Question.Cast l r ≡ castOf l r
-unfolding pairVerdict bothOf
-says-cast (refused e) r = refl
-says-cast (type t) (refused e) = refl
-says-cast (type t) (type u) = refl
-
 -- ---- of two flat types that were checked
 module _ {nodes deep : ℕ} {ks xs ls ys : List ℕ} (h : BothChecked nodes deep ks xs ls ys) where
   pub left-passed : Passed nodes deep ks xs
@@ -71,17 +66,14 @@ module _ {nodes deep : ℕ} {ks xs ls ys : List ℕ} (h : BothChecked nodes deep
   pub both-even : (length ks ≡ length xs) × (length ls ≡ length ys)
   both-even = (left-passed .even, right-passed .even)
 
-  -- a scan answers
-  scanned : (question : Question) {b : Bool} {v : Verdict} → v ≡ verdict (some b) → some b ≡ askedOf question (left-passed .tree) (right-passed .tree)
-      → v ≡ pairVerdict question (reading nodes deep ks xs) (reading nodes deep ls ys)
-  unfolding pairVerdict
-  scanned question e f = e ∙ ap verdict f ∙ sym (both-types Verdict.Refused (λ t u. verdict (askedOf question t u)) _ _ (left-passed .reads) (right-passed .reads))
+  -- the two scans
+  pub asks-equal : {b : Bool} {v : Verdict} → b ≡ startsWith ks xs ls ys → v ≡ verdict (some b)
+      → v ≡ verdict (some (equal (typeAt ks xs) (typeAt ls ys)))
+  asks-equal e f = rw (left-passed .front, right-passed .front, ← starts-equal (left-passed .form) (right-passed .form), ← e) f
 
-  pub asks-equal : {b : Bool} {v : Verdict} → b ≡ startsWith ks xs ls ys → v ≡ verdict (some b) → v ≡ pairVerdict Question.Equal (reading nodes deep ks xs) (reading nodes deep ls ys)
-  asks-equal e f = scanned Question.Equal f (ap some (e ∙ starts-equal (left-passed .form) (right-passed .form)))
-
-  pub asks-contains : {b : Bool} {v : Verdict} → b ≡ occurs ks xs ls ys → v ≡ verdict (some b) → v ≡ pairVerdict Question.Contains (reading nodes deep ks xs) (reading nodes deep ls ys)
-  asks-contains e f = scanned Question.Contains f (ap some (e ∙ occurs-contains (left-passed .form) (right-passed .form)))
+  pub asks-contains : {b : Bool} {v : Verdict} → b ≡ occurs ks xs ls ys → v ≡ verdict (some b)
+      → v ≡ verdict (some (containsDtypeRecursive (typeAt ks xs) (typeAt ls ys)))
+  asks-contains e f = rw (left-passed .front, right-passed .front, ← occurs-contains (left-passed .form) (right-passed .form), ← e) f
 
 -- ---- of two encoded types
 
@@ -98,16 +90,14 @@ pub record BothTypes (w nodes deep n m : ℕ) (s t xs ys xs′ ys′ : List ℕ)
   pub right-kinds : 2 + m ≤ length t
   pub right-room : m ≤ length ys′
   pub checked : BothChecked nodes deep (take (2 + n - 2) (drop 2 s)) (take n xs′) (take (2 + m - 2) (drop 2 t)) (take m ys′)
-  pub left-reads : decoding w nodes deep s ≡ reading nodes deep (take (2 + n - 2) (drop 2 s)) (take n xs′)
-  pub right-reads : decoding w nodes deep t ≡ reading nodes deep (take (2 + m - 2) (drop 2 t)) (take m ys′)
+  pub left-reads : decoding w nodes deep s ≡ type (typeAt (take (2 + n - 2) (drop 2 s)) (take n xs′))
+  pub right-reads : decoding w nodes deep t ≡ type (typeAt (take (2 + m - 2) (drop 2 t)) (take m ys′))
 
 module _ {w nodes deep : ℕ} {s t xs ys xs′ ys′ : List ℕ} {a b : Written} (o : BothOpen w nodes deep s t xs ys xs′ ys′ a b) where
   pub left-unopened : (question : Question) {e : Error} → a ≡ Written.Refused e → AsksIn w nodes deep question s t xs ys xs′ ys′ (Verdict.Refused e)
-  unfolding pairVerdict
   left-unopened question p = record { answers = sym (left-refused Verdict.Refused (λ t u. verdict (askedOf question t u)) _ _ (unopened (o .left) p)); left = o .left .args; right = o .right .args }
 
   pub right-unopened : (question : Question) {n : ℕ} {e : Error} → a ≡ Written.Nodes n → b ≡ Written.Refused e → AsksIn w nodes deep question s t xs ys xs′ ys′ (Verdict.Refused e)
-  unfolding pairVerdict
   right-unopened question p q =
       record { answers = sym (right-refused Verdict.Refused (λ t u. verdict (askedOf question t u)) _ _ (opened (o .left) p .reads) (unopened (o .right) q)); left = o .left .args; right = o .right .args }
 
@@ -122,15 +112,17 @@ module _ {w nodes deep : ℕ} {s t xs ys xs′ ys′ : List ℕ} {a b : Written}
         right-kinds = omega (arith, r .sized .size, size-parts w m);
         right-room = r .room;
         checked = record { left = ap checkedOf (sym (l .parts .reads)); right = ap checkedOf (sym (r .parts .reads)) };
-        left-reads = l .same;
-        right-reads = r .same;
+        left-reads = l .reads ∙ ap type (sym (l .parts .front));
+        right-reads = r .reads ∙ ap type (sym (r .parts .front));
       }
 
 module _ {w nodes deep n m : ℕ} {s t xs ys xs′ ys′ : List ℕ} (b : BothTypes w nodes deep n m s t xs ys xs′ ys′) where
   pub both-asked : (question : Question) {v : Verdict}
-      → v ≡ pairVerdict question (reading nodes deep (take (2 + n - 2) (drop 2 s)) (take n xs′)) (reading nodes deep (take (2 + m - 2) (drop 2 t)) (take m ys′))
+      → v ≡ verdict (askedOf question (typeAt (take (2 + n - 2) (drop 2 s)) (take n xs′)) (typeAt (take (2 + m - 2) (drop 2 t)) (take m ys′)))
       → AsksIn w nodes deep question s t xs ys xs′ ys′ v
-  both-asked question h = record { answers = rw (b .left-reads, b .right-reads) h; left = b .opens .left .args; right = b .opens .right .args }
+  both-asked question h =
+      let both = both-types Verdict.Refused (λ t u. verdict (askedOf question t u)) _ _ (b .left-reads) (b .right-reads) in
+      record { answers = h ∙ sym both; left = b .opens .left .args; right = b .opens .right .args }
 
 -- both have few nodes
 pub few-both : {n m few : ℕ} {b : Bool} → b ≡ (leb n few && leb m few) → b ≡ true → (n ≤ few) × (m ≤ few)
@@ -139,10 +131,10 @@ few-both {n} {m} {few} e h = let s = both-true (leb n few) (leb m few) (sym e �
 -- ---- one check tells of two equal runs of bytes
 pub same-equal : (w nodes deep : ℕ) (s t : List ℕ) {b : Bool} {c : Checked} {a : Answer} → b ≡ sameList s t → b ≡ true
     → c ≡ checkedOf (decoding w nodes deep s) → a ≡ toItself c → a ≡ answersOf equal (decoding w nodes deep s) (decoding w nodes deep t)
+unfolding bothOf
 same-equal w nodes deep s t e f k h = rw (← same-lists s t (sym e ∙ f)) (h ∙ ap toItself k ∙ itself (decoding w nodes deep s) refl)
   where
     itself : (r : Reading) → decoding w nodes deep s ≡ r → toItself (checkedOf r) ≡ answersOf equal r r
-    unfolding bothOf
     itself (refused d) q = refl
     itself (type u) q = let v = decoded-holds w nodes deep s u q in ap yesNo (sym (starts-self (kindsIn s) (argsIn w s)) ∙ starts-equal v v)
 

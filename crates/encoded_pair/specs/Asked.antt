@@ -25,7 +25,7 @@ askedOf Question.Contains t u = some (containsDtypeRecursive t u)
 askedOf Question.Cast t u = canCastTo t u
 
 -- of what is read: the left through 1 to 5, then the right
-unfoldable pub pairVerdict : Question → Reading → Reading → Verdict
+abbrev pub pairVerdict : Question → Reading → Reading → Verdict
 pairVerdict question = bothOf Verdict.Refused (λ t u. verdict (askedOf question t u))
 
 -- a verdict where there is always one

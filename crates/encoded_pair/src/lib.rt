@@ -5,19 +5,17 @@ ghost use mathlib.Core.Option.{some};
 ghost use Prim.Native.Nat.{_≤_};
 ghost use lib.Dec.{leb};
 ghost use lib.ListN.{length};
-ghost use Rattle.flat.specs.Reading.{reading};
+ghost use Rattle.flat.specs.Walk.{typeAt};
 ghost use Rattle.encoded.specs.Encoding.{decoding};
 ghost use Rattle.encoded.specs.Answer.{nodesIn};
 ghost use Rattle.dtype.specs.Equality.{equal};
 ghost use Rattle.dtype.specs.Answer.{answersOf};
 ghost use Rattle.dtype_eq.specs.Contains.{containsDtypeRecursive};
 ghost use Rattle.dtype_cast.specs.Verdict.{verdict, castOf};
-ghost use Rattle.encoded_pair.specs.Asked.{pairVerdict, answerIn, toItself, BothChecked, AsksIn};
+ghost use Rattle.encoded_pair.specs.Asked.{askedOf, pairVerdict, answerIn, toItself, BothChecked, AsksIn};
 use dtype::answer::Answer;
 use dtype_cast::Verdict;
-use dtype_cast::datatype::Cast;
-use dtype_cast::datatype::node_cast;
-use dtype_cast::scan::all_yes;
+use dtype_cast::checked_cast;
 use dtype_cast::scan::node_yes;
 use dtype_eq::nodes;
 use encoded::Encoding;
@@ -39,29 +37,6 @@ fn decided(yes: bool) -> Verdict
     if yes { Verdict::Yes } else { Verdict::No }
 }
 
-// The cast of two flat types that were checked: the scan, then the walk.
-fn cast(left_kinds: &[u8], left_args: &[u64], right_kinds: &[u8], right_args: &[u64]) -> Verdict
-    requires { do
-      nodes ← ⟦Flat::MAX_NODES⟧
-      deep ← ⟦Flat::MAX_DEPTH⟧
-      ⌜ BothChecked nodes deep (now «left_kinds») (now «left_args») (now «right_kinds») (now «right_args») ⌝ }
-    ensures { λ r. do
-      nodes ← ⟦Flat::MAX_NODES⟧ .entry
-      deep ← ⟦Flat::MAX_DEPTH⟧ .entry
-      let from = reading nodes deep (now («left_kinds» .entry)) (now («left_args» .entry))
-      let to = reading nodes deep (now («right_kinds» .entry)) (now («right_args» .entry))
-      ⌜ r ≡ castOf from to ⌝ }
-{
-    if all_yes(left_kinds, left_args, right_kinds, right_args) {
-        return Verdict::Yes;
-    }
-    match node_cast(left_kinds, left_args, right_kinds, right_args) {
-        Cast::Yes(_, _) => Verdict::Yes,
-        Cast::No => Verdict::No,
-        Cast::NoVerdict => Verdict::NoVerdict,
-    }
-}
-
 // Of two flat types that were checked.
 fn ask_flat(
     question: Question,
@@ -75,16 +50,14 @@ fn ask_flat(
       deep ← ⟦Flat::MAX_DEPTH⟧
       ⌜ BothChecked nodes deep (now «left_kinds») (now «left_args») (now «right_kinds») (now «right_args») ⌝ }
     ensures { λ r. do
-      nodes ← ⟦Flat::MAX_NODES⟧ .entry
-      deep ← ⟦Flat::MAX_DEPTH⟧ .entry
-      let from = reading nodes deep (now («left_kinds» .entry)) (now («left_args» .entry))
-      let to = reading nodes deep (now («right_kinds» .entry)) (now («right_args» .entry))
-      ⌜ r ≡ pairVerdict question from to ⌝ }
+      let left = typeAt (now («left_kinds» .entry)) (now («left_args» .entry))
+      let right = typeAt (now («right_kinds» .entry)) (now («right_args» .entry))
+      ⌜ r ≡ verdict (askedOf question left right) ⌝ }
 {
     match question {
         Question::Equal => decided(nodes::starts_with(left_kinds, left_args, right_kinds, right_args)),
         Question::Contains => decided(nodes::occurs(left_kinds, left_args, right_kinds, right_args)),
-        Question::Cast => cast(left_kinds, left_args, right_kinds, right_args),
+        Question::Cast => checked_cast(left_kinds, left_args, right_kinds, right_args),
     }
 }
 
