@@ -1,0 +1,200 @@
+// The calls of dtype.rs on two encoded types. Each type is checked once, and its arguments are read to an array that is lent for them.
+ghost use mathlib.Core.Path.{_≡_};
+ghost use mathlib.Core.Bool.{_&&_};
+ghost use mathlib.Core.Option.{some};
+ghost use Prim.Native.Nat.{_≤_};
+ghost use lib.Dec.{leb};
+ghost use lib.ListN.{length};
+ghost use Rattle.flat.specs.Walk.{typeAt};
+ghost use Rattle.encoded.specs.Encoding.{decoding};
+ghost use Rattle.encoded.specs.Answer.{nodesIn};
+ghost use Rattle.dtype.specs.Equality.{equal};
+ghost use Rattle.dtype.specs.Answer.{answersOf};
+ghost use Rattle.dtype_eq.specs.Contains.{containsDtypeRecursive};
+ghost use Rattle.dtype_cast.specs.Verdict.{verdict, castOf};
+ghost use Rattle.encoded_pair.specs.Asked.{askedOf, pairVerdict, answerIn, toItself, BothChecked, AsksIn};
+use dtype::answer::Answer;
+use dtype_cast::Verdict;
+use dtype_cast::checked_cast;
+use dtype_cast::scan::node_yes;
+use dtype_eq::nodes;
+use encoded::Encoding;
+use flat::Checked;
+use flat::Flat;
+use flat::Written;
+
+// What is asked of two types: whether they are equal, whether the right one stands in the left one, whether the left one casts to the right one.
+pub enum Question {
+    Equal,
+    Contains,
+    Cast,
+}
+
+// A yes or a no as a verdict.
+fn decided(yes: bool) -> Verdict
+    ensures { λ r. ⌜ r ≡ verdict (some yes) ⌝ }
+{
+    if yes { Verdict::Yes } else { Verdict::No }
+}
+
+// Of two flat types that were checked.
+fn ask_flat(
+    question: Question,
+    left_kinds: &[u8],
+    left_args: &[u64],
+    right_kinds: &[u8],
+    right_args: &[u64],
+) -> Verdict
+    requires { do
+      nodes ← ⟦Flat::MAX_NODES⟧
+      deep ← ⟦Flat::MAX_DEPTH⟧
+      ⌜ BothChecked nodes deep (now «left_kinds») (now «left_args») (now «right_kinds») (now «right_args») ⌝ }
+    ensures { λ r. do
+      let left = typeAt (now («left_kinds» .entry)) (now («left_args» .entry))
+      let right = typeAt (now («right_kinds» .entry)) (now («right_args» .entry))
+      ⌜ r ≡ verdict (askedOf question left right) ⌝ }
+{
+    match question {
+        Question::Equal => decided(nodes::starts_with(left_kinds, left_args, right_kinds, right_args)),
+        Question::Contains => decided(nodes::occurs(left_kinds, left_args, right_kinds, right_args)),
+        Question::Cast => checked_cast(left_kinds, left_args, right_kinds, right_args),
+    }
+}
+
+// Of two encoded types, with room for their arguments: the left through 1 to 5, then the right.
+fn ask_in(
+    question: Question,
+    left: &[u8],
+    right: &[u8],
+    left_args: &mut [u64],
+    right_args: &mut [u64],
+) -> Verdict
+    requires { do
+      nodes ← ⟦Flat::MAX_NODES⟧
+      w ← ⟦Encoding::ARGUMENT_BYTES⟧
+      ⌜ (nodesIn w nodes (now left) ≤ length (now «left_args»)) × (nodesIn w nodes (now right) ≤ length (now «right_args»)) ⌝ }
+    ensures { λ r. do
+      nodes ← ⟦Flat::MAX_NODES⟧ .entry
+      deep ← ⟦Flat::MAX_DEPTH⟧ .entry
+      w ← ⟦Encoding::ARGUMENT_BYTES⟧ .entry
+      ⌜ AsksIn w nodes deep question (now (left .entry)) (now (right .entry))
+          (now («left_args» .entry)) (now («right_args» .entry)) (now («left_args» .exit)) (now («right_args» .exit)) r ⌝ }
+{
+    let l = encoded::open(left, left_args);
+    let r = encoded::open(right, right_args);
+    match l {
+        Written::Refused(e) => Verdict::Refused(e),
+        Written::Nodes(n) => match r {
+            Written::Refused(e) => Verdict::Refused(e),
+            Written::Nodes(m) => ask_flat(
+                question,
+                &left[2..2 + n],
+                &left_args[..n],
+                &right[2..2 + m],
+                &right_args[..m],
+            ),
+        },
+    }
+}
+
+// Whether small arrays have room for the arguments of both.
+fn both_few(left: &[u8], right: &[u8]) -> bool
+    ensures { λ r. do
+      nodes ← ⟦Flat::MAX_NODES⟧ .entry
+      w ← ⟦Encoding::ARGUMENT_BYTES⟧ .entry
+      few ← ⟦Encoding::FEW⟧ .entry
+      ⌜ r ≡ (leb (nodesIn w nodes (now (left .entry))) few && leb (nodesIn w nodes (now (right .entry))) few) ⌝ }
+{
+    if encoded::node_count(left) > Encoding::FEW {
+        return false;
+    }
+    encoded::node_count(right) <= Encoding::FEW
+}
+
+// Of any two runs of bytes, with arrays that have room for the arguments.
+fn ask(question: Question, left: &[u8], right: &[u8]) -> Verdict
+    ensures { λ r. do
+      nodes ← ⟦Flat::MAX_NODES⟧ .entry
+      deep ← ⟦Flat::MAX_DEPTH⟧ .entry
+      w ← ⟦Encoding::ARGUMENT_BYTES⟧ .entry
+      ⌜ r ≡ pairVerdict question (decoding w nodes deep (now (left .entry))) (decoding w nodes deep (now (right .entry))) ⌝ }
+{
+    if both_few(left, right) {
+        let mut left_args = [0u64; Encoding::FEW];
+        let mut right_args = [0u64; Encoding::FEW];
+        return ask_in(question, left, right, &mut left_args, &mut right_args);
+    }
+    let mut left_args = [0u64; Flat::MAX_NODES];
+    let mut right_args = [0u64; Flat::MAX_NODES];
+    ask_in(question, left, right, &mut left_args, &mut right_args)
+}
+
+// A verdict where there is always one.
+fn answer(v: Verdict) -> Answer
+    ensures { λ r. ⌜ r ≡ answerIn v ⌝ }
+{
+    match v {
+        Verdict::No => Answer::No,
+        Verdict::Yes => Answer::Yes,
+        Verdict::NoVerdict => Answer::No,
+        Verdict::Refused(e) => Answer::Refused(e),
+    }
+}
+
+// A type is equal to itself; what is no type is refused.
+fn to_itself(c: Checked) -> Answer
+    ensures { λ r. ⌜ r ≡ toItself c ⌝ }
+{
+    match c {
+        Checked::Valid => Answer::Yes,
+        Checked::Refused(e) => Answer::Refused(e),
+    }
+}
+
+// Whether two types are equal. `Unknown(Int(_))` are, whatever they hold; field names count.
+pub fn equal(left: &[u8], right: &[u8]) -> Answer
+    ensures { λ r. do
+      nodes ← ⟦Flat::MAX_NODES⟧ .entry
+      deep ← ⟦Flat::MAX_DEPTH⟧ .entry
+      w ← ⟦Encoding::ARGUMENT_BYTES⟧ .entry
+      ⌜ r ≡ answersOf equal (decoding w nodes deep (now (left .entry))) (decoding w nodes deep (now (right .entry))) ⌝ }
+{
+    // equal bytes are one type, and one check tells of both
+    if left.len() == right.len() {
+        if nodes::same_bytes(left, right) {
+            return to_itself(encoded::check(left));
+        }
+    }
+    answer(ask(Question::Equal, left, right))
+}
+
+// Whether the left type is the right one, or a type under it is.
+pub fn contains_dtype_recursive(left: &[u8], right: &[u8]) -> Answer
+    ensures { λ r. do
+      nodes ← ⟦Flat::MAX_NODES⟧ .entry
+      deep ← ⟦Flat::MAX_DEPTH⟧ .entry
+      w ← ⟦Encoding::ARGUMENT_BYTES⟧ .entry
+      let inner = decoding w nodes deep (now (right .entry))
+      ⌜ r ≡ answersOf containsDtypeRecursive (decoding w nodes deep (now (left .entry))) inner ⌝ }
+{
+    answer(ask(Question::Contains, left, right))
+}
+
+// Whether the cast from the left type to the right one makes sense; NoVerdict where the source is not sure.
+pub fn can_cast_to(left: &[u8], right: &[u8]) -> Verdict
+    ensures { λ r. do
+      nodes ← ⟦Flat::MAX_NODES⟧ .entry
+      deep ← ⟦Flat::MAX_DEPTH⟧ .entry
+      w ← ⟦Encoding::ARGUMENT_BYTES⟧ .entry
+      ⌜ r ≡ castOf (decoding w nodes deep (now (left .entry))) (decoding w nodes deep (now (right .entry))) ⌝ }
+{
+    // two plain leaves that say yes
+    if encoded::is_plain(left) {
+        if encoded::is_plain(right) {
+            if node_yes(left[2], 0, right[2], 0) {
+                return Verdict::Yes;
+            }
+        }
+    }
+    ask(Question::Cast, left, right)
+}
