@@ -25,17 +25,18 @@ found-common (Some n) = refl
 found-common Nothing = refl
 
 -- ---- two roots: a refusal of the left, of the right, or what the rule says
-module _ {A : Type 0} (refusal : Error → A) (rule : DataType → DataType → A) (l r : Root) where
-  pub left-refused : {e : Error} → l ≡ Root.Refused e → refusal e ≡ bothOf refusal rule (rootReading l) (rootReading r)
-  left-refused h = sym (pairs.left-refused _ _ _ _ (ap rootReading h))
+module _ {A : Type 0} (refusal : Error → A) (rule : DataType → DataType → A) where
+  pub left-refused : {l : Root} {e : Error} (right : Reading) → l ≡ Root.Refused e
+      → refusal e ≡ bothOf refusal rule (rootReading l) right
+  left-refused right h = sym (pairs.left-refused _ _ _ _ (ap rootReading h))
 
-  pub right-refused : {k a : ℕ} {e : Error} → l ≡ Root.Node k a → r ≡ Root.Refused e
-      → refusal e ≡ bothOf refusal rule (rootReading l) (rootReading r)
-  right-refused h g = sym (pairs.right-refused _ _ _ _ (ap rootReading h) (ap rootReading g))
+  module _ {l r : Root} {k a : ℕ} (left : l ≡ Root.Node k a) where
+    pub right-refused : {e : Error} → r ≡ Root.Refused e → refusal e ≡ bothOf refusal rule (rootReading l) (rootReading r)
+    right-refused h = sym (pairs.right-refused _ _ _ _ (ap rootReading left) (ap rootReading h))
 
-  pub both-roots : {k a m b : ℕ} → l ≡ Root.Node k a → r ≡ Root.Node m b
-      → rule (leaf k a) (leaf m b) ≡ bothOf refusal rule (rootReading l) (rootReading r)
-  both-roots h g = sym (pairs.both-types _ _ _ _ (ap rootReading h) (ap rootReading g))
+    pub both-roots : {m b : ℕ} → r ≡ Root.Node m b
+        → rule (leaf k a) (leaf m b) ≡ bothOf refusal rule (rootReading l) (rootReading r)
+    both-roots h = sym (pairs.both-types _ _ _ _ (ap rootReading left) (ap rootReading h))
 
 -- what a rule finds that rests on the two roots alone
 pub joining-roots : (rule : Node → Node → Option Reading) (left right : Reading)
