@@ -1,4 +1,5 @@
--- The upcast of two types rests on the kinds at their roots: a type of a class of numbers is a leaf with the argument 0. Assumes nothing.
+-- The upcast of two types rests on the kinds at their roots: a type of a class of numbers is a leaf with the argument 0.
+-- Assumes nothing.
 use mathlib.Core.Path.{_≡_, refl, sym, ap, ap₂, subst, _∙_}
 use mathlib.Core.Bool.{Bool, true, false, not, _&&_, _||_}
 use mathlib.Core.Option.{Option}
