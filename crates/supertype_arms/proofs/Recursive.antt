@@ -12,6 +12,7 @@ use lib.Signed.{leZ, nonNeg, _≤ℤ_}
 use borrow.Author.Tests.{le-ltb}
 use Rattle.flat.specs.Kind.{Null, UInt8, UInt16, UInt32, UInt64, Int8, Int16, Int32, Int64, Int128, UnknownAny, UnknownIntNeg}
 use Rattle.flat.proofs.Rules.{area, in-area, and-left, and-right, or-right}
+use Rattle.flat.proofs.Truths.{is-true, to-T}
 use Rattle.dtype.specs.Predicate.{isUnknownInt, isUnsignedInteger}
 use Rattle.supertype_numbers.specs.Integer.{holds, firstThatHolds}
 use Rattle.dtype.specs.Equality.{equalNode}
@@ -23,7 +24,7 @@ use Rattle.supertype_arms.specs.Node.{value, same, fits}
 use Rattle.supertype_arms.specs.Supertype.{planOf, maxDyn, smallestFitting, dynNumber, pick, Call, run, orElse, inner, supertypeWith, knownSupertype, supertype}
 use Rattle.supertype_arms.specs.Laws.{SupertypeLaws}
 use Rattle.supertype_arms.proofs.Areas.{alike, alike-eq, right-at}
-use Rattle.supertype_arms.proofs.Answers.{is-true, to-T, in-range, of-flag}
+use Rattle.supertype_arms.proofs.Answers.{in-range, of-flag}
 
 -- ---- which plans call
 
