@@ -1,4 +1,5 @@
--- From plans of kinds to answers for types: what the definition gives in its two tries is what the plan of the kinds in order gives. Assumes nothing.
+-- From plans of kinds to answers for types: what the definition gives in its two tries is what the plan of the kinds in
+-- order gives. Assumes nothing.
 use mathlib.Core.Path.{_≡_, refl, sym, _∙_, ap, subst}
 use mathlib.Core.Bool.{Bool, true, false, not, _&&_, _||_, and-comm, and-eq-true-iff}
 use mathlib.Core.List.{[], _∷_}
@@ -193,8 +194,8 @@ of-these t p x q y u =
     let v = and-right t _ u in
     (and-left t _ u, alike-eq p x (and-left (alike p x) _ v), alike-eq q y (and-right (alike p x) _ v))
 
--- (a, b) out of order and its plans p of (a, b) and q of (b, a): their answers don't depend on which is tried first. One plan gives none, the two are one, one
--- names the kind of the type that the other gives, or a Duration meets a Datetime
+-- (a, b) out of order and its plans p of (a, b) and q of (b, a): their answers don't depend on which is tried first. One
+-- plan gives none, the two are one, one names the kind of the type that the other gives, or a Duration meets a Datetime
 abbrev swaps : ℕ → ℕ → Plan → Plan → Bool
 swaps a b p q =
     alike p No || (alike q No || ((turns q && alike p (turn q))

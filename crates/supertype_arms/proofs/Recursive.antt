@@ -1,4 +1,5 @@
--- The definition's two layers of calls are the source's recursion: the inner call meets known types, for which no arm calls again. Assumes nothing.
+-- The definition's two layers of calls are the source's recursion: the inner call meets known types, for which no arm
+-- calls again. Assumes nothing.
 use mathlib.Core.Path.{_≡_, refl, ap}
 use mathlib.Core.Bool.{Bool, true, false, cond, not, _&&_, _||_}
 use mathlib.Core.List.{List, [], _∷_}
@@ -96,7 +97,7 @@ smallest-of p t u o dt v = go (isUnsignedInteger dt && nonNeg v)
     go true = first-of p (UInt8 ∷ UInt16 ∷ UInt32 ∷ UInt64 ∷ []) Null t o v
     go false = first-of p (Int8 ∷ Int16 ∷ Int32 ∷ Int64 ∷ UInt64 ∷ []) Null u o v
 
--- so a call meets known types
+-- the types that an inner call meets are known
 dyn-known : (v : ℤ) → materializeDynInt v < UnknownAny
 dyn-known v = ltb→lt _ UnknownAny (dyn-int-of (λ k. ltb k UnknownAny) tt tt v)
 

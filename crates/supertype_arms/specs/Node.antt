@@ -25,7 +25,7 @@ scale n = n .arg / 256
 abbrev pub decimal : ℕ → ℕ → Node
 decimal p s = node Kind.Decimal (256 * s + p)
 
--- the unit that a number was read as; no type has a number that is none's, and Milliseconds stands for it
+-- the unit that was read: a type has one, and where there is none Milliseconds stands for it
 abbrev pub unitIn : Unit → TimeUnit
 unitIn (Of u) = u
 unitIn (Refused e) = Milliseconds
