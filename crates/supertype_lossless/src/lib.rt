@@ -46,9 +46,10 @@ pub fn get_numeric_upcast_supertype_lossless(
       deep ← ⟦Flat::MAX_DEPTH⟧ .entry
       let left = reading nodes deep (now («left_kinds» .entry)) (now («left_args» .entry))
       let right = reading nodes deep (now («right_kinds» .entry)) (now («right_args» .entry))
+      let found = joining losslessOf left right
       let ks = now («out_kinds» .entry)
       let xs = now («out_args» .entry)
-      let fitted = fittingFound (length ks) (length xs) (joining losslessOf left right)
+      let fitted = fittingFound (length ks) (length xs) found
       ⌜ WritesFound fitted ks xs (now («out_kinds» .exit)) (now («out_args» .exit)) r ⌝ }
 {
     let left = flat::check_root(left_kinds, left_args);
