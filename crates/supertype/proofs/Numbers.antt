@@ -7,8 +7,9 @@ use lib.Dec.{T, leb, eqb, leb→le}
 use lib.IntN.{ℤ}
 use borrow.Author.Tests.{eq-eqb, ne-eqb, eqb-false, le-ltb, not-true}
 use Rattle.flat.specs.Kind
-use Rattle.flat.specs.Argument.{argumentFits, ruleOf as argumentRule}
+use Rattle.flat.specs.Argument.{argumentFits, argumentRule}
 use Rattle.flat.proofs.Rules.{in-run, and-left, and-right}
+use Rattle.flat.proofs.Truths.{is-true}
 use Rattle.dtype.specs.Match.{among}
 use Rattle.dtype.specs.Predicate.{isUnknownInt, isSignedInteger, isUnsignedInteger}
 use Rattle.supertype_numbers.specs.DynInt.{valueOf, materializeDynIntPos, materializeSmallestDynInt}
@@ -21,7 +22,7 @@ use Rattle.supertype_arms.specs.Node.{same, fits}
 use Rattle.supertype_arms.specs.Supertype.{smallestFitting, dynNumber, Call, run, inner, supertypeWith, knownSupertype}
 use Rattle.supertype_arms.specs.Rule.{ruleOf, skip, Apart, Settles}
 use Rattle.supertype_arms.proofs.Areas.{right, rule}
-use Rattle.supertype_arms.proofs.Answers.{is-true, settled, either-order, lopsided}
+use Rattle.supertype_arms.proofs.Answers.{settled, either-order, lopsided}
 use Rattle.supertype_arms.proofs.Recursive.{smallest-of}
 
 -- ---- the smallest fitting type

@@ -1,4 +1,5 @@
--- From plans of kinds to answers for types: what the definition gives in its two tries is what the plan of the kinds in order gives. Assumes nothing.
+-- From plans of kinds to answers for types: what the definition gives in its two tries is what the plan of the kinds in
+-- order gives. Assumes nothing.
 use mathlib.Core.Path.{_≡_, refl, sym, _∙_, ap, subst}
 use mathlib.Core.Bool.{Bool, true, false, not, _&&_, _||_, and-comm, and-eq-true-iff}
 use mathlib.Core.List.{[], _∷_}
@@ -9,12 +10,13 @@ use native.Mathlib.Decide.{ℕ-discrete}
 use lib.Dec.{T, leb, ltb, eqb, eqb→eq}
 use borrow.Author.Tests.{eq-eqb, ne-eqb, eqb-true, leb-true, le-ltb, lt-leb}
 use Rattle.flat.specs.Kind.{Duration, Datetime, String, UnknownAny, UnknownStr, UnknownFloat, UnknownIntPos, UnknownIntNeg, Field}
-use Rattle.flat.specs.Argument.{follows, argumentFits, ruleOf as argumentRule}
+use Rattle.flat.specs.Argument.{follows, argumentFits, argumentRule}
 use Rattle.flat.proofs.Rules.{in-run, area, in-area, and-left, and-right, or-right, isZero, zero-follows}
+use Rattle.flat.proofs.Truths.{never, is-true}
 use Rattle.dtype.specs.Match.{among}
 use Rattle.dtype.specs.Predicate.{isUnknownInt}
 use Rattle.dtype.specs.Equality.{equalNode}
-use Rattle.dtype.specs.TimeUnit.{unitNumber}
+use Rattle.dtype.specs.TimeUnit.{unitNumber, unitOf}
 use Rattle.dtype.specs.declared.time_unit.TimeUnit.{TimeUnit}
 use Rattle.dtype.specs.declared.time_unit.TimeUnit.the-variants.{Nanoseconds, Microseconds, Milliseconds}
 use Rattle.dtype.specs.TimeUnits.{getTimeUnits}
@@ -22,7 +24,7 @@ use Rattle.supertype_answer.specs.Join.{Node, Supertype, Some, Nothing, node}
 use Rattle.dtype.proofs.Coarser.{coarser}
 use Rattle.supertype_arms.specs.declared.plan.Plan.{Plan}
 use Rattle.supertype_arms.specs.declared.plan.Plan.the-variants.{No, Left, Right, Kind, Decimals, DatetimeDuration, Datetimes, Durations, DynNumber, DynBoolean, DynDecimal}
-use Rattle.supertype_arms.specs.Node.{unitAt, unit, zone, same, plain, fits}
+use Rattle.supertype_arms.specs.Node.{unitIn, unit, zone, same, plain, fits}
 use Rattle.supertype_arms.specs.Supertype.{is, planOf, pick, Call, sameZone, run, orElse, inner, supertypeWith}
 use Rattle.supertype_arms.specs.Rule.{turn, orPlan, ruleOf, skip, Apart}
 use Rattle.supertype_arms.proofs.Areas.{alike, alike-eq, right-at}
@@ -30,19 +32,12 @@ use Rattle.supertype_arms.proofs.Areas.{alike, alike-eq, right-at}
 -- ---- Booleans and answers
 
 or-no : (a b : Bool) → (a || b) ≡ false → (a ≡ false) × (b ≡ false)
-or-no true b e = absurd (subst T e tt)
+or-no true b e = never (sym e)
 or-no false b e = (refl, e)
 
 or-cases : (x y : Bool) {X : Type 0} → T (x || y) → (T x → X) → (T y → X) → X
 or-cases true y t f g = f t
 or-cases false y t f g = g t
-
-pub is-true : (b : Bool) → T b → b ≡ true
-is-true true t = refl
-is-true false t = absurd t
-
-pub to-T : {b : Bool} → b ≡ true → T b
-to-T e = subst T (sym e) tt
 
 or-nothing : (s : Supertype) → orElse s Nothing ≡ s
 or-nothing (Some n) = refl
@@ -139,7 +134,7 @@ zones x y = go (ℕ-discrete x 0) (ℕ-discrete y 0)
 
 pick-twice : (a b : Bool) (x y : Node) → a ≡ b → orElse (pick a (Some x) Nothing) (pick b (Some y) Nothing) ≡ pick a (Some x) Nothing
 pick-twice true b x y e = refl
-pick-twice false true x y e = absurd (subst T (sym e) tt)
+pick-twice false true x y e = never e
 pick-twice false false x y e = refl
 
 module _ (call : Call) (l r : Node) where
@@ -199,8 +194,8 @@ of-these t p x q y u =
     let v = and-right t _ u in
     (and-left t _ u, alike-eq p x (and-left (alike p x) _ v), alike-eq q y (and-right (alike p x) _ v))
 
--- (a, b) out of order and its plans p of (a, b) and q of (b, a): their answers don't depend on which is tried first. One plan gives none, the two are one, one
--- names the kind of the type that the other gives, or a Duration meets a Datetime
+-- (a, b) out of order and its plans p of (a, b) and q of (b, a): their answers don't depend on which is tried first. One
+-- plan gives none, the two are one, one names the kind of the type that the other gives, or a Duration meets a Datetime
 abbrev swaps : ℕ → ℕ → Plan → Plan → Bool
 swaps a b p q =
     alike p No || (alike q No || ((turns q && alike p (turn q))
@@ -212,14 +207,19 @@ swap-of s a b lt h n =
     (or-right (lopsided a b || swaps a b (planOf s a b) (planOf s b a)) (lt-leb a b lt)
     (at-apart (λ s b a. leb a b || (lopsided a b || swaps a b (planOf s a b) (planOf s b a))) (unfold everywhere lopsided in tt) s b a h))
 
--- the coarser of two units is the same in either order
-of-number : (u : TimeUnit) → unitAt (unitNumber u) ≡ u
+-- a unit is read back from its number
+of-number : (u : TimeUnit) → unitIn (unitOf (unitNumber u)) ≡ u
+unfolding unitOf
 of-number Nanoseconds = refl
 of-number Microseconds = refl
 of-number Milliseconds = refl
 
-pub units-sym : (u v : TimeUnit) → getTimeUnits u v ≡ getTimeUnits v u
-units-sym u v = sym (of-number (getTimeUnits u v)) ∙ ap unitAt (coarser u v ∙ max-comm (unitNumber u) (unitNumber v) ∙ sym (coarser v u)) ∙ of-number (getTimeUnits v u)
+-- the coarser of two units, in either order
+units-sym : (u v : TimeUnit) → getTimeUnits u v ≡ getTimeUnits v u
+units-sym u v =
+    sym (of-number (getTimeUnits u v))
+    ∙ ap (λ (n : ℕ). unitIn (unitOf n)) (coarser u v ∙ max-comm (unitNumber u) (unitNumber v) ∙ sym (coarser v u))
+    ∙ of-number (getTimeUnits v u)
 
 module _ (call : Call) (l r : Node) (fl : fits l ≡ true) (fr : fits r ≡ true) where
   -- the answers of p and q, whichever is tried first
@@ -274,7 +274,7 @@ apart l r fl fr e h = go (plain (l .kind)) refl (ℕ-discrete (l .kind) (r .kind
     go true p (yes k) =
         let x : l .arg ≡ 0 = plain-zero l fl p in
         let y : r .arg ≡ 0 = plain-zero r fr (subst (λ (j : ℕ). plain j ≡ true) k p) in
-        absurd (subst T (rw (eq-eqb (l .kind) (r .kind) k, eq-eqb (l .arg) (r .arg) (omega arith)) at (neither .1)) tt)
+        never (sym (rw (eq-eqb (l .kind) (r .kind) k, eq-eqb (l .arg) (r .arg) (omega arith)) at (neither .1)))
 
 pub are-apart : (l r : Node) → fits l ≡ true → fits r ≡ true → same l r ≡ false → l .kind ≤ r .kind → Apart (l .kind) (r .kind)
 are-apart l r fl fr e h = record { in-order = h; in-range = in-range r fr; two = apart l r fl fr e h }

@@ -63,16 +63,17 @@ alike-eq p q t = sym (back p) ∙ ap plans (eqb→eq (codeOf p) (codeOf q) t) �
 
 -- ---- the plan of two kinds
 
--- the plan f is that of a and b, the flag on or off
+-- f is the plan of a and b, by the flag
 unfoldable pub right-at : (Bool → ℕ → ℕ → Plan) → Bool → ℕ → ℕ → Bool
 unfolding ruleOf planOf arms unknownArms plain skip among isFloat isUnknownInt isSignedInteger isUnsignedInteger isInteger isPrimitiveNumeric isPrimitive isString isUnknown headKind physicalLeaf physicalKind
 right-at f s a b = alike (f s a b) (ruleOf s a b)
 
+-- f is the plan of a and b, the flag on and off
 unfoldable pub right : (Bool → ℕ → ℕ → Plan) → ℕ → ℕ → Bool
 unfolding right-at
 right f a b = right-at f true a b && right-at f false a b
 
--- the same where they are two kinds in order
+-- where a and b are two kinds in order, f is their plan, the flag on and off
 unfoldable pub right-apart : (Bool → ℕ → ℕ → Plan) → ℕ → ℕ → Bool
 unfolding right
 right-apart f a b = skip a b || right f a b

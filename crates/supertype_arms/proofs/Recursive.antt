@@ -1,4 +1,5 @@
--- The definition's two layers of calls are the source's recursion: the inner call meets known types, for which no arm calls again. Assumes nothing.
+-- The definition's two layers of calls are the source's recursion: the inner call meets known types, for which no arm
+-- calls again. Assumes nothing.
 use mathlib.Core.Path.{_≡_, refl, ap}
 use mathlib.Core.Bool.{Bool, true, false, cond, not, _&&_, _||_}
 use mathlib.Core.List.{List, [], _∷_}
@@ -12,6 +13,7 @@ use lib.Signed.{leZ, nonNeg, _≤ℤ_}
 use borrow.Author.Tests.{le-ltb}
 use Rattle.flat.specs.Kind.{Null, UInt8, UInt16, UInt32, UInt64, Int8, Int16, Int32, Int64, Int128, UnknownAny, UnknownIntNeg}
 use Rattle.flat.proofs.Rules.{area, in-area, and-left, and-right, or-right}
+use Rattle.flat.proofs.Truths.{is-true, to-T}
 use Rattle.dtype.specs.Predicate.{isUnknownInt, isUnsignedInteger}
 use Rattle.supertype_numbers.specs.Integer.{holds, firstThatHolds}
 use Rattle.dtype.specs.Equality.{equalNode}
@@ -23,7 +25,7 @@ use Rattle.supertype_arms.specs.Node.{value, same, fits}
 use Rattle.supertype_arms.specs.Supertype.{planOf, maxDyn, smallestFitting, dynNumber, pick, Call, run, orElse, inner, supertypeWith, knownSupertype, supertype}
 use Rattle.supertype_arms.specs.Laws.{SupertypeLaws}
 use Rattle.supertype_arms.proofs.Areas.{alike, alike-eq, right-at}
-use Rattle.supertype_arms.proofs.Answers.{is-true, to-T, in-range, of-flag}
+use Rattle.supertype_arms.proofs.Answers.{in-range, of-flag}
 
 -- ---- which plans call
 
@@ -95,7 +97,7 @@ smallest-of p t u o dt v = go (isUnsignedInteger dt && nonNeg v)
     go true = first-of p (UInt8 ∷ UInt16 ∷ UInt32 ∷ UInt64 ∷ []) Null t o v
     go false = first-of p (Int8 ∷ Int16 ∷ Int32 ∷ Int64 ∷ UInt64 ∷ []) Null u o v
 
--- so a call meets known types
+-- the types that an inner call meets are known
 dyn-known : (v : ℤ) → materializeDynInt v < UnknownAny
 dyn-known v = ltb→lt _ UnknownAny (dyn-int-of (λ k. ltb k UnknownAny) tt tt v)
 
