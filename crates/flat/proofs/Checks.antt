@@ -18,6 +18,7 @@ use Rattle.flat.specs.Span.{spanWithin}
 use Rattle.flat.specs.declared.span.Span.the-variants.{Ends, TooDeep}
 use Rattle.flat.specs.declared.error.Error.the-variants.{Length, Kind, Argument, Shape, Depth}
 use Rattle.flat.specs.declared.Checked.the-variants.{Valid, Refused}
+use Rattle.flat.proofs.Truths.{never}
 use Rattle.flat.proofs.Scans.{arguments-kinds}
 use Rattle.flat.proofs.Meaning.{form-length, form-read, form-stands, form-fits, read-form}
 use Rattle.flat.proofs.Spans.{type-ended, type-deeper}
@@ -28,11 +29,10 @@ use Rattle.flat.proofs.Complete.{complete}
 pub no-shape : (nodes deep : ℕ) (ks xs : List ℕ) → length ks ≡ length xs → length ks ≤ nodes → argumentsFit ks xs ≡ true → scanType (2 * nodes) start ks xs ≡ false → Refused Shape ≡ checkedOf (shaped deep (length ks) (nodeAt ks xs))
 no-shape nodes deep ks xs e h a f = go (nodeAt ks xs) refl
   where
-    never : (t : DataType) → nodeAt ks xs ≡ some t → size t ≡ length ks → ⊥
-    never t q n = let p = complete nodes (read-form t q n e a) (omega arith) in let z : _≡_ {A = ℕ} 0 1 = cc in omega arith
-
     whole : (t : DataType) → nodeAt ks xs ≡ some t → (b : Bool) → eqb (size t) (length ks) ≡ b → Refused Shape ≡ checkedOf (unless b Shape (unless (leb (depth t) deep) Depth (type t)))
-    whole t q true n = absurd (never t q (eqb-true (size t) (length ks) n))
+    whole t q true n =
+        let form = read-form t q (eqb-true (size t) (length ks) n) e a in
+        never (sym f ∙ complete nodes form (omega (arith, form-length form)))
     whole t q false n = refl
 
     go : (p : Option DataType) → nodeAt ks xs ≡ p → Refused Shape ≡ checkedOf (shaped deep (length ks) p)

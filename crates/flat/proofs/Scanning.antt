@@ -1,6 +1,6 @@
 -- The scan at a position of the two arrays: what each of its ways on says of the whole. Assumes nothing.
 use mathlib.Core.Path.{_≡_, refl, sym, ap, ap₂, _∙_}
-use mathlib.Core.Bool.{Bool, true, false, not, _&&_, and-eq-true-iff}
+use mathlib.Core.Bool.{Bool, true, false, not, _&&_}
 use mathlib.Core.List.{List}
 use Prim.Native.Nat.{ℕ, _+_, _*_, _≤_, _<_}
 use native.Mathlib.Omega.{arith}
@@ -14,6 +14,7 @@ use Rattle.flat.specs.Argument.{argumentFits, argumentRule, follows}
 use Rattle.flat.specs.Reader.{children}
 use Rattle.flat.specs.Scan.{NoDeeper, start, wrapped, opened, paid, typeFits, fieldFits, after, scanType, scanFields}
 use Rattle.flat.specs.declared.scan.Scan.{Scan}
+use Rattle.flat.proofs.Truths.{both-true}
 use Rattle.flat.proofs.Positions.{children-leaf, children-list, children-array, children-struct}
 use Rattle.flat.proofs.States.{Opened, outermost, inside, opens, wrapped-owed, paid-owed, start-within, wrapped-within, opened-within, paid-within}
 use Rattle.flat.proofs.Plain.{kind-told, plain-fits}
@@ -40,8 +41,8 @@ zero-leaf k a h z = no-field k a (omega arith) (go (eqb k Kind.Decimal) refl)
 fitting : (k a : ℕ) → typeFits k a ≡ true → (k ≤ Kind.Struct) × (argumentFits k a ≡ true)
 unfolding typeFits argumentFits
 fitting k a e =
-    let both = and-eq-true-iff (not (eqb k Kind.Field)) (argumentFits k a) .0 e in
-    let low = leb-true k Kind.Field (and-eq-true-iff (leb k Kind.Field) (follows (argumentRule k) a) .0 (both .1) .0) in
+    let both = both-true (not (eqb k Kind.Field)) (argumentFits k a) e in
+    let low = leb-true k Kind.Field (both-true (leb k Kind.Field) (follows (argumentRule k) a) (both .1) .0) in
     (omega (arith, eqb-false k Kind.Field (not-true (eqb k Kind.Field) (both .0))), both .1)
 
 list-zero : (k a : ℕ) → k ≡ Kind.List → argumentFits k a ≡ true → a ≡ 0

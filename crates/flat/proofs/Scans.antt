@@ -12,6 +12,7 @@ use borrow.Author.Tests.{le-leb, lt-leb}
 use Rattle.flat.specs.Kind
 use Rattle.flat.specs.Argument.{argumentRule, follows, argumentFits}
 use Rattle.flat.specs.Reading.{kindsFit, argumentsFit}
+use Rattle.flat.proofs.Truths.{never}
 
 module _ (ks : List ℕ) (i : ℕ) (e : kindsFit ks ≡ kindsFit (drop i ks)) where
   module _ (h : i < length ks) where
@@ -54,5 +55,5 @@ arguments-kinds (k ∷ ks) (a ∷ xs) e f = go (leb k Kind.Field) (follows (argu
   where
     go : (b c : Bool) → (argumentsFit ks xs ≡ true → kindsFit ks ≡ true) → (b && c && argumentsFit ks xs) ≡ true → (b && kindsFit ks) ≡ true
     go true true r q = r q
-    go true false r q = absurd (let z : _≡_ {A = ℕ} 0 1 = cc in omega arith)
-    go false c r q = absurd (let z : _≡_ {A = ℕ} 0 1 = cc in omega arith)
+    go true false r q = never q
+    go false c r q = never q

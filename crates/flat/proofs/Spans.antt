@@ -17,6 +17,7 @@ use Rattle.flat.specs.Walk.{FrontType, Valid, ValidRun, typeAt, runAt}
 use Rattle.flat.specs.Span.{spanWithin, spansWithin, wrapping, wrappersOf}
 use Rattle.flat.specs.declared.span.Span.{Span}
 use Rattle.flat.specs.declared.span.Span.the-variants.{Ends, TooDeep}
+use Rattle.flat.proofs.Truths.{impossible}
 use Rattle.flat.proofs.ReadBack.{View, is-leaf, is-struct, is-other, view}
 use Rattle.flat.proofs.Positions.{rest, children-leaf, children-struct}
 use Rattle.flat.proofs.Walks.{from, Unary, AtNode, at-leaf, at-one, at-struct, at-node, unary-size, valid-of, type-is, type-leaf, type-struct, struct-valid, run-end}
@@ -32,13 +33,13 @@ ended levels m d n e = go (leb d levels) refl e
   where
     go : (b : Bool) → leb d levels ≡ b → Ends n ≡ cond b (Ends m) TooDeep → (n ≡ m) × (d ≤ levels)
     go true l q = (cc, leb-true d levels l)
-    go false l q = absurd (let z : _≡_ {A = ℕ} 0 1 = cc in omega arith)
+    go false l q = impossible cc
 
 deeper : (levels m d : ℕ) → TooDeep ≡ held levels m d → levels < d
 deeper levels m d e = go (leb d levels) refl e
   where
     go : (b : Bool) → leb d levels ≡ b → TooDeep ≡ cond b (Ends m) TooDeep → levels < d
-    go true l q = absurd (let z : _≡_ {A = ℕ} 0 1 = cc in omega arith)
+    go true l q = impossible cc
     go false l q = leb-false d levels l
 
 module _ (levels : ℕ) (t : DataType) where
