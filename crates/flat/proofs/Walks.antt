@@ -140,7 +140,7 @@ module _ (ks xs : List ℕ) (v : Valid ks xs) where
 
   -- under a Struct
   module _ (s : getD ks 0 0 ≡ Kind.Struct) where
-    struct-of : (typeAt ks xs ≡ struct (runAt (getD xs 0 0) (from 1 ks) (from 1 xs))) × ValidRun (getD xs 0 0) (from 1 ks) (from 1 xs)
+    pub struct-of : (typeAt ks xs ≡ struct (runAt (getD xs 0 0) (from 1 ks) (from 1 xs))) × ValidRun (getD xs 0 0) (from 1 ks) (from 1 xs)
     struct-of = go (typeAt ks xs) (at-node ks xs (typeAt ks xs) v)
       where
         go : (t : DataType) → AtNode ks xs t → (t ≡ struct (runAt (getD xs 0 0) (from 1 ks) (from 1 xs))) × ValidRun (getD xs 0 0) (from 1 ks) (from 1 xs)
