@@ -19,7 +19,7 @@ use Rattle.flat.specs.declared.span.Span.{Span}
 use Rattle.flat.specs.declared.span.Span.the-variants.{Ends, TooDeep}
 use Rattle.flat.proofs.Truths.{impossible}
 use Rattle.flat.proofs.ReadBack.{View, is-leaf, is-struct, is-other, view}
-use Rattle.flat.proofs.Positions.{rest, children-leaf, children-struct}
+use Rattle.flat.proofs.Positions.{rest, children-leaf, children-list, children-list-bad, children-array, children-struct}
 use Rattle.flat.proofs.Walks.{from, shorter, Unary, AtNode, at-leaf, at-one, at-struct, at-node, unary-size, valid-of, type-is, type-leaf, struct-of, run-end}
 use Rattle.flat.proofs.Onward.{from-zero, from-first, onward, next-valid, next-run, next-field}
 
@@ -76,32 +76,50 @@ module _ (levels : ℕ) (fs : Fields) where
   unfolding spansWithin
   fields-deep h = rw (lt-leb (depths fs) levels h)
 
--- ---- the Lists and Arrays at the front, of which all down to `at` were seen
-module _ (ks xs : List ℕ) (at : ℕ) (e : wrappersOf ks xs ≡ at + wrappersOf (drop at ks) (drop at xs)) where
-  pub wrappers-end : length ks ≤ at → at ≡ wrappersOf ks xs
+-- ---- the Lists and Arrays at the front
+-- All down to `at` were seen.
+pub record Seen (ks xs : List ℕ) (at : ℕ) : Type 0 where
+  pub even : length ks ≡ length xs
+  pub inside : at ≤ length ks
+  pub counted : wrappersOf ks xs ≡ at + wrappersOf (drop at ks) (drop at xs)
+
+pub none-seen : {ks xs : List ℕ} → length ks ≡ length xs → Seen ks xs 0
+none-seen e = record { even = e; inside = omega arith; counted = sym (zero-add _) }
+
+module _ {ks xs : List ℕ} {at : ℕ} (s : Seen ks xs at) where
+  pub wrappers-end : length ks ≤ at → (at ≡ wrappersOf ks xs) × (at ≤ length ks)
   unfolding wrappersOf
-  wrappers-end h = sym (e ∙ ap (λ (l : List ℕ). at + wrappersOf l (drop at xs)) (drop-of-length-le ks h) ∙ (let z : at + 0 ≡ at = omega arith in z))
+  wrappers-end h = (omega (arith, s .counted, ap (λ (l : List ℕ). wrappersOf l (drop at xs)) (drop-of-length-le ks h)), s .inside)
 
-  module _ (h : at < length ks) (h′ : at < length xs) (s : Children) (c : children (getD ks at 0) (getD xs at 0) ≡ s) where
-    wrappers-step : wrappersOf (drop at ks) (drop at xs) ≡ wrapping s (wrappersOf (drop (at + 1) ks) (drop (at + 1) xs))
+  module _ (h : at < length ks) where
+    wrappers-step : wrappersOf (drop at ks) (drop at xs) ≡ wrapping (children (getD ks at 0) (getD xs at 0)) (wrappersOf (drop (at + 1) ks) (drop (at + 1) xs))
     unfolding wrappersOf
-    wrappers-step = rw (add-one, drop-cons ks at 0 h, drop-cons xs at 0 h′, c)
+    wrappers-step = let g : at < length xs = omega arith in rw (add-one, drop-cons ks at 0, drop-cons xs at 0)
 
-    pub wrappers-stop : wrapping s (wrappersOf (drop (at + 1) ks) (drop (at + 1) xs)) ≡ 0 → at ≡ wrappersOf ks xs
-    wrappers-stop z = omega (arith, e, wrappers-step, z)
+    stop : wrappersOf (drop at ks) (drop at xs) ≡ 0 → (at ≡ wrappersOf ks xs) × (at ≤ length ks)
+    stop z = (omega (arith, s .counted), s .inside)
 
-    pub wrappers-on : wrapping s (wrappersOf (drop (at + 1) ks) (drop (at + 1) xs)) ≡ suc (wrappersOf (drop (at + 1) ks) (drop (at + 1) xs)) → wrappersOf ks xs ≡ at + 1 + wrappersOf (drop (at + 1) ks) (drop (at + 1) xs)
-    wrappers-on z = omega (arith, e, wrappers-step, z)
+    on : wrappersOf (drop at ks) (drop at xs) ≡ suc (wrappersOf (drop (at + 1) ks) (drop (at + 1) xs)) → Seen ks xs (at + 1)
+    on z = record { even = s .even; inside = omega arith; counted = omega (arith, s .counted) }
 
-pub no-wrapper : (k a n : ℕ) → (k ≡ Kind.List → ⊥) → (k ≡ Kind.Array → ⊥) → wrapping (children k a) n ≡ 0
-no-wrapper k a n l r = go (children k a) (view k a) l r
-  where
-    go : {j b : ℕ} (c : Children) → View j b c → (j ≡ Kind.List → ⊥) → (j ≡ Kind.Array → ⊥) → wrapping c n ≡ 0
-    go no-child (is-leaf h) l r = refl
-    go under-list View.is-list l r = absurd (l refl)
-    go under-array View.is-array l r = absurd (r refl)
-    go fields is-struct l r = refl
-    go no-type is-other l r = refl
+    pub list-seen : getD ks at 0 ≡ Kind.List → getD xs at 0 ≡ 0 → Seen ks xs (at + 1)
+    list-seen k a = on (wrappers-step ∙ rw (children-list _ _ k a))
+
+    pub array-seen : getD ks at 0 ≡ Kind.Array → Seen ks xs (at + 1)
+    array-seen k = on (wrappers-step ∙ rw (children-array _ (getD xs at 0) k))
+
+    pub bad-list : getD ks at 0 ≡ Kind.List → (getD xs at 0 ≡ 0 → ⊥) → (at ≡ wrappersOf ks xs) × (at ≤ length ks)
+    bad-list k a = stop (wrappers-step ∙ rw (children-list-bad _ _ k a))
+
+    pub no-wrapper : (getD ks at 0 ≡ Kind.List → ⊥) → (getD ks at 0 ≡ Kind.Array → ⊥) → (at ≡ wrappersOf ks xs) × (at ≤ length ks)
+    no-wrapper l r = stop (wrappers-step ∙ go (children (getD ks at 0) (getD xs at 0)) (view (getD ks at 0) (getD xs at 0)) l r)
+      where
+        go : {j b : ℕ} (c : Children) → View j b c → (j ≡ Kind.List → ⊥) → (j ≡ Kind.Array → ⊥) → wrapping c (wrappersOf (drop (at + 1) ks) (drop (at + 1) xs)) ≡ 0
+        go no-child (is-leaf h) l r = refl
+        go under-list View.is-list l r = absurd (l refl)
+        go under-array View.is-array l r = absurd (r refl)
+        go fields is-struct l r = refl
+        go no-type is-other l r = refl
 
 -- ---- what stands under them
 -- Under the n Lists and Arrays at the front, where the type t stands: a leaf or a Struct.
