@@ -21,7 +21,7 @@ module _ (nodes deep : ℕ) (t : DataType) (r : Ruled t) where
       let f = own-form t r in
       let l = form-length f in
       let p = size-pos t in
-      sym (ap checkedNumber (too-many nodes deep (kindsOf t) (argsOf t) (form-even f) (λ z. omega arith) (omega arith)))
+      sym (ap checkedNumber (too-many nodes deep (record { even = form-even f; some = omega arith }) (omega arith)))
 
   too-deep : size t ≤ nodes → deep < depth t → Gets 5 nodes deep t
   too-deep s d = refusals nodes deep (kindsOf t) (argsOf t) .five .1 (t, own-form t r, s, d)

@@ -18,6 +18,7 @@ use Rattle.flat.specs.declared.error.Error.{Error}
 use Rattle.flat.specs.declared.error.Error.the-variants.{Length, Kind, Argument, Shape, Depth}
 use Rattle.flat.specs.declared.Checked.the-variants as answer
 use Rattle.flat.specs.Walk.{Valid, typeAt}
+use Rattle.flat.proofs.Truths.{impossible, both-true}
 use Rattle.flat.proofs.Sizes.{length-kinds, length-args, size-pos}
 use Rattle.flat.proofs.Walks.{node-of, valid-of, type-is, type-kind, type-arg}
 use Rattle.flat.proofs.ReadBack.{Good, Goods, read-back, Sound, sound}
@@ -113,26 +114,22 @@ passes nodes deep t v =
     rw (fit-reading nodes deep (form-fits f (v .within)), form-read f, eq-eqb (size t) (length (kindsOf t)) (sym (form-length f)), le-leb (depth t) deep (v .shallow))
 
 -- ---- whatever passes is a valid type
-both : (a b : Bool) → (a && b) ≡ true → (a ≡ true) × (b ≡ true)
-both true b e = (refl, e)
-both false b e = absurd (let z : _≡_ {A = ℕ} 0 1 = cc in omega arith)
-
 mutual
   unfolding Ruled Good kindsOf argsOf argumentsFit argumentFits argumentRule
 
   -- fitting arguments of a tree, and of what follows it
   ruled : (t : DataType) → Good t → (ks xs : List ℕ) → argumentsFit (kindsOf t ++ ks) (argsOf t ++ xs) ≡ true → Ruled t × (argumentsFit ks xs ≡ true)
-  ruled (leaf k a) g ks xs e = let s = both (argumentFits k a) (argumentsFit ks xs) e in ((g, s .0), s .1)
+  ruled (leaf k a) g ks xs e = let s = both-true (argumentFits k a) (argumentsFit ks xs) e in ((g, s .0), s .1)
   ruled (list t) g ks xs e = ruled t g ks xs e
   ruled (array w t) g ks xs e = ruled t g ks xs e
   ruled (struct fs) g ks xs e =
-      let s = both (argumentFits Kind.Struct (count fs)) (argumentsFit (kindsOfs fs ++ ks) (argsOfs fs ++ xs)) e in
+      let s = both-true (argumentFits Kind.Struct (count fs)) (argumentsFit (kindsOfs fs ++ ks) (argsOfs fs ++ xs)) e in
       let r = ruled-fields fs g ks xs (s .1) in ((s .0, r .0), r .1)
 
   ruled-fields : (fs : Fields) → Goods fs → (ks xs : List ℕ) → argumentsFit (kindsOfs fs ++ ks) (argsOfs fs ++ xs) ≡ true → RuledFields fs × (argumentsFit ks xs ≡ true)
   ruled-fields empty g ks xs e = (tt, e)
   ruled-fields (field name t fs) g ks xs e =
-      let s = both (argumentFits Kind.Field name) (argumentsFit ((kindsOf t ++ kindsOfs fs) ++ ks) ((argsOf t ++ argsOfs fs) ++ xs)) e in
+      let s = both-true (argumentFits Kind.Field name) (argumentsFit ((kindsOf t ++ kindsOfs fs) ++ ks) ((argsOf t ++ argsOfs fs) ++ xs)) e in
       let q = sym (ap₂ argumentsFit (append-assoc (kindsOf t) (kindsOfs fs) ks) (append-assoc (argsOf t) (argsOfs fs) xs)) ∙ s .1 in
       let r = ruled t (g .0) (kindsOfs fs ++ ks) (argsOfs fs ++ xs) q in
       let u = ruled-fields fs (g .1) ks xs (r .1) in ((s .0, r .0, u .0), u .1)
@@ -140,7 +137,7 @@ mutual
 -- a test that was passed
 passed : (b : Bool) (e : Error) (r : Reading) (t : DataType) → unless b e r ≡ type t → (b ≡ true) × (r ≡ type t)
 passed true e r t q = (refl, q)
-passed false e r t q = absurd (let z : _≡_ {A = ℕ} 0 1 = cc in omega arith)
+passed false e r t q = impossible cc
 
 -- A tree that was read from all the nodes, whose arguments fit: the arrays are its flat form.
 pub read-form : {ks xs : List ℕ} (t : DataType) → nodeAt ks xs ≡ some t → size t ≡ length ks → length ks ≡ length xs → argumentsFit ks xs ≡ true → FlatForm ks xs t
@@ -163,13 +160,13 @@ holds-form h = record { kinds = h .kinds; args = h .args; ruled = h .is-type .ru
 pub lengths-fit : (nodes : ℕ) (ks xs : List ℕ) → lengthFits nodes ks xs ≡ true → (length ks ≡ length xs) × (length ks ≤ nodes)
 unfolding lengthFits
 lengths-fit nodes ks xs e =
-    let l = both (eqb (length ks) (length xs) && ltb 0 (length ks)) (leb (length ks) nodes) e in
-    let m = both (eqb (length ks) (length xs)) (ltb 0 (length ks)) (l .0) in
+    let l = both-true (eqb (length ks) (length xs) && ltb 0 (length ks)) (leb (length ks) nodes) e in
+    let m = both-true (eqb (length ks) (length xs)) (ltb 0 (length ks)) (l .0) in
     (eqb-true (length ks) (length xs) (m .0), leb-true (length ks) nodes (l .1))
 
 module _ (nodes deep : ℕ) (ks xs : List ℕ) (t : DataType) where
   one-type : NodesFit nodes ks xs → (p : Option DataType) → nodeAt ks xs ≡ p → shaped deep (length ks) p ≡ type t → Holds nodes deep ks xs t
-  one-type f none q r = absurd (let z : _≡_ {A = ℕ} 0 1 = cc in omega arith)
+  one-type f none q r = impossible cc
   one-type f (some u) q r =
       let l = lengths-fit nodes ks xs (f .lengths) in
       let s = passed (eqb (size u) (length ks)) Shape (unless (leb (depth u) deep) Depth (type u)) t r in
@@ -194,12 +191,12 @@ module _ (nodes deep : ℕ) (ks xs : List ℕ) (t : DataType) where
 
 -- What the check's answer tells of the reading.
 pub checked-type : (r : Reading) → answer.Valid ≡ checkedOf r → (t : DataType) × (r ≡ type t)
-checked-type (refused e) q = absurd (let z : _≡_ {A = ℕ} 0 1 = cc in omega arith)
+checked-type (refused e) q = impossible cc
 checked-type (type t) q = (t, refl)
 
 pub checked-refused : (r : Reading) (e : Error) → answer.Refused e ≡ checkedOf r → r ≡ refused e
 checked-refused (refused d) e q = let y : d ≡ e = cc in ap refused y
-checked-refused (type t) e q = absurd (let z : _≡_ {A = ℕ} 0 1 = cc in omega arith)
+checked-refused (type t) e q = impossible cc
 
 -- What a check that passed tells of two arrays: they are the flat form of a type, which stands at their front.
 pub record Passed (nodes deep : ℕ) (ks xs : List ℕ) : Type 0 where

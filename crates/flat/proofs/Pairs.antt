@@ -1,7 +1,7 @@
 -- The laws of a call on two types: the left one's refusal comes first, then the right one's, then the rule. Assumes nothing.
 use mathlib.Core.Path.{_≡_, refl}
 use Prim.Native.Nat.{ℕ}
-use Rattle.flat.specs.Tree.{DataType, leaf, headKind, headArg}
+use Rattle.flat.specs.Tree.{DataType, headKind, headArg}
 use Rattle.flat.specs.Reading.{Reading, refused, type, rootOf}
 use Rattle.flat.specs.Both.{bothOf, rootReading}
 use Rattle.flat.specs.declared.error.Error.{Error}

@@ -13,6 +13,7 @@ use Rattle.flat.specs.Reader.{nodeAt}
 use Rattle.flat.specs.Reading.{Reading, refused, type, unless, lengthFits, kindsFit, argumentsFit, shaped, reading, checkedOf, checkedNumber}
 use Rattle.flat.specs.Refusals.{FlatForm, NodesFit, RefusalLaws}
 use Rattle.flat.specs.declared.error.Error.the-variants.{Length, Kind, Argument, Shape, Depth}
+use Rattle.flat.proofs.Truths.{never, impossible}
 use Rattle.flat.proofs.Meaning.{form-length, form-read, form-fits, read-form, lengths-fit}
 
 module _ (nodes deep : ℕ) (ks xs : List ℕ) where
@@ -29,7 +30,7 @@ module _ (nodes deep : ℕ) (ks xs : List ℕ) where
   same-tree f q = let e = form-read f in cc
 
   shape-outcome : NodesFit nodes ks xs → (p : Option DataType) → nodeAt ks xs ≡ p → Outcome (shaped deep (length ks) p)
-  shape-outcome f none q = no-tree f (λ t g. let e = form-read g in let z : _≡_ {A = ℕ} 0 1 = cc in omega arith)
+  shape-outcome f none q = no-tree f (λ t g. let e = form-read g in impossible cc)
   shape-outcome f (some u) q = whole (eqb (size u) (length ks)) refl
     where
       level : FlatForm ks xs u → (b : Bool) → leb (depth u) deep ≡ b → Outcome (unless b Depth (type u))
@@ -56,10 +57,6 @@ module _ (nodes deep : ℕ) (ks xs : List ℕ) where
       by-lengths true e = by-kinds e (kindsFit ks) refl
       by-lengths false e = bad-lengths e
 
-  -- a test does not come out both ways
-  never : {b : Bool} → b ≡ true → b ≡ false → ⊥
-  never t f = let z : _≡_ {A = ℕ} 0 1 = cc in omega arith
-
   four-only : {r : Reading} → Outcome r → checkedNumber (checkedOf r) ≡ 4 → NodesFit nodes ks xs × ((t : DataType) → FlatForm ks xs t → ⊥)
   four-only (bad-lengths f) e = absurd (omega arith)
   four-only (bad-kind f) e = absurd (omega arith)
@@ -69,9 +66,9 @@ module _ (nodes deep : ℕ) (ks xs : List ℕ) where
   four-only (one-type t g d) e = absurd (omega arith)
 
   four-given : NodesFit nodes ks xs → ((t : DataType) → FlatForm ks xs t → ⊥) → {r : Reading} → Outcome r → checkedNumber (checkedOf r) ≡ 4
-  four-given f n (bad-lengths e) = absurd (never (f .lengths) e)
-  four-given f n (bad-kind e) = absurd (never (f .kinds) e)
-  four-given f n (bad-argument e) = absurd (never (f .args) e)
+  four-given f n (bad-lengths e) = never (sym e ∙ f .lengths)
+  four-given f n (bad-kind e) = never (sym e ∙ f .kinds)
+  four-given f n (bad-argument e) = never (sym e ∙ f .args)
   four-given f n (no-tree g m) = refl
   four-given f n (too-deep t g s d) = absurd (n t g)
   four-given f n (one-type t g d) = absurd (n t g)
@@ -85,9 +82,9 @@ module _ (nodes deep : ℕ) (ks xs : List ℕ) where
   five-only (one-type t g d) e = absurd (omega arith)
 
   five-given : {t : DataType} → FlatForm ks xs t → size t ≤ nodes → deep < depth t → {r : Reading} → Outcome r → checkedNumber (checkedOf r) ≡ 5
-  five-given f s d (bad-lengths e) = absurd (never (form-fits f s .lengths) e)
-  five-given f s d (bad-kind e) = absurd (never (form-fits f s .kinds) e)
-  five-given f s d (bad-argument e) = absurd (never (form-fits f s .args) e)
+  five-given f s d (bad-lengths e) = never (sym e ∙ form-fits f s .lengths)
+  five-given f s d (bad-kind e) = never (sym e ∙ form-fits f s .kinds)
+  five-given f s d (bad-argument e) = never (sym e ∙ form-fits f s .args)
   five-given {t} f s d (no-tree g n) = absurd (n t f)
   five-given f s d (too-deep u g r e) = refl
   five-given f s d (one-type u g l) = absurd (omega (arith, ap depth (same-tree f (form-read g))))

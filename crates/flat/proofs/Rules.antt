@@ -7,6 +7,7 @@ use borrow.Author.Tests.{eqb-true, eqb-false, lt-leb}
 use lib.Dec.{T, leb, eqb}
 use Rattle.flat.specs.Kind
 use Rattle.flat.specs.Argument.{Rule, decimal, datetime, below, free, argumentRule, follows, argumentFits}
+use Rattle.flat.proofs.Truths.{is-true}
 
 -- f holds of the n numbers from lo on
 abbrev pub run : (ℕ → Bool) → ℕ → ℕ → Bool
@@ -43,11 +44,7 @@ in-run f lo (suc n) t k h l = go (eqb k lo) refl (λ m. in-run f (suc lo) n (and
     go false e rest = rest (omega (arith, eqb-false k lo e))
 
 pub passes : (f : ℕ → Bool) (lo n : ℕ) → T (run f lo n) → (k : ℕ) → lo ≤ k → k < lo + n → f k ≡ true
-passes f lo n t k h l = go (f k) (in-run f lo n t k h l)
-  where
-    go : (b : Bool) → T b → b ≡ true
-    go true t = refl
-    go false t = absurd t
+passes f lo n t k h l = is-true (f k) (in-run f lo n t k h l)
 
 -- two kinds: a is in the first run and b in the second
 abbrev pub In : ℕ → ℕ → ℕ → ℕ → ℕ → ℕ → Type 0

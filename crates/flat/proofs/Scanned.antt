@@ -1,6 +1,6 @@
 -- The scan accepts types only: what stands where it passes, from any state. Assumes nothing.
 use mathlib.Core.Path.{_≡_, refl, sym, ap, ap₂, _∙_}
-use mathlib.Core.Bool.{Bool, true, false, not, _&&_, and-eq-true-iff}
+use mathlib.Core.Bool.{Bool, true, false, not, _&&_}
 use mathlib.Core.List.{List, [], _∷_, _++_, append-assoc, append-nil}
 use Prim.Native.Nat.{ℕ, zero, suc, _+_, _-_, _≤_, _<_}
 use native.Mathlib.Omega.{arith}
@@ -15,6 +15,7 @@ use Rattle.flat.specs.Reading.{lengthFits, reading, checkedOf, onePlain,
 use Rattle.flat.specs.Refusals.{FlatForm}
 use Rattle.flat.specs.Scan.{NoDeeper, start, settled, wrapped, opened, paid, typeFits, fieldFits, after, scanType, scanFields, scanAccepts}
 use Rattle.flat.specs.declared.scan.Scan.{Scan}
+use Rattle.flat.proofs.Truths.{never, both-true}
 use Rattle.flat.proofs.Positions.{children-leaf}
 use Rattle.flat.proofs.Plain.{plain-type}
 use Rattle.flat.proofs.ReadBack.{View, is-leaf, is-list, is-array, is-struct, is-other, view}
@@ -260,34 +261,34 @@ module _ (deep : ℕ) (s : Scan) (w : NoDeeper deep s) (ks xs : List ℕ) (x y z
         owed = unwrapped deep s (r .owed);
       }
   one-node fields (is-struct {a}) f X Y Z e = one-struct deep s a f (settled-within w) (opens a s) (Z e)
-  one-node no-type is-other f X Y Z e = absurd (let w : _≡_ {A = ℕ} 0 1 = cc in omega arith)
+  one-node no-type is-other f X Y Z e = never e
 
 mutual
   unfolding scanType typeFits fieldFits
 
   type-then : (deep : ℕ) (ks xs : List ℕ) (s : Scan) → NoDeeper deep s → scanType deep s ks xs ≡ true → TypeThen deep s ks xs
-  type-then deep [] xs s w e = absurd (let z : _≡_ {A = ℕ} 0 1 = cc in omega arith)
-  type-then deep (k ∷ ks) [] s w e = absurd (let z : _≡_ {A = ℕ} 0 1 = cc in omega arith)
+  type-then deep [] xs s w e = never e
+  type-then deep (k ∷ ks) [] s w e = never e
   type-then deep (k ∷ ks) (a ∷ xs) s w e =
       let y = leb (wrapped s .depth) deep && scanType deep (wrapped s) ks xs in
       let z = leb (opened a s .depth) deep && scanFields deep (opened a s) ks xs in
-      let both = and-eq-true-iff (typeFits k a) (after (children k a) (scanFields deep s ks xs) y z) .0 e in
-      one-node deep s w ks xs (scanFields deep s ks xs) y z (children k a) (view k a) (and-eq-true-iff (not (eqb k Kind.Field)) (argumentFits k a) .0 (both .0) .1)
+      let both = both-true (typeFits k a) (after (children k a) (scanFields deep s ks xs) y z) e in
+      one-node deep s w ks xs (scanFields deep s ks xs) y z (children k a) (view k a) (both-true (not (eqb k Kind.Field)) (argumentFits k a) (both .0) .1)
       (λ q. fields-then deep ks xs s w q)
-      (λ q. let on = and-eq-true-iff (leb (wrapped s .depth) deep) (scanType deep (wrapped s) ks xs) .0 q in
+      (λ q. let on = both-true (leb (wrapped s .depth) deep) (scanType deep (wrapped s) ks xs) q in
       type-then deep ks xs (wrapped s) (wrapped-within w (leb-true (wrapped s .depth) deep (on .0))) (on .1))
-      (λ q. let on = and-eq-true-iff (leb (opened a s .depth) deep) (scanFields deep (opened a s) ks xs) .0 q in
+      (λ q. let on = both-true (leb (opened a s .depth) deep) (scanFields deep (opened a s) ks xs) q in
       fields-then deep ks xs (opened a s) (opened-within w (opens a s) (leb-true (opened a s .depth) deep (on .0))) (on .1))
       (both .1)
 
   fields-then : (deep : ℕ) (ks xs : List ℕ) (s : Scan) → NoDeeper deep s → scanFields deep s ks xs ≡ true → FieldsThen deep s ks xs
   fields-then deep [] [] s w e = no-owed (eqb-true (s .owed) 0 e)
-  fields-then deep [] (a ∷ xs) s w e = absurd (let z : _≡_ {A = ℕ} 0 1 = cc in omega arith)
-  fields-then deep (k ∷ ks) [] s w e = absurd (let z : _≡_ {A = ℕ} 0 1 = cc in omega arith)
+  fields-then deep [] (a ∷ xs) s w e = never e
+  fields-then deep (k ∷ ks) [] s w e = never e
   fields-then deep (k ∷ ks) (a ∷ xs) s w e =
-      let on = and-eq-true-iff (ltb 0 (s .owed) && fieldFits k a) (scanType deep (paid s) ks xs) .0 e in
-      let fit = and-eq-true-iff (ltb 0 (s .owed)) (fieldFits k a) .0 (on .0) in
-      let is = and-eq-true-iff (eqb k Kind.Field) (argumentFits k a) .0 (fit .1) in
+      let on = both-true (ltb 0 (s .owed) && fieldFits k a) (scanType deep (paid s) ks xs) e in
+      let fit = both-true (ltb 0 (s .owed)) (fieldFits k a) (on .0) in
+      let is = both-true (eqb k Kind.Field) (argumentFits k a) (fit .1) in
       let same = eqb-true k Kind.Field (is .0) in
       rw same (one-field deep s a (rw same at (is .1)) (ltb-true 0 (s .owed) (fit .0)) (type-then deep ks xs (paid s) (paid-within w) (on .1)))
 
@@ -314,7 +315,7 @@ scanned deep ks xs e = go (type-then deep ks xs start (start-within deep) e)
 pub accepted-passed : (nodes deep : ℕ) (ks xs : List ℕ) → scanAccepts nodes deep ks xs ≡ true → Passed nodes deep ks xs
 unfolding scanAccepts
 accepted-passed nodes deep ks xs e =
-    let both = and-eq-true-iff (lengthFits nodes ks xs) (scanType deep start ks xs) .0 e in
+    let both = both-true (lengthFits nodes ks xs) (scanType deep start ks xs) e in
     let s = scanned deep ks xs (both .1) in
     let f = s .1 in
     let t = s .0 in

@@ -14,6 +14,7 @@ use Rattle.flat.specs.Kind
 use Rattle.flat.specs.Tree.{DataType, leaf, list, array, struct, Fields, empty, field, size, sizes, count, headKind, headArg}
 use Rattle.flat.specs.Reader.{Children, no-child, under-list, under-array, fields, no-type, children, mapO, bindO, underNode, underField, nodeAt, fieldsAt}
 use Rattle.flat.specs.Walk.{FrontType, FrontFields, withDefault, typeAt, runAt, Valid, ValidRun}
+use Rattle.flat.proofs.Truths.{impossible}
 use Rattle.flat.proofs.Sizes.{size-pos}
 use Rattle.flat.proofs.ReadBack.{View, is-leaf, is-struct, is-other, view, bounded, bounds, count-read, count-is}
 use Rattle.flat.proofs.Positions.{rest, node-at, fields-at, fields-zero}
@@ -50,7 +51,7 @@ pub data AtNode (ks xs : List ℕ) : DataType → Type 0 where
   at-struct : {fs : Fields} → getD ks 0 0 ≡ Kind.Struct → FrontFields (getD xs 0 0) (from 1 ks) (from 1 xs) fs → AtNode ks xs (struct fs)
 
 some-of : {A B : Type 0} (f : A → B) (q : Option A) (b : B) → mapO f q ≡ some b → (a : A) × (q ≡ some a) × (b ≡ f a)
-some-of f none b e = absurd (let y : _≡_ {A = ℕ} 0 1 = cc in omega arith)
+some-of f none b e = impossible cc
 some-of f (some a) b e = (a, refl, cc)
 
 pub at-node : (ks xs : List ℕ) (t : DataType) → FrontType ks xs t → AtNode ks xs t
@@ -66,7 +67,7 @@ at-node ks xs t n = go (children (getD ks 0 0) (getD xs 0 0)) (view (getD ks 0 0
     go under-array (View.is-array {a}) p q e = one (array (getD xs 0 0)) (rw p Unary.is-array) e
     go fields is-struct p q e = let s = some-of struct (fieldsAt (getD xs 0 0) (drop 1 ks) (drop 1 xs)) t e in
         subst (λ (z : DataType). AtNode ks xs z) (sym (s .2)) (at-struct p (run-of (getD xs 0 0) (from 1 ks) (from 1 xs) (s .0) (part-even 1 ks xs (n .even)) (rw (rest, rest) (s .1))))
-    go no-type is-other p q e = absurd (let y : _≡_ {A = ℕ} 0 1 = cc in omega arith)
+    go no-type is-other p q e = impossible cc
 
 -- the cases at m fields
 pub data AtRun (m : ℕ) (ks xs : List ℕ) : Fields → Type 0 where
@@ -81,7 +82,7 @@ at-run (suc m) ks xs fs r = by-field (eqb (getD ks 0 0) Kind.Field) refl (sym (f
     past t n y l = rest l (n + 1) ∙ ap (λ (i : ℕ). drop i l) (let z : n + 1 ≡ 1 + size t = omega arith in z) ∙ sym (drop-drop (size t) 1 l)
 
     at-type : getD ks 0 0 ≡ Kind.Field → (q : Option DataType) → nodeAt (drop 1 ks) (drop 1 xs) ≡ q → bindO q (λ t. mapO (field (getD xs 0 0) t) (fieldsAt (suc m - 1) (drop (size t) (drop 1 ks)) (drop (size t) (drop 1 xs)))) ≡ some fs → AtRun (suc m) ks xs fs
-    at-type k none q e = absurd (let y : _≡_ {A = ℕ} 0 1 = cc in omega arith)
+    at-type k none q e = impossible cc
     at-type k (some t) q e =
         let s = some-of (field (getD xs 0 0) t) (fieldsAt (suc m - 1) (drop (size t) (drop 1 ks)) (drop (size t) (drop 1 xs))) fs e in
         subst (λ (z : Fields). AtRun (suc m) ks xs z) (sym (s .2))
@@ -90,7 +91,7 @@ at-run (suc m) ks xs fs r = by-field (eqb (getD ks 0 0) Kind.Field) refl (sym (f
         (ap₂ (fieldsAt (suc m - 1)) (past t n y ks) (past t n y xs) ∙ s .1)))
 
     by-field : (b : Bool) → eqb (getD ks 0 0) Kind.Field ≡ b → underField nodeAt fieldsAt b (suc m - 1) (getD xs 0 0) (drop 1 ks) (drop 1 xs) ≡ some fs → AtRun (suc m) ks xs fs
-    by-field false k e = absurd (let y : _≡_ {A = ℕ} 0 1 = cc in omega arith)
+    by-field false k e = impossible cc
     by-field true k e = at-type (eqb-true (getD ks 0 0) Kind.Field k) (nodeAt (drop 1 ks) (drop 1 xs)) refl e
 
 -- ---- the laws in the words of a walk's contract
@@ -139,7 +140,7 @@ module _ (ks xs : List ℕ) (v : Valid ks xs) where
 
   -- under a Struct
   module _ (s : getD ks 0 0 ≡ Kind.Struct) where
-    struct-of : (typeAt ks xs ≡ struct (runAt (getD xs 0 0) (from 1 ks) (from 1 xs))) × ValidRun (getD xs 0 0) (from 1 ks) (from 1 xs)
+    pub struct-of : (typeAt ks xs ≡ struct (runAt (getD xs 0 0) (from 1 ks) (from 1 xs))) × ValidRun (getD xs 0 0) (from 1 ks) (from 1 xs)
     struct-of = go (typeAt ks xs) (at-node ks xs (typeAt ks xs) v)
       where
         go : (t : DataType) → AtNode ks xs t → (t ≡ struct (runAt (getD xs 0 0) (from 1 ks) (from 1 xs))) × ValidRun (getD xs 0 0) (from 1 ks) (from 1 xs)

@@ -1,7 +1,7 @@
 -- What the scan of the check says of two lists: one pass, with the number of fields still owed and a bound of the depth. It accepts types only
 -- (proofs/Scanned.antt), nearly every one, and every one where the bound is twice the number of its nodes (proofs/Complete.antt); no answer of the check rests on
 -- these definitions. Assumes nothing: these are definitions.
-use mathlib.Core.Bool.{Bool, true, false, cond, not, _&&_}
+use mathlib.Core.Bool.{Bool, false, cond, not, _&&_}
 use mathlib.Core.List.{List, [], _∷_}
 use Prim.Native.Nat.{ℕ, suc, _+_, _-_, _≤_}
 use lib.Dec.{leb, ltb, eqb}
