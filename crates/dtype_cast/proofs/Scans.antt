@@ -37,22 +37,38 @@ other-length (k ∷ ks) [] (l ∷ ls) ys h = refl
 other-length (k ∷ ks) (a ∷ xs) (l ∷ ls) [] h = refl
 other-length (k ∷ ks) (a ∷ xs) (l ∷ ls) (b ∷ ys) h = rw (← other-length ks xs ls ys (λ e. h (omega arith)), and-false)
 
--- the first i nodes say yes
-module _ (ks xs ls ys : List ℕ) (i : ℕ) (e : allYes ks xs ls ys ≡ allYes (drop i ks) (drop i xs) (drop i ls) (drop i ys)) where
-  module _ (h : i < length ks) (h′ : i < length xs) (g : i < length ls) (g′ : i < length ys) where
-    step : allYes (drop i ks) (drop i xs) (drop i ls) (drop i ys) ≡ (nodeYes (getD ks i 0) (getD xs i 0) (getD ls i 0) (getD ys i 0) && allYes (drop (i + 1) ks) (drop (i + 1) xs) (drop (i + 1) ls) (drop (i + 1) ys))
+-- Of two pairs of arrays with as many nodes, the first i on either side say yes.
+pub record Scanned (ks xs ls ys : List ℕ) (i : ℕ) : Type 0 where
+  pub even : length ks ≡ length xs
+  pub even-right : length ls ≡ length ys
+  pub as-many : length ks ≡ length ls
+  pub within : i ≤ length ks
+  pub so-far : allYes ks xs ls ys ≡ allYes (drop i ks) (drop i xs) (drop i ls) (drop i ys)
+
+module _ {ks xs ls ys : List ℕ} where
+  pub scan-start : length ks ≡ length xs → length ls ≡ length ys → length ks ≡ length ls → Scanned ks xs ls ys 0
+  scan-start e f g = record { even = e; even-right = f; as-many = g; within = omega arith; so-far = refl }
+
+  module _ {i : ℕ} (s : Scanned ks xs ls ys i) where
+    module _ (h : i < length ks) where
+      next-two : allYes (drop i ks) (drop i xs) (drop i ls) (drop i ys)
+          ≡ (nodeYes (getD ks i 0) (getD xs i 0) (getD ls i 0) (getD ys i 0) && allYes (drop (i + 1) ks) (drop (i + 1) xs) (drop (i + 1) ls) (drop (i + 1) ys))
+      unfolding allYes
+      next-two =
+          let h′ : i < length xs = omega (arith, s .even) in
+          let g : i < length ls = omega (arith, s .as-many) in
+          let g′ : i < length ys = omega (arith, s .as-many, s .even-right) in
+          rw (add-one, drop-cons ks i 0, drop-cons xs i 0, drop-cons ls i 0, drop-cons ys i 0)
+
+      pub scan-on : nodeYes (getD ks i 0) (getD xs i 0) (getD ls i 0) (getD ys i 0) ≡ true → Scanned ks xs ls ys (i + 1)
+      scan-on y = record { even = s .even; even-right = s .even-right; as-many = s .as-many; within = omega arith; so-far = s .so-far ∙ next-two ∙ rw y }
+
+      pub scan-stop : nodeYes (getD ks i 0) (getD xs i 0) (getD ls i 0) (getD ys i 0) ≡ false → false ≡ allYes ks xs ls ys
+      scan-stop n = sym (s .so-far ∙ next-two ∙ rw n)
+
+    pub scan-end : length ks ≤ i → true ≡ allYes ks xs ls ys
     unfolding allYes
-    step = rw (add-one, drop-cons ks i 0, drop-cons xs i 0, drop-cons ls i 0, drop-cons ys i 0)
-
-    pub yes-on : nodeYes (getD ks i 0) (getD xs i 0) (getD ls i 0) (getD ys i 0) ≡ true → allYes ks xs ls ys ≡ allYes (drop (i + 1) ks) (drop (i + 1) xs) (drop (i + 1) ls) (drop (i + 1) ys)
-    yes-on y = e ∙ step ∙ rw y
-
-    pub yes-stop : nodeYes (getD ks i 0) (getD xs i 0) (getD ls i 0) (getD ys i 0) ≡ false → false ≡ allYes ks xs ls ys
-    yes-stop n = sym (e ∙ step ∙ rw n)
-
-  pub yes-end : length ks ≤ i → length ls ≤ i → true ≡ allYes ks xs ls ys
-  unfolding allYes
-  yes-end h g = sym (e ∙ rw (drop-of-length-le ks h, drop-of-length-le ls g))
+    scan-end h = let g : length ls ≤ i = omega (arith, s .as-many) in sym (s .so-far ∙ rw (drop-of-length-le ks h, drop-of-length-le ls g))
 
 -- ---- two nodes that say yes
 -- what they are, but for two fields

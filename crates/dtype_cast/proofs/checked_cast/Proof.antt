@@ -6,7 +6,10 @@ use Rattle.dtype_cast.proofs.checked_cast.Statement.{statement}
 use Rattle.dtype_cast.proofs.checked_cast.Tie as tie
 
 returns : tie.Need-returns
-returns c = let at = c .before .before .before .before .before .before in scanned (at .pre .0) (at .pre .1) (c .before .all-yes .ensures) (c .if1 .taken)
+returns c =
+    let a = c .before in
+    let s = a .before .before .before .before .before in
+    scanned (s .pre .0) (s .pre .1) (a .all-yes .ensures) (c .if1 .taken)
 
 returns-2 : tie.Need-returns-2
 returns-2 c = sym (ap told (c .enum-told .given .1)) ∙ walked _ _ (c .before .before .node-cast .ensures)
