@@ -39,20 +39,20 @@ fields-equal (field name t fs) (field other u gs) e =
     (ap suc (r .0), rw (cast-equal t u (both-true (eqb name other) (equal t u) (s .0) .1)) (r .1))
 
 -- ---- the arms of nested types
-abbrev pub arms : DataType → DataType → Option Bool
-arms (leaf k a) to = none
-arms (list t) to = ifList none (canCastTo t) to
-arms (array w t) to = ifArray none (λ v u. cond (eqb w v) (canCastTo t u) (some false)) to
-arms (struct fs) to = ifStruct none (λ gs. cond (isEmpty fs) (some true) (cond (eqb (count fs) (count gs)) (fieldsCast fs gs) (some false))) to
+abbrev pub castArms : DataType → DataType → Option Bool
+castArms (leaf k a) to = none
+castArms (list t) to = ifList none (canCastTo t) to
+castArms (array w t) to = ifArray none (λ v u. cond (eqb w v) (canCastTo t u) (some false)) to
+castArms (struct fs) to = ifStruct none (λ gs. cond (isEmpty fs) (some true) (cond (eqb (count fs) (count gs)) (fieldsCast fs gs) (some false))) to
 
 -- the roots decide, or leave it open
-abbrev pub first : Early → Option Bool → Option Bool
-first Yes rest = some true
-first No rest = some false
-first Open rest = rest
+abbrev pub earlyOr : Early → Option Bool → Option Bool
+earlyOr Yes rest = some true
+earlyOr No rest = some false
+earlyOr Open rest = rest
 
 -- the source's order of tests is that of the roots
-in-order : (e n z f o c d : Bool) (rest : Option Bool) → cond e (some true) (cond n (some true) (cond z (some true) (cond f (some c) (cond o (some d) rest)))) ≡ first (cond e Yes (cond n Yes (cond z Yes (cond f (decided c) (cond o (decided d) Open))))) rest
+in-order : (e n z f o c d : Bool) (rest : Option Bool) → cond e (some true) (cond n (some true) (cond z (some true) (cond f (some c) (cond o (some d) rest)))) ≡ earlyOr (cond e Yes (cond n Yes (cond z Yes (cond f (decided c) (cond o (decided d) Open))))) rest
 in-order true n z f o c d rest = refl
 in-order false true z f o c d rest = refl
 in-order false false true f o c d rest = refl
@@ -68,7 +68,7 @@ no-test true rest h = sym (h refl)
 no-test false rest h = refl
 
 -- a nested type to a leaf: only Boolean decides
-to-leaf : (b : Bool) → cond b (some false) none ≡ first (cond b No Open) none
+to-leaf : (b : Bool) → cond b (some false) none ≡ earlyOr (cond b No Open) none
 to-leaf true = refl
 to-leaf false = refl
 
@@ -87,7 +87,7 @@ leaf-equal k a h (list u) = rw (le-leb k Kind.UnknownIntNeg h, and-false, ne-eqb
 leaf-equal k a h (array v u) = rw (le-leb k Kind.UnknownIntNeg h, and-false, ne-eqb k Kind.Array (omega arith))
 leaf-equal k a h (struct gs) = rw (le-leb k Kind.UnknownIntNeg h, and-false, ne-eqb k Kind.Struct (omega arith))
 
-leaf-first : (k a : ℕ) → k ≤ Kind.UnknownIntNeg → (u : DataType) → canCastTo (leaf k a) u ≡ first (earlyOf k a (headKind u) (headArg u)) none
+leaf-first : (k a : ℕ) → k ≤ Kind.UnknownIntNeg → (u : DataType) → canCastTo (leaf k a) u ≡ earlyOr (earlyOf k a (headKind u) (headArg u)) none
 unfolding canCastTo beforeNested earlyOf headKind
 leaf-first k a h u =
     rw (sym (leaf-equal k a h u))
@@ -105,21 +105,21 @@ structs-equal fs gs e = let s = fields-equal fs gs e in go (isEmpty fs) (eq-eqb 
     go false p q = rw p q
 
 -- The roots decide, else the arm does.
-pub by-roots : (t u : DataType) → Rooted t → canCastTo t u ≡ first (earlyOf (headKind t) (headArg t) (headKind u) (headArg u)) (arms t u)
+pub roots-first : (t u : DataType) → Rooted t → canCastTo t u ≡ earlyOr (earlyOf (headKind t) (headArg t) (headKind u) (headArg u)) (castArms t u)
 unfolding canCastTo beforeNested equal earlyOf equalLeaves headKind headArg castsWithBoolean isPrimitiveNumeric isFloat isInteger isSignedInteger isUnsignedInteger isUnknownInt among
-by-roots (leaf k a) u r = leaf-first k a r u
-by-roots (list t) (leaf l b) r = to-leaf (eqb l Kind.Boolean)
-by-roots (list t) (list u) r = no-test (equal t u) (canCastTo t u) (cast-equal t u)
-by-roots (list t) (array v u) r = refl
-by-roots (list t) (struct gs) r = refl
-by-roots (array w t) (leaf l b) r = to-leaf (eqb l Kind.Boolean)
-by-roots (array w t) (list u) r = refl
-by-roots (array w t) (array v u) r = no-test (eqb w v && equal t u) _ (arrays-equal w v t u)
-by-roots (array w t) (struct gs) r = refl
-by-roots (struct fs) (leaf l b) r = to-leaf (eqb l Kind.Boolean)
-by-roots (struct fs) (list u) r = refl
-by-roots (struct fs) (array v u) r = refl
-by-roots (struct fs) (struct gs) r = no-test (equalFields fs gs) _ (structs-equal fs gs)
+roots-first (leaf k a) u r = leaf-first k a r u
+roots-first (list t) (leaf l b) r = to-leaf (eqb l Kind.Boolean)
+roots-first (list t) (list u) r = no-test (equal t u) (canCastTo t u) (cast-equal t u)
+roots-first (list t) (array v u) r = refl
+roots-first (list t) (struct gs) r = refl
+roots-first (array w t) (leaf l b) r = to-leaf (eqb l Kind.Boolean)
+roots-first (array w t) (list u) r = refl
+roots-first (array w t) (array v u) r = no-test (eqb w v && equal t u) _ (arrays-equal w v t u)
+roots-first (array w t) (struct gs) r = refl
+roots-first (struct fs) (leaf l b) r = to-leaf (eqb l Kind.Boolean)
+roots-first (struct fs) (list u) r = refl
+roots-first (struct fs) (array v u) r = refl
+roots-first (struct fs) (struct gs) r = no-test (equalFields fs gs) _ (structs-equal fs gs)
 
 not-yes : (b : Bool) {A : Type 0} → Yes ≡ cond b No Open → A
 not-yes true e = impossible cc
@@ -135,7 +135,7 @@ yes-leaf (struct fs) u e = not-yes (eqb (headKind u) Kind.Boolean) e
 
 -- ---- the arms by the kinds and the arguments of two roots
 -- two kinds
-pub other-arms : (t u : DataType) → (headKind t ≡ headKind u → ⊥) → arms t u ≡ none
+pub other-arms : (t u : DataType) → (headKind t ≡ headKind u → ⊥) → castArms t u ≡ none
 unfolding headKind
 other-arms (leaf k a) u f = refl
 other-arms (list t) (leaf l b) f = refl
@@ -152,21 +152,21 @@ other-arms (struct fs) (array v u) f = refl
 other-arms (struct fs) (struct gs) f = absurd (f refl)
 
 -- two Lists, or two Arrays of one width
-pub one-arms : {k a l b : ℕ} {f g : DataType → DataType} → Unary k a f → Unary l b g → k ≡ l → b ≡ a → (t u : DataType) → arms (f t) (g u) ≡ canCastTo t u
+pub one-arms : {k a l b : ℕ} {f g : DataType → DataType} → Unary k a f → Unary l b g → k ≡ l → b ≡ a → (t u : DataType) → castArms (f t) (g u) ≡ canCastTo t u
 one-arms is-list is-list p q t u = refl
 one-arms is-list is-array p q t u = absurd (omega arith)
 one-arms is-array is-list p q t u = absurd (omega arith)
 one-arms (is-array {a}) (is-array {a = b}) p q t u = rw (eq-eqb a b (sym q))
 
 -- two Arrays of different widths
-pub width-arms : {k a l b : ℕ} {f g : DataType → DataType} → Unary k a f → Unary l b g → k ≡ l → (b ≡ a → ⊥) → (t u : DataType) → arms (f t) (g u) ≡ some false
+pub width-arms : {k a l b : ℕ} {f g : DataType → DataType} → Unary k a f → Unary l b g → k ≡ l → (b ≡ a → ⊥) → (t u : DataType) → castArms (f t) (g u) ≡ some false
 width-arms is-list is-list p q t u = absurd (q refl)
 width-arms is-list is-array p q t u = absurd (omega arith)
 width-arms is-array is-list p q t u = absurd (omega arith)
 width-arms (is-array {a}) (is-array {a = b}) p q t u = rw (ne-eqb a b (λ e. q (sym e)))
 
 -- two Structs, the first with a field
-pub struct-arms : (fs gs : Fields) → (count fs ≡ 0 → ⊥) → arms (struct fs) (struct gs) ≡ cond (eqb (count fs) (count gs)) (fieldsCast fs gs) (some false)
+pub struct-arms : (fs gs : Fields) → (count fs ≡ 0 → ⊥) → castArms (struct fs) (struct gs) ≡ cond (eqb (count fs) (count gs)) (fieldsCast fs gs) (some false)
 unfolding count
 struct-arms empty gs z = absurd (z refl)
 struct-arms (field name t fs) gs z = refl

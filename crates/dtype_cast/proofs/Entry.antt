@@ -19,16 +19,16 @@ use Rattle.dtype_cast.specs.declared.walk.Cast.the-variants.{Yes, No, No
 use Rattle.dtype_cast.proofs.Scans.{all-yes}
 
 -- the verdict of an answer of the walk
-abbrev pub told : Cast → Verdict
-told (Yes n m) = Verdict.Yes
-told No = Verdict.No
-told NoVerdict = Verdict.NoVerdict
+abbrev pub castVerdict : Cast → Verdict
+castVerdict (Yes n m) = Verdict.Yes
+castVerdict No = Verdict.No
+castVerdict NoVerdict = Verdict.NoVerdict
 
-pub walked : {c : Cast} (t u : DataType) → c ≡ castAnswer t u → told c ≡ verdict (canCastTo t u)
+pub walked : {c : Cast} (t u : DataType) → c ≡ castAnswer t u → castVerdict c ≡ verdict (canCastTo t u)
 unfolding castAnswer
-walked t u e = ap told e ∙ go (canCastTo t u)
+walked t u e = ap castVerdict e ∙ go (canCastTo t u)
   where
-    go : (o : Option Bool) → told (castWith o (size t) (size u)) ≡ verdict o
+    go : (o : Option Bool) → castVerdict (castWith o (size t) (size u)) ≡ verdict o
     go none = refl
     go (some false) = refl
     go (some true) = refl

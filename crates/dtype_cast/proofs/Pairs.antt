@@ -19,7 +19,7 @@ use Rattle.dtype_cast.specs.declared.walk.Cast.{Cast}
 use Rattle.dtype_cast.specs.declared.walk.Cast.the-variants.{Yes, No, NoVerdict}
 use Rattle.dtype_cast.specs.declared.roots.Early.{Early}
 use Rattle.dtype_cast.specs.declared.roots.Early.the-variants as early
-use Rattle.dtype_cast.proofs.Arms.{arms, first, Rooted, by-roots, yes-leaf, other-arms, one-arms, width-arms, struct-arms}
+use Rattle.dtype_cast.proofs.Arms.{castArms, earlyOr, Rooted, roots-first, yes-leaf, other-arms, one-arms, width-arms, struct-arms}
 
 -- an answer's numbers are those of the two types
 within : (l : ℕ) (r : Cast) (q : Option Bool) (n m : ℕ) → r ≡ castWith q n m → n ≤ l → m ≤ l → Within l r
@@ -45,11 +45,11 @@ one-more (some true) n m = ap₂ Yes (let y : 1 + n ≡ suc n = omega arith in y
 
 -- ---- the walk's answers
 -- on the types at the front of two pairs of arrays, and on m fields there
-abbrev pub answered : List ℕ → List ℕ → List ℕ → List ℕ → Cast
-answered ks xs ls ys = castAnswer (typeAt ks xs) (typeAt ls ys)
+abbrev pub castAt : List ℕ → List ℕ → List ℕ → List ℕ → Cast
+castAt ks xs ls ys = castAnswer (typeAt ks xs) (typeAt ls ys)
 
-abbrev pub fields-answered : ℕ → List ℕ → List ℕ → List ℕ → List ℕ → Cast
-fields-answered m ks xs ls ys = fieldsAnswer (runAt m ks xs) (runAt m ls ys)
+abbrev pub fieldsCastAt : ℕ → List ℕ → List ℕ → List ℕ → List ℕ → Cast
+fieldsCastAt m ks xs ls ys = fieldsAnswer (runAt m ks xs) (runAt m ls ys)
 
 -- of the two roots
 abbrev early-at : List ℕ → List ℕ → List ℕ → List ℕ → Early
@@ -75,18 +75,18 @@ pub record SameKind (t : ℕ) (ks xs ls ys : List ℕ) : Type 0 where
   pub same-kind : getD ks 0 0 ≡ getD ls 0 0
 
 -- Two Structs.
-pub record Structs (t : ℕ) (ks xs ls ys : List ℕ) : Type 0 where
+pub record TwoStructs (t : ℕ) (ks xs ls ys : List ℕ) : Type 0 where
   pub kinds : SameKind t ks xs ls ys
   pub is-struct : getD ks 0 0 ≡ Kind.Struct
 
 -- Two Structs with as many fields, and one at least.
 pub record AsMany (t : ℕ) (ks xs ls ys : List ℕ) : Type 0 where
-  pub structs : Structs t ks xs ls ys
+  pub structs : TwoStructs t ks xs ls ys
   pub some-field : getD xs 0 0 ≡ 0 → ⊥
   pub same-count : getD xs 0 0 ≡ getD ys 0 0
 
 -- Two Lists or two Arrays.
-pub record Inners (t : ℕ) (ks xs ls ys : List ℕ) : Type 0 where
+pub record TwoInner (t : ℕ) (ks xs ls ys : List ℕ) : Type 0 where
   pub kinds : SameKind t ks xs ls ys
   pub nested : Kind.List ≤ getD ks 0 0
   pub no-struct : getD ks 0 0 ≡ Kind.Struct → ⊥
@@ -109,8 +109,8 @@ module _ {t : ℕ} {told : Early} {ks xs ls ys : List ℕ} (r : Roots t told ks 
   heads : earlyOf (headKind (typeAt ks xs)) (headArg (typeAt ks xs)) (headKind (typeAt ls ys)) (headArg (typeAt ls ys)) ≡ told
   heads = rw (type-kind ks xs (r .left), type-arg ks xs (r .left), type-kind ls ys (r .right), type-arg ls ys (r .right)) (sym (r .says))
 
-  decides : canCastTo (typeAt ks xs) (typeAt ls ys) ≡ first told (arms (typeAt ks xs) (typeAt ls ys))
-  decides = by-roots (typeAt ks xs) (typeAt ls ys) rooted ∙ ap (λ (z : Early). first z (arms (typeAt ks xs) (typeAt ls ys))) heads
+  decides : canCastTo (typeAt ks xs) (typeAt ls ys) ≡ earlyOr told (castArms (typeAt ks xs) (typeAt ls ys))
+  decides = roots-first (typeAt ks xs) (typeAt ls ys) rooted ∙ ap (λ (z : Early). earlyOr z (castArms (typeAt ks xs) (typeAt ls ys))) heads
 
 -- an answer from the verdict, and from the numbers of nodes where it is yes
 by-verdict : (t u : DataType) (q : Option Bool) → canCastTo t u ≡ q → castWith q (size t) (size u) ≡ castAnswer t u
@@ -121,20 +121,20 @@ by-yes : (t u : DataType) {n : ℕ} → size t ≡ 1 → n ≡ size u → canCas
 by-yes t u s e q = ap₂ Yes (sym s) e ∙ by-verdict t u (some true) q
 
 module _ {t : ℕ} {ks xs ls ys : List ℕ} where
-  pub roots-yes : Roots t early.Yes ks xs ls ys → {n : ℕ} → n ≡ size (typeAt ls ys) → Yes 1 n ≡ answered ks xs ls ys
+  pub roots-yes : Roots t early.Yes ks xs ls ys → {n : ℕ} → n ≡ size (typeAt ls ys) → Yes 1 n ≡ castAt ks xs ls ys
   roots-yes r q = by-yes _ _ (yes-leaf (typeAt ks xs) (typeAt ls ys) (sym (heads r))) q (decides r)
 
-  pub roots-no : Roots t early.No ks xs ls ys → No ≡ answered ks xs ls ys
+  pub roots-no : Roots t early.No ks xs ls ys → No ≡ castAt ks xs ls ys
   roots-no r = by-verdict _ _ (some false) (decides r)
 
-  pub other-kinds : Roots t early.Open ks xs ls ys → (getD ks 0 0 ≡ getD ls 0 0 → ⊥) → NoVerdict ≡ answered ks xs ls ys
+  pub other-kinds : Roots t early.Open ks xs ls ys → (getD ks 0 0 ≡ getD ls 0 0 → ⊥) → NoVerdict ≡ castAt ks xs ls ys
   other-kinds r f = by-verdict _ _ none (decides r ∙ other-arms (typeAt ks xs) (typeAt ls ys) (λ e. f (sym (type-kind ks xs (r .left)) ∙ e ∙ type-kind ls ys (r .right))))
 
-  pub two-leaves : SameKind t ks xs ls ys → getD ks 0 0 < Kind.List → NoVerdict ≡ answered ks xs ls ys
-  two-leaves u h = by-verdict _ _ none (decides (u .roots) ∙ ap (λ (z : DataType). arms z (typeAt ls ys)) (type-leaf ks xs (u .roots .left) h))
+  pub two-leaves : SameKind t ks xs ls ys → getD ks 0 0 < Kind.List → NoVerdict ≡ castAt ks xs ls ys
+  two-leaves u h = by-verdict _ _ none (decides (u .roots) ∙ ap (λ (z : DataType). castArms z (typeAt ls ys)) (type-leaf ks xs (u .roots .left) h))
 
 -- ---- two Structs
-module _ {t : ℕ} {ks xs ls ys : List ℕ} (u : Structs t ks xs ls ys) where
+module _ {t : ℕ} {ks xs ls ys : List ℕ} (u : TwoStructs t ks xs ls ys) where
   right-struct : getD ls 0 0 ≡ Kind.Struct
   right-struct = sym (u .kinds .same-kind) ∙ u .is-struct
 
@@ -144,11 +144,11 @@ module _ {t : ℕ} {ks xs ls ys : List ℕ} (u : Structs t ks xs ls ys) where
   fields-right : typeAt ls ys ≡ struct (runAt (getD ys 0 0) (from 1 ls) (from 1 ys))
   fields-right = type-struct ls ys (u .kinds .roots .right) right-struct
 
-  pub no-field : getD xs 0 0 ≡ 0 → {n : ℕ} → n ≡ size (typeAt ls ys) → Yes 1 n ≡ answered ks xs ls ys
+  pub no-field : getD xs 0 0 ≡ 0 → {n : ℕ} → n ≡ size (typeAt ls ys) → Yes 1 n ≡ castAt ks xs ls ys
   unfolding size
   no-field z q =
       let e : typeAt ks xs ≡ struct empty = fields-left ∙ ap struct (run-end (getD xs 0 0) (from 1 ks) (from 1 xs) z) in
-      by-yes _ _ (ap size e) q (decides (u .kinds .roots) ∙ ap₂ arms e fields-right)
+      by-yes _ _ (ap size e) q (decides (u .kinds .roots) ∙ ap₂ castArms e fields-right)
 
   -- where there is a field, their numbers are compared, then the fields
   by-fields : (getD xs 0 0 ≡ 0 → ⊥)
@@ -157,9 +157,9 @@ module _ {t : ℕ} {ks xs ls ys : List ℕ} (u : Structs t ks xs ls ys) where
   by-fields z =
       let n = struct-count ks xs (u .kinds .roots .left) (u .is-struct) in
       let m = struct-count ls ys (u .kinds .roots .right) right-struct in
-      decides (u .kinds .roots) ∙ ap₂ arms fields-left fields-right ∙ struct-arms _ _ (λ e. z (sym n ∙ e)) ∙ rw (n, m)
+      decides (u .kinds .roots) ∙ ap₂ castArms fields-left fields-right ∙ struct-arms _ _ (λ e. z (sym n ∙ e)) ∙ rw (n, m)
 
-  pub other-count : (getD xs 0 0 ≡ 0 → ⊥) → (getD xs 0 0 ≡ getD ys 0 0 → ⊥) → No ≡ answered ks xs ls ys
+  pub other-count : (getD xs 0 0 ≡ 0 → ⊥) → (getD xs 0 0 ≡ getD ys 0 0 → ⊥) → No ≡ castAt ks xs ls ys
   other-count z q = by-verdict _ _ (some false) (by-fields z ∙ rw (ne-eqb (getD xs 0 0) (getD ys 0 0) q))
 
 module _ {t : ℕ} {ks xs ls ys : List ℕ} (u : AsMany t ks xs ls ys) where
@@ -172,13 +172,13 @@ module _ {t : ℕ} {ks xs ls ys : List ℕ} (u : AsMany t ks xs ls ys) where
       × (ValidRun (getD xs 0 0) (from 1 ks) (from 1 xs) × ValidRun (getD xs 0 0) (from 1 ls) (from 1 ys))
   fields-call = let r = u .structs .kinds .roots in (shorter ks 0 t (r .called .measure) (omega (arith, r .left)), both-runs)
 
-  module _ {r : Cast} (e : r ≡ fields-answered (getD xs 0 0) (from 1 ks) (from 1 xs) (from 1 ls) (from 1 ys)) where
+  module _ {r : Cast} (e : r ≡ fieldsCastAt (getD xs 0 0) (from 1 ks) (from 1 xs) (from 1 ls) (from 1 ys)) where
     pub fields-within : Within (2 ^ 63) r
     fields-within =
         let c = u .structs .kinds .roots .called in
         within-fields (2 ^ 63) r _ _ e (omega (arith, c .short, both-runs .0 .within, length-from 1 ks)) (omega (arith, c .short-right, both-runs .1 .within, length-from 1 ls))
 
-    pub fields-cast : castAfter 1 1 r ≡ answered ks xs ls ys
+    pub fields-cast : castAfter 1 1 r ≡ castAt ks xs ls ys
     unfolding fieldsAnswer size
     fields-cast =
         let s = u .structs in
@@ -190,7 +190,7 @@ module _ {t : ℕ} {ks xs ls ys : List ℕ} (u : AsMany t ks xs ls ys) where
         ∙ by-verdict _ _ (fieldsCast fs gs) (by-fields s (u .some-field) ∙ rw (eq-eqb (getD xs 0 0) (getD ys 0 0) (u .same-count)))
 
 -- ---- two Lists or two Arrays
-module _ {t : ℕ} {ks xs ls ys : List ℕ} (u : Inners t ks xs ls ys) where
+module _ {t : ℕ} {ks xs ls ys : List ℕ} (u : TwoInner t ks xs ls ys) where
   nested-right : Kind.List ≤ getD ls 0 0
   nested-right = omega (arith, u .kinds .same-kind, u .nested)
 
@@ -203,10 +203,10 @@ module _ {t : ℕ} {ks xs ls ys : List ℕ} (u : Inners t ks xs ls ys) where
   inner-right : (f : DataType → DataType) × Unary (getD ls 0 0) (getD ys 0 0) f × (typeAt ls ys ≡ f (typeAt (from 1 ls) (from 1 ys)))
   inner-right = type-one ls ys (u .kinds .roots .right) nested-right no-struct-right
 
-  pub other-width : (getD ys 0 0 ≡ getD xs 0 0 → ⊥) → No ≡ answered ks xs ls ys
+  pub other-width : (getD ys 0 0 ≡ getD xs 0 0 → ⊥) → No ≡ castAt ks xs ls ys
   other-width q =
       by-verdict _ _ (some false)
-      (decides (u .kinds .roots) ∙ ap₂ arms (inner-left .2) (inner-right .2) ∙ width-arms (inner-left .1) (inner-right .1) (u .kinds .same-kind) q _ _)
+      (decides (u .kinds .roots) ∙ ap₂ castArms (inner-left .2) (inner-right .2) ∙ width-arms (inner-left .1) (inner-right .1) (u .kinds .same-kind) q _ _)
 
   both-inner : Valid (from 1 ks) (from 1 xs) × Valid (from 1 ls) (from 1 ys)
   both-inner = (one-valid ks xs (u .kinds .roots .left) (u .nested) (u .no-struct), one-valid ls ys (u .kinds .roots .right) nested-right no-struct-right)
@@ -214,13 +214,13 @@ module _ {t : ℕ} {ks xs ls ys : List ℕ} (u : Inners t ks xs ls ys) where
   pub inner-call : (length (from 1 ks) < t) × (Valid (from 1 ks) (from 1 xs) × Valid (from 1 ls) (from 1 ys))
   inner-call = let r = u .kinds .roots in (shorter ks 0 t (r .called .measure) (omega (arith, r .left)), both-inner)
 
-  module _ {r : Cast} (e : r ≡ answered (from 1 ks) (from 1 xs) (from 1 ls) (from 1 ys)) where
+  module _ {r : Cast} (e : r ≡ castAt (from 1 ks) (from 1 xs) (from 1 ls) (from 1 ys)) where
     pub inner-within : Within (2 ^ 63) r
     inner-within =
         let c = u .kinds .roots .called in
         within-types (2 ^ 63) r _ _ e (omega (arith, c .short, both-inner .0 .within, length-from 1 ks)) (omega (arith, c .short-right, both-inner .1 .within, length-from 1 ls))
 
-    pub inner-cast : getD ys 0 0 ≡ getD xs 0 0 → castAfter 1 1 r ≡ answered ks xs ls ys
+    pub inner-cast : getD ys 0 0 ≡ getD xs 0 0 → castAfter 1 1 r ≡ castAt ks xs ls ys
     unfolding castAnswer
     inner-cast q =
         let v : DataType = typeAt (from 1 ks) (from 1 xs) in
@@ -228,4 +228,4 @@ module _ {t : ℕ} {ks xs ls ys : List ℕ} (u : Inners t ks xs ls ys) where
         ap (castAfter 1 1) e ∙ one-more (canCastTo v w) (size v) (size w)
         ∙ ap₂ (castWith (canCastTo v w)) (sym (ap size (inner-left .2) ∙ unary-size (inner-left .1) v)) (sym (ap size (inner-right .2) ∙ unary-size (inner-right .1) w))
         ∙ by-verdict _ _ (canCastTo v w)
-        (decides (u .kinds .roots) ∙ ap₂ arms (inner-left .2) (inner-right .2) ∙ one-arms (inner-left .1) (inner-right .1) (u .kinds .same-kind) q v w)
+        (decides (u .kinds .roots) ∙ ap₂ castArms (inner-left .2) (inner-right .2) ∙ one-arms (inner-left .1) (inner-right .1) (u .kinds .same-kind) q v w)

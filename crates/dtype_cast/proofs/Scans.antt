@@ -24,7 +24,7 @@ use Rattle.dtype.proofs.Runs.{says, of-run}
 use Rattle.dtype_cast.specs.Walk.{equalLeaves, earlyOf}
 use Rattle.dtype_cast.specs.Scan.{nodeYes, allYes}
 use Rattle.dtype_cast.specs.Laws.{AllCast, no-fields, one-more}
-use Rattle.dtype_cast.proofs.Arms.{cast-equal, no-test, by-roots}
+use Rattle.dtype_cast.proofs.Arms.{cast-equal, no-test, roots-first}
 use Rattle.dtype_cast.proofs.Structs.{cast-laws}
 
 -- ---- the steps of the scan
@@ -38,18 +38,18 @@ other-length (k ∷ ks) (a ∷ xs) (l ∷ ls) [] h = refl
 other-length (k ∷ ks) (a ∷ xs) (l ∷ ls) (b ∷ ys) h = rw (← other-length ks xs ls ys (λ e. h (omega arith)), and-false)
 
 -- Of two pairs of arrays with as many nodes, the first i on either side say yes.
-pub record Scanned (ks xs ls ys : List ℕ) (i : ℕ) : Type 0 where
+pub record YesSoFar (ks xs ls ys : List ℕ) (i : ℕ) : Type 0 where
   pub even : length ks ≡ length xs
   pub even-right : length ls ≡ length ys
   pub as-many : length ks ≡ length ls
   pub within : i ≤ length ks
-  pub so-far : allYes ks xs ls ys ≡ allYes (drop i ks) (drop i xs) (drop i ls) (drop i ys)
+  pub rest : allYes ks xs ls ys ≡ allYes (drop i ks) (drop i xs) (drop i ls) (drop i ys)
 
 module _ {ks xs ls ys : List ℕ} where
-  pub scan-start : length ks ≡ length xs → length ls ≡ length ys → length ks ≡ length ls → Scanned ks xs ls ys 0
-  scan-start e f g = record { even = e; even-right = f; as-many = g; within = omega arith; so-far = refl }
+  pub scan-start : length ks ≡ length xs → length ls ≡ length ys → length ks ≡ length ls → YesSoFar ks xs ls ys 0
+  scan-start e f g = record { even = e; even-right = f; as-many = g; within = omega arith; rest = refl }
 
-  module _ {i : ℕ} (s : Scanned ks xs ls ys i) where
+  module _ {i : ℕ} (s : YesSoFar ks xs ls ys i) where
     module _ (h : i < length ks) where
       next-two : allYes (drop i ks) (drop i xs) (drop i ls) (drop i ys)
           ≡ (nodeYes (getD ks i 0) (getD xs i 0) (getD ls i 0) (getD ys i 0) && allYes (drop (i + 1) ks) (drop (i + 1) xs) (drop (i + 1) ls) (drop (i + 1) ys))
@@ -60,15 +60,15 @@ module _ {ks xs ls ys : List ℕ} where
           let g′ : i < length ys = omega (arith, s .as-many, s .even-right) in
           rw (add-one, drop-cons ks i 0, drop-cons xs i 0, drop-cons ls i 0, drop-cons ys i 0)
 
-      pub scan-on : nodeYes (getD ks i 0) (getD xs i 0) (getD ls i 0) (getD ys i 0) ≡ true → Scanned ks xs ls ys (i + 1)
-      scan-on y = record { even = s .even; even-right = s .even-right; as-many = s .as-many; within = omega arith; so-far = s .so-far ∙ next-two ∙ rw y }
+      pub scan-on : nodeYes (getD ks i 0) (getD xs i 0) (getD ls i 0) (getD ys i 0) ≡ true → YesSoFar ks xs ls ys (i + 1)
+      scan-on y = record { even = s .even; even-right = s .even-right; as-many = s .as-many; within = omega arith; rest = s .rest ∙ next-two ∙ rw y }
 
       pub scan-stop : nodeYes (getD ks i 0) (getD xs i 0) (getD ls i 0) (getD ys i 0) ≡ false → false ≡ allYes ks xs ls ys
-      scan-stop n = sym (s .so-far ∙ next-two ∙ rw n)
+      scan-stop n = sym (s .rest ∙ next-two ∙ rw n)
 
     pub scan-end : length ks ≤ i → true ≡ allYes ks xs ls ys
     unfolding allYes
-    scan-end h = let g : length ls ≤ i = omega (arith, s .as-many) in sym (s .so-far ∙ rw (drop-of-length-le ks h, drop-of-length-le ls g))
+    scan-end h = let g : length ls ≤ i = omega (arith, s .as-many) in sym (s .rest ∙ rw (drop-of-length-le ks h, drop-of-length-le ls g))
 
 -- ---- two nodes that say yes
 -- what they are, but for two fields
@@ -125,11 +125,11 @@ first {k} {a} {l} {b} {ks} {xs} {ls} {ys} e = let p = and-eq-true-iff (nodeYes k
 module _ (t u : DataType) (c : canCastTo t u ≡ some true) where
   lists-yes : canCastTo (list t) (list u) ≡ some true
   unfolding earlyOf equalLeaves headKind castsWithBoolean isPrimitiveNumeric isFloat isInteger isSignedInteger isUnsignedInteger isUnknownInt among
-  lists-yes = by-roots (list t) (list u) tt ∙ c
+  lists-yes = roots-first (list t) (list u) tt ∙ c
 
   arrays-yes : (w v : ℕ) → w ≡ v → canCastTo (array w t) (array v u) ≡ some true
   unfolding earlyOf equalLeaves headKind castsWithBoolean isPrimitiveNumeric isFloat isInteger isSignedInteger isUnsignedInteger isUnknownInt among
-  arrays-yes w v e = by-roots (array w t) (array v u) tt ∙ rw (eq-eqb w v e) c
+  arrays-yes w v e = roots-first (array w t) (array v u) tt ∙ rw (eq-eqb w v e) c
 
 -- A type's nodes say where it ends: whatever stands after two types, they are looked at first.
 mutual

@@ -11,12 +11,12 @@ use Rattle.dtype.specs.Predicate.{isUnknownInt, isPrimitiveNumeric, isFloat, is
 use Rattle.dtype_cast.specs.Cast.{andThen, castsWithBoolean, canCastTo, fieldsCast}
 use Rattle.dtype_cast.specs.Walk.{equalLeaves, earlyOf}
 use Rattle.dtype_cast.specs.Laws.{append, AllCast, no-fields, one-more, CastLaws}
-use Rattle.dtype_cast.proofs.Arms.{arms, by-roots, struct-arms}
+use Rattle.dtype_cast.proofs.Arms.{castArms, roots-first, struct-arms}
 
 -- the roots of two Structs leave it open
-by-arms : (fs gs : Fields) → canCastTo (struct fs) (struct gs) ≡ arms (struct fs) (struct gs)
+by-arms : (fs gs : Fields) → canCastTo (struct fs) (struct gs) ≡ castArms (struct fs) (struct gs)
 unfolding earlyOf equalLeaves headKind castsWithBoolean isPrimitiveNumeric isFloat isInteger isSignedInteger isUnsignedInteger isUnknownInt among
-by-arms fs gs = by-roots (struct fs) (struct gs) tt
+by-arms fs gs = roots-first (struct fs) (struct gs) tt
 
 no-field : (gs : Fields) → canCastTo (struct empty) (struct gs) ≡ some true
 no-field gs = by-arms empty gs

@@ -18,13 +18,14 @@ verdict (some true) = Verdict.Yes
 abbrev pub castOf : Reading → Reading → Verdict
 castOf = bothOf Verdict.Refused (λ t u. verdict (canCastTo t u))
 
--- document 01's number of an answer, and the value beside it: 0 no, 1 yes, 2 no verdict
+-- document 01's number of an answer
 abbrev pub verdictNumber : Verdict → ℕ
 verdictNumber Verdict.No = 0
 verdictNumber Verdict.Yes = 0
 verdictNumber Verdict.NoVerdict = 0
 verdictNumber (Verdict.Refused e) = numberOf e
 
+-- the value beside the number: 0 no, 1 yes, 2 no verdict
 abbrev pub verdictValue : Verdict → ℕ
 verdictValue Verdict.No = 0
 verdictValue Verdict.Yes = 1

@@ -5,12 +5,12 @@ use native.Mathlib.Omega.{arith}
 use lib.ListN.{length}
 use borrow.Author.Tests.{not-true, not-false}
 use borrow.Author.Needs.{needs}
-use Rattle.dtype_cast.proofs.Scans.{Scanned, other-length, scan-start, scan-on, scan-stop, scan-end}
+use Rattle.dtype_cast.proofs.Scans.{YesSoFar, other-length, scan-start, scan-on, scan-stop, scan-end}
 use Rattle.dtype_cast.proofs.scan.all_yes.Statement.{statement}
 use Rattle.dtype_cast.proofs.scan.all_yes.Tie as tie
 
 abbrev Inv-loop : tie.InvT-loop
-Inv-loop from-kinds from-args to-kinds to-args i₀ i = Scanned from-kinds from-args to-kinds to-args i
+Inv-loop from-kinds from-args to-kinds to-args i₀ i = YesSoFar from-kinds from-args to-kinds to-args i
 
 abbrev μ-loop : tie.MeasureT-loop
 μ-loop from-kinds from-args to-kinds to-args i₀ i = length from-kinds - i
