@@ -38,8 +38,10 @@ pub scanned : {ks xs ls ys : List ℕ} {r : Bool} → Valid ks xs → Valid ls y
 scanned v w e f = rw (all-yes v w (sym e ∙ f))
 
 -- The verdict on the types at the front is that of a call on what the arrays were read from, flat or encoded.
-pub checked-verdict : {nodes deep : ℕ} {ks xs ls ys : List ℕ} (from : Passed nodes deep ks xs) (to : Passed nodes deep ls ys)
+pub checked-verdict : {nodes deep : ℕ} {ks xs ls ys : List ℕ}
+    (from : Passed nodes deep ks xs) (to : Passed nodes deep ls ys)
     → {left right : Reading} → left ≡ type (from .tree) → right ≡ type (to .tree)
     → {v : Verdict} → v ≡ verdict (canCastTo (typeAt ks xs) (typeAt ls ys)) → v ≡ castOf left right
 checked-verdict from to {left} {right} p q e =
-    e ∙ ap₂ (λ t u. verdict (canCastTo t u)) (from .front) (to .front) ∙ sym (both-types Verdict.Refused (λ t u. verdict (canCastTo t u)) left right p q)
+    e ∙ ap₂ (λ t u. verdict (canCastTo t u)) (from .front) (to .front)
+    ∙ sym (both-types Verdict.Refused (λ t u. verdict (canCastTo t u)) left right p q)

@@ -22,7 +22,7 @@ pub data AllCast : Fields → Fields → Type 0 where
 pub record CastLaws : Type 0 where
   -- corner 11: an empty Struct casts to any Struct
   pub no-field : (gs : Fields) → canCastTo (struct empty) (struct gs) ≡ some true
-  -- corner 11: otherwise unequal numbers of fields are a no, whatever the fields are
+  -- corner 11: from a Struct with fields to one with another number of them it is a no, whatever the fields are
   pub other-count : (fs gs : Fields)
       → (count fs ≡ 0 → ⊥)
       → (count fs ≡ count gs → ⊥)
@@ -34,5 +34,5 @@ pub record CastLaws : Type 0 where
       → (canCastTo t u ≡ some true → ⊥)
       → canCastTo (struct (append before (field name t after))) (struct (append before′ (field other u after′)))
       ≡ canCastTo t u
-  -- corner 12: where the cast of every pair is a yes, so is the answer
+  -- corner 12: it is a yes where the cast of every pair of types is one
   pub all-cast : {fs gs : Fields} → AllCast fs gs → canCastTo (struct fs) (struct gs) ≡ some true

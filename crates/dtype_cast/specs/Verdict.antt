@@ -14,7 +14,7 @@ verdict none = Verdict.NoVerdict
 verdict (some false) = Verdict.No
 verdict (some true) = Verdict.Yes
 
--- of two types: the first through 1 to 5, then the second, then the verdict
+-- the answer on two types: the first through 1 to 5, then the second, then the verdict
 abbrev pub castOf : Reading → Reading → Verdict
 castOf = bothOf Verdict.Refused (λ t u. verdict (canCastTo t u))
 

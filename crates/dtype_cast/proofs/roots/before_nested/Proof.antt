@@ -1,4 +1,5 @@
--- `dtype_cast::roots::before_nested` meets its contract. Each view says which tests are left of `earlyOf` where those before them failed. Assumes nothing.
+-- `dtype_cast::roots::before_nested` meets its contract. A view says which tests of `earlyOf` are left where those
+-- before them failed. Assumes nothing.
 use mathlib.Core.Path.{_≡_, sym, ap, _∙_}
 use mathlib.Core.Bool.{cond}
 use Prim.Native.Nat.{ℕ}
@@ -53,12 +54,14 @@ returns-3 c = sym (unequal (c .before) ∙ rw (eq-eqb _ _ (c .if3 .taken)))
 returns-4 : tie.Need-returns-4
 returns-4 c =
     let f = c .before .before in
-    c .decided .ensures ∙ ap decided (c .before .casts-with-boolean .ensures) ∙ sym (not-null (f .before) ∙ rw (eq-eqb _ _ (f .if4 .taken)))
+    c .decided .ensures ∙ ap decided (c .before .casts-with-boolean .ensures)
+    ∙ sym (not-null (f .before) ∙ rw (eq-eqb _ _ (f .if4 .taken)))
 
 returns-5 : tie.Need-returns-5
 returns-5 c =
     let f = c .before .before in
-    c .decided2 .ensures ∙ ap decided (c .before .casts-with-boolean2 .ensures) ∙ sym (not-boolean (f .before) ∙ rw (eq-eqb _ _ (f .if5 .taken)))
+    c .decided2 .ensures ∙ ap decided (c .before .casts-with-boolean2 .ensures)
+    ∙ sym (not-boolean (f .before) ∙ rw (eq-eqb _ _ (f .if5 .taken)))
 
 returns-6 : tie.Need-returns-6
 returns-6 c = sym (not-boolean (c .before) ∙ rw (ne-eqb _ _ (c .if5 .left)))

@@ -27,12 +27,14 @@ loop-holds c = let s = c .before .before .before .before .before in scan-start (
 returns-2 : tie.Need-returns-2 Inv-loop μ-loop
 returns-2 c =
     let l = in-loop (c .before) in
-    scan-stop (l .before .loop .inv) (l .loop-test .taken) (sym (c .before .node-yes .ensures) ∙ not-true _ (c .if2 .taken))
+    let n = sym (c .before .node-yes .ensures) ∙ not-true _ (c .if2 .taken) in
+    scan-stop (l .before .loop .inv) (l .loop-test .taken) n
 
 loop-again : tie.Need-loop-again Inv-loop μ-loop
 loop-again c =
     let l = in-loop (c .before) in
-    scan-on (l .before .loop .inv) (l .loop-test .taken) (sym (c .before .node-yes .ensures) ∙ not-false _ (c .if2 .left))
+    let y = sym (c .before .node-yes .ensures) ∙ not-false _ (c .if2 .left) in
+    scan-on (l .before .loop .inv) (l .loop-test .taken) y
 
 returns-3 : tie.Need-returns-3 Inv-loop μ-loop
 returns-3 c = scan-end (c .before .loop .inv) (c .loop-test .left)

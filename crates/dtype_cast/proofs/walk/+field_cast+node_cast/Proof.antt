@@ -1,10 +1,10 @@
 -- The walk of `can_cast_to`: `node_cast` and `field_cast` call each other, and the number of nodes left falls. Assumes
 -- nothing.
 --
--- How this proof is made. What is known at a place of the code is one record over lists (proofs/Pairs.antt for two nodes,
--- proofs/Steps.antt for two runs of fields). A view below makes it from the generated record of that place, and is what
--- looks back along `.before`; a later view starts from an earlier one. Each answer is then one law, of the view at its
--- place and of what was tested or called since.
+-- How this proof is made. What is known at a place of the code is one record over lists (proofs/Pairs.antt for two
+-- nodes, proofs/Steps.antt for two runs of fields). A view below makes it from the generated record of that place, and
+-- only views look far back along `.before`; a later view starts from an earlier one. Each answer is then one law, of the
+-- view at its place and of what was tested or called since.
 --
 --   node_cast     roots       the roots have told                              Roots
 --                 same-kind   they leave it open, and are of one kind          SameKind
@@ -27,8 +27,8 @@ use Rattle.dtype_cast.proofs.Pairs.{Roots, SameKind, TwoStructs, AsMany
 use Rattle.dtype_cast.proofs.Pairs.{roots-yes, roots-no, other-kinds, two-leaves}
 use Rattle.dtype_cast.proofs.Pairs.{no-field, other-count, fields-call, fields-within, fields-cast}
 use Rattle.dtype_cast.proofs.Pairs.{other-width, inner-call, inner-within, inner-cast}
-use Rattle.dtype_cast.proofs.Steps.{FieldsAlong, FieldAhead, FieldYes}
-use Rattle.dtype_cast.proofs.Steps.{start, next-call, field-no, field-unsure, field-ends, field-done, fields-done}
+use Rattle.dtype_cast.proofs.Steps.{FieldsAlong, FieldAhead, FieldYes, start, next-call}
+use Rattle.dtype_cast.proofs.Steps.{field-no, field-unsure, field-ends, field-done, fields-done}
 use Rattle.dtype_cast.proofs.walk.field_cast.Reads as field-cast
 use Rattle.dtype_cast.proofs.walk.field_cast.Kinds as field-cast-kinds
 use Rattle.dtype_cast.proofs.walk.+field_cast+node_cast.Lts-field_cast as field-cast-lts
@@ -127,7 +127,9 @@ module _ (t : ℕ) where
 
   as-many : (c : node-cast-lts.Else3 node-cast-claims node-cast-at node-cast.Post)
       → at-entry (AsMany t) (entered (told (c .before .before .before)))
-  as-many c = record { structs = structs (c .before .before); some-field = c .before .if2 .left; same-count = c .if3 .left }
+  as-many c =
+      let f = c .before in
+      record { structs = structs (f .before); some-field = f .if2 .left; same-count = c .if3 .left }
 
   inners : (c : node-cast-lts.Else4 node-cast-claims node-cast-at node-cast.Post)
       → at-entry (TwoInner t) (entered (told (c .before .before)))
@@ -193,7 +195,8 @@ module _ (t : ℕ) where
   in-loop known c =
       let a = loop-entered c .args in
       let l = c .before .loop in
-      known (a .count) (now (a .from-kinds)) (now (a .from-args)) (now (a .to-kinds)) (now (a .to-args)) (l .i) (l .j) (l .left)
+      known (a .count) (now (a .from-kinds)) (now (a .from-args)) (now (a .to-kinds)) (now (a .to-args))
+      (l .i) (l .j) (l .left)
 
   ahead : (c : In-loop) → in-loop (FieldAhead t) c
   ahead c =
