@@ -1,15 +1,17 @@
--- The walk of `can_cast_to`: `node_cast` and `field_cast` call each other, and the number of nodes left falls. Assumes nothing.
+-- The walk of `can_cast_to`: `node_cast` and `field_cast` call each other, and the number of nodes left falls. Assumes
+-- nothing.
 --
--- How this proof is made. What is known at a place of the code that answers start from is one record over lists (proofs/Pairs.antt for a node,
--- proofs/Steps.antt for a run of fields), and each answer is one law of such a record and of what happened since. For each such place there is
--- a view here, which makes the record; only the views look far back along `.before`.
+-- How this proof is made. What is known at a place of the code is one record over lists (proofs/Pairs.antt for two
+-- nodes, proofs/Steps.antt for two runs of fields). A view below makes it from the generated record of that place, and
+-- only views look far back along `.before`; a later view starts from an earlier one. Each answer is then one law, of the
+-- view at its place and of what was tested or called since.
 --
 --   node_cast     roots       the roots have told                              Roots
 --                 same-kind   they leave it open, and are of one kind          SameKind
---                 structs     two Structs                                      Structs
+--                 structs     two Structs                                      TwoStructs
 --                 as-many     two Structs with as many fields, one at least    AsMany
---                 inners      two Lists or two Arrays                          Inners
---   field_cast    ahead       in the loop, a field is left                     Ahead
+--                 inners      two Lists or two Arrays                          TwoInner
+--   field_cast    ahead       in the loop, a field is left                     FieldAhead
 --                 field-yes   the types of that field have yes                 FieldYes
 use mathlib.Core.Path.{_≡_, sym, _∙_}
 use mathlib.Core.List.{List}
@@ -21,10 +23,12 @@ use lib.ListN.{length}
 use borrow.Fn.Kinds.{In}
 use borrow.Fn.PlainCycle.{Measures, is, falls, and}
 use Rattle.dtype_cast.specs.declared.roots.Early.{Early}
-use Rattle.dtype_cast.proofs.Pairs.{Roots, SameKind, Structs, AsMany, Inners, roots-yes, roots-no, other-kinds, two-leaves}
+use Rattle.dtype_cast.proofs.Pairs.{Roots, SameKind, TwoStructs, AsMany, TwoInner}
+use Rattle.dtype_cast.proofs.Pairs.{roots-yes, roots-no, other-kinds, two-leaves}
 use Rattle.dtype_cast.proofs.Pairs.{no-field, other-count, fields-call, fields-within, fields-cast}
 use Rattle.dtype_cast.proofs.Pairs.{other-width, inner-call, inner-within, inner-cast}
-use Rattle.dtype_cast.proofs.Steps.{Along, Ahead, FieldYes, start, next-call, field-no, field-unsure, field-ends, field-done, fields-done}
+use Rattle.dtype_cast.proofs.Steps.{FieldsAlong, FieldAhead, FieldYes, start, next-call}
+use Rattle.dtype_cast.proofs.Steps.{field-no, field-unsure, field-ends, field-done, fields-done}
 use Rattle.dtype_cast.proofs.walk.field_cast.Reads as field-cast
 use Rattle.dtype_cast.proofs.walk.field_cast.Kinds as field-cast-kinds
 use Rattle.dtype_cast.proofs.walk.+field_cast+node_cast.Lts-field_cast as field-cast-lts
@@ -46,7 +50,7 @@ abbrev μ-node-cast : Measures 4 node-cast-kinds.ps ℕ
 -- the loop of `field_cast`
 abbrev Inv-loop : field-cast-lts.InvT-loop
 Inv-loop from-kinds from-args to-kinds to-args count i₀ j₀ left₀ i j left =
-    Along count from-kinds from-args to-kinds to-args i j left
+    FieldsAlong count from-kinds from-args to-kinds to-args i j left
 
 abbrev μ-loop : field-cast-lts.MeasureT-loop
 μ-loop from-kinds from-args to-kinds to-args count i₀ j₀ left₀ i j left = left
@@ -118,15 +122,17 @@ module _ (t : ℕ) where
       record { roots = roots (told c) (e .before .enum-told3 .given .1); same-kind = e .if1 .left }
 
   structs : (c : node-cast-lts.At-match2-keys1 node-cast-claims node-cast-at node-cast.Post)
-      → at-entry (Structs t) (entered (told (c .before)))
+      → at-entry (TwoStructs t) (entered (told (c .before)))
   structs c = record { kinds = same-kind (c .before); is-struct = c .match2 .keys1 }
 
   as-many : (c : node-cast-lts.Else3 node-cast-claims node-cast-at node-cast.Post)
       → at-entry (AsMany t) (entered (told (c .before .before .before)))
-  as-many c = record { structs = structs (c .before .before); some-field = c .before .if2 .left; same-count = c .if3 .left }
+  as-many c =
+      let f = c .before in
+      record { structs = structs (f .before); some-field = f .if2 .left; same-count = c .if3 .left }
 
   inners : (c : node-cast-lts.Else4 node-cast-claims node-cast-at node-cast.Post)
-      → at-entry (Inners t) (entered (told (c .before .before)))
+      → at-entry (TwoInner t) (entered (told (c .before .before)))
   inners c =
       let m = c .before in
       record { kinds = same-kind (m .before); nested = omega (arith, c .if4 .left); no-struct = m .match2 .rest .1 }
@@ -189,9 +195,10 @@ module _ (t : ℕ) where
   in-loop known c =
       let a = loop-entered c .args in
       let l = c .before .loop in
-      known (a .count) (now (a .from-kinds)) (now (a .from-args)) (now (a .to-kinds)) (now (a .to-args)) (l .i) (l .j) (l .left)
+      known (a .count) (now (a .from-kinds)) (now (a .from-args)) (now (a .to-kinds)) (now (a .to-args))
+      (l .i) (l .j) (l .left)
 
-  ahead : (c : In-loop) → in-loop (Ahead t) c
+  ahead : (c : In-loop) → in-loop (FieldAhead t) c
   ahead c =
       let s = loop-entered c in
       record {
