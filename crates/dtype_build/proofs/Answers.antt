@@ -29,7 +29,7 @@ pub materialized-refused : (allow : Bool) {r : Reading} {e : Error} → r ≡ re
 unfolding materialized
 materialized-refused allow h = rw h
 
--- it is given whatever room there is
+-- a refusal is given whatever room there is
 pub refusal : (k a : ℕ) {r : Reading} {e : Error} {K A : List ℕ} → r ≡ refused e → Writes (fitting k a r) K A K A (Written.Refused e)
 unfolding fitting
 refusal k a h = writes-refused (rw h)
@@ -73,8 +73,9 @@ module _ (p : Whole) where
     pub known-type : b ≡ false → materialized allow (reading nodes deep ks xs) ≡ type (mapLeaves materializedLeaf (typeAt ks xs))
     known-type h = known ∙ rw h
 
--- where a reading comes to another, what is written of the one is written of the other
-pub writes-as : (k a : ℕ) {r r′ : Reading} {K A K′ A′ : List ℕ} {w : Written} → r ≡ r′ → Writes (fitting k a r′) K A K′ A′ w → Writes (fitting k a r) K A K′ A′ w
+-- what is written of a reading is written of one that is equal to it
+pub writes-as : (k a : ℕ) {r r′ : Reading} {K A K′ A′ : List ℕ} {w : Written} → r ≡ r′ →
+    Writes (fitting k a r′) K A K′ A′ w → Writes (fitting k a r) K A K′ A′ w
 writes-as k a e w = rw e w
 
 -- What a caller of the walk finds at the front of the two arrays: the flat form of the type that was built.
