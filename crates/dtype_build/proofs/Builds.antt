@@ -9,7 +9,7 @@ use native.Mathlib.Nat.{zero-add, add-zero}
 use native.Mathlib.Numerals.{add-one}
 use lib.ListN.{length, getD, set, take-append-drop}
 use Rattle.flat.specs.Kind
-use Rattle.flat.specs.Tree.{DataType, leaf, Fields, size, sizes, count, kindsOf, kindsOfs, argsOf, argsOfs, headKind}
+use Rattle.flat.specs.Tree.{DataType, leaf, Fields, size, sizes, kindsOf, kindsOfs, argsOf, argsOfs, headKind}
 use Rattle.flat.specs.Walk.{Valid, ValidRun, typeAt, runAt}
 use Rattle.flat.specs.Reading.{type}
 use Rattle.flat.specs.Output.{fitting, over, Writes}
