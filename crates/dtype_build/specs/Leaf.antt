@@ -51,8 +51,8 @@ pub record HasRoom (n : ℕ) (K A : List ℕ) : Type 0 where
   pub kinds : n ≤ length K
   pub args : n ≤ length A
 
--- What a walk leaves that builds nodes of the kinds ks and the arguments xs: their number, and the two lent arrays, K and
--- A before it and K′ and A′ after it.
+-- What a walk leaves that builds nodes of the kinds ks and the arguments xs: their number, and the two lent arrays, K
+-- and A before it and K′ and A′ after it.
 pub record Built (ks xs K A K′ A′ : List ℕ) (r : ℕ) : Type 0 where
   pub nodes : r ≡ length ks
   pub kinds : K′ ≡ over ks K

@@ -1,5 +1,5 @@
--- What becomes of unknown types: `UnknownKind::materialize` and `materialize_unknown` of dtype.rs. Assumes nothing: these
--- are definitions.
+-- What becomes of unknown types: `UnknownKind::materialize` and `materialize_unknown` of dtype.rs. Assumes nothing:
+-- these are definitions.
 use mathlib.Core.Bool.{Bool, true, false, cond}
 use mathlib.Core.Option.{Option, none, some}
 use Prim.Native.Nat.{ℕ}
