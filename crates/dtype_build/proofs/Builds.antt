@@ -1,5 +1,5 @@
 -- The walk that builds a type: what stands at the places of `node_form` and `field_form`, as records, and what follows
--- there. A node is stored, the parts after it are handed on, and they come back with what stands under the node in them.
+-- there. A node is stored, the parts after it are handed on, and they come back with what stands under the node.
 -- Assumes nothing.
 use mathlib.Core.Path.{_≡_, refl, sym, ap, _∙_}
 use mathlib.Core.List.{List, _∷_}
@@ -47,11 +47,11 @@ pub record Task : Type 0 where
   pub valid : Valid ks xs
   pub room : HasRoom (size (typeAt ks xs)) K A
 
--- the type that it has to build
+-- the type that is to be built
 abbrev pub result : Task → DataType
 result p = mapLeaves (leafOf (p .form)) (typeAt (p .ks) (p .xs))
 
--- the parts of K and A that it hands on, once the node at the front is stored
+-- the parts of K and A after the node at the front, once that is stored
 abbrev pub kindsAfter : Task → List ℕ
 kindsAfter p = after 0 (getD (p .ks) 0 0) (p .K)
 
@@ -166,7 +166,7 @@ module _ (p : Task) where
           args = over-inner .1;
         }
 
--- the node is stored: what the walk over the nodes under it requires
+-- what the walk over the nodes under a node requires, once that is stored
 pub under-requires : {Below : ℕ → List ℕ → List ℕ → Type 0} (p : Parent Below) →
     Below (getD (p .task .xs) 0 0) (from 1 (p .task .ks)) (from 1 (p .task .xs)) ×
     HasRoom (p .m) (kindsAfter (p .task)) (argsAfter (p .task))
@@ -176,7 +176,7 @@ under-requires p =
     let args = after-length 0 (getD (p .task .xs) 0 0) (p .task .A) in
     (p .below, record { kinds = omega (arith, p .nodes); args = omega (arith, p .nodes) })
 
--- The walk over the nodes under it is done, and the two parts came back as L and M.
+-- The walk over the nodes under a node is done, and the two parts came back as L and M.
 pub record Back (Below : ℕ → List ℕ → List ℕ → Type 0) : Type 0 where
   pub parent : Parent Below
   pub L : List ℕ
@@ -212,8 +212,8 @@ abbrev pub runFrom : (at m : ℕ) → List ℕ → List ℕ → Fields
 runFrom at m ks xs = runAt m (from at ks) (from at xs)
 
 -- The loop of a walk over m fields, at the place `at` with `left` of them left. The m fields over what the two arrays
--- held at first, K₀ and A₀, come to those that are left, from this place on, over what the arrays hold now, K and A. What
--- the walk was given stands here too, so that no answer goes back beyond the loop.
+-- held at first, K₀ and A₀, come to those that are left, from this place on, over what the arrays hold now, K and A.
+-- What the walk was given stands here too, so that no answer goes back beyond the loop.
 pub record Along (form : Form) (m : ℕ) (ks xs K₀ A₀ : List ℕ) (at left : ℕ) (K A : List ℕ) : Type 0 where
   pub valid : ValidRun m ks xs
   pub room : HasRoom (sizes (runAt m ks xs)) K₀ A₀
@@ -257,12 +257,12 @@ module _ {form : Form} {m : ℕ} {ks xs K₀ A₀ : List ℕ} {at left : ℕ} {K
     abbrev type-next : DataType
     type-next = typeAt (from (at + 1) ks) (from (at + 1) xs)
 
-    -- how many nodes all fields have, where that type has n
+    -- how many nodes all fields have, where the type of the next has n
     all-nodes : (n : ℕ) → n ≡ size type-next →
         sizes (runAt m ks xs) ≡ at + 1 + n + sizes (runFrom (at + 1 + n) (left - 1) ks xs)
     all-nodes n e = a .nodes ∙ rw (next-nodes left at ks xs (a .others) more n e) (omega arith)
 
-    -- the field is stored: what the walk over its type is given
+    -- what the walk over the type of the next field is given, once the field is stored
     abbrev task-next : Task
     task-next =
         let n = all-nodes (size type-next) refl in
@@ -285,7 +285,7 @@ module _ {form : Form} {m : ℕ} {ks xs K₀ A₀ : List ℕ} {at left : ℕ} {K
     pub next-shorter : length (from (at + 1) ks) < length ks
     next-shorter = omega (arith, length-from (at + 1) ks, all-nodes (size type-next) refl)
 
-    -- its type is built, and the two parts came back as L and M
+    -- the type of the next field is built, and the two parts came back as L and M
     pub field-done : {L M : List ℕ} {n : ℕ} →
         BuiltType (mapLeaves (leafOf form) type-next) (after at Kind.Field K) (after at (getD xs at 0) A) L M n →
         Along form m ks xs K₀ A₀ (at + 1 + n) (left - 1) (back at Kind.Field K L) (back at (getD xs at 0) A M)

@@ -1,4 +1,5 @@
--- When the range of an integer type includes another: one law over the signs and the widths, and what it comes to for the ten. Assumes nothing.
+-- When the range of an integer type includes another: one law over the signs and the widths, and what it comes to for the
+-- ten. Assumes nothing.
 use mathlib.Core.Path.{_≡_, sym, subst}
 use mathlib.Core.Bool.{Bool, true, false, not, _&&_, _||_}
 use mathlib.Core.Logic.{_↔_}

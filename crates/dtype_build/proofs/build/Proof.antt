@@ -18,7 +18,15 @@ returns-2 c = writes-refused (few-args _ _ _ (rw size-map (omega arith)) (rw siz
 abbrev task : tie.After-shared-slice-known3 → Task
 task c =
     let s = c .before .before .before .before .before .before .before in
-    record { form = s .args .form; ks = now (s .args .kinds); xs = now (s .args .args); K = now (s .args .out-kinds); A = now (s .args .out-args); valid = s .pre .0; room = record { kinds = omega arith; args = omega arith } }
+    record {
+      form = s .args .form;
+      ks = now (s .args .kinds);
+      xs = now (s .args .args);
+      K = now (s .args .out-kinds);
+      A = now (s .args .out-args);
+      valid = s .pre .0;
+      room = record { kinds = omega arith; args = omega arith };
+    }
 
 leaf-form-requires : tie.Need-leaf-form-requires
 leaf-form-requires c κs = record { kinds = omega arith; args = omega arith }
