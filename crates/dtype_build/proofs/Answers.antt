@@ -1,5 +1,5 @@
 -- What the calls come to: the walk builds what `physical` and `materialized` say of the reading. Assumes nothing.
-use mathlib.Core.Path.{_≡_, refl, sym, ap, _∙_}
+use mathlib.Core.Path.{_≡_, sym, ap, _∙_}
 use mathlib.Core.Bool.{Bool, true, false, not, _&&_}
 use mathlib.Core.List.{List}
 use Prim.Native.Nat.{ℕ}
@@ -29,8 +29,9 @@ pub materialized-refused : (allow : Bool) {r : Reading} {e : Error} → r ≡ re
 unfolding materialized
 materialized-refused allow h = rw h
 
--- it is given whatever room there is
-pub refusal : (k a : ℕ) {r : Reading} {e : Error} {K A : List ℕ} → r ≡ refused e → Writes (fitting k a r) K A K A (Written.Refused e)
+-- a refusal is given whatever room there is
+pub refusal : (k a : ℕ) {r : Reading} {e : Error} {K A : List ℕ} → r ≡ refused e →
+    Writes (fitting k a r) K A K A (Written.Refused e)
 unfolding fitting
 refusal k a h = writes-refused (rw h)
 
@@ -60,25 +61,32 @@ module _ (p : Whole) where
 
   -- b is the answer of any_refused
   module _ (allow : Bool) {b : Bool} (e : b ≡ (hasAny ks && not allow)) where
-    known : materialized allow (reading nodes deep ks xs) ≡ orUnknown (noneIf b (mapLeaves materializedLeaf (typeAt ks xs)))
+    known : materialized allow (reading nodes deep ks xs) ≡
+        orUnknown (noneIf b (mapLeaves materializedLeaf (typeAt ks xs)))
     unfolding materialized
     known =
         let k : ks ≡ kindsOf (typeAt ks xs) = passed .form .kinds ∙ ap kindsOf (sym (passed .front)) in
-        let a : (hasAny (kindsOf (typeAt ks xs)) && not allow) ≡ b = ap (λ (l : List ℕ). hasAny l && not allow) (sym k) ∙ sym e in
+        let a : (hasAny (kindsOf (typeAt ks xs)) && not allow) ≡ b =
+        ap (λ (l : List ℕ). hasAny l && not allow) (sym k) ∙ sym e in
         rw (reads, known-is allow (typeAt ks xs), a)
 
     pub known-none : b ≡ true → materialized allow (reading nodes deep ks xs) ≡ refused Unknown
     known-none h = known ∙ rw h
 
-    pub known-type : b ≡ false → materialized allow (reading nodes deep ks xs) ≡ type (mapLeaves materializedLeaf (typeAt ks xs))
+    pub known-type : b ≡ false →
+        materialized allow (reading nodes deep ks xs) ≡ type (mapLeaves materializedLeaf (typeAt ks xs))
     known-type h = known ∙ rw h
 
--- where a reading comes to another, what is written of the one is written of the other
-pub writes-as : (k a : ℕ) {r r′ : Reading} {K A K′ A′ : List ℕ} {w : Written} → r ≡ r′ → Writes (fitting k a r′) K A K′ A′ w → Writes (fitting k a r) K A K′ A′ w
+-- what is written of a reading is written of one that is equal to it
+pub writes-as : (k a : ℕ) {r r′ : Reading} {K A K′ A′ : List ℕ} {w : Written} → r ≡ r′ →
+    Writes (fitting k a r′) K A K′ A′ w → Writes (fitting k a r) K A K′ A′ w
 writes-as k a e w = rw e w
 
 -- What a caller of the walk finds at the front of the two arrays: the flat form of the type that was built.
-pub front : (t : DataType) {K A K′ A′ : List ℕ} {r : ℕ} → BuiltType t K A K′ A′ r → (r ≡ size t) × (take r K′ ≡ kindsOf t) × (take r A′ ≡ argsOf t)
+pub front : (t : DataType) {K A K′ A′ : List ℕ} {r : ℕ} → BuiltType t K A K′ A′ r →
+    (r ≡ size t) × (take r K′ ≡ kindsOf t) × (take r A′ ≡ argsOf t)
 front t {r = r} b =
     let n = b .nodes ∙ length-kinds t in
-    (n, ap (take r) (b .kinds) ∙ take-at (kindsOf t) _ r (sym (b .nodes)), ap (take r) (b .args) ∙ take-at (argsOf t) _ r (length-args t ∙ sym n))
+    let kinds = ap (take r) (b .kinds) ∙ take-at (kindsOf t) _ r (sym (b .nodes)) in
+    let args = ap (take r) (b .args) ∙ take-at (argsOf t) _ r (length-args t ∙ sym n) in
+    (n, kinds, args)

@@ -1,5 +1,6 @@
--- The walk that builds a type, in the words of the code: what stands at each place of `node_form` and `field_form` that an answer goes back to, as a record,
--- and what follows there. A node is stored, the parts after it are handed on, and they come back with what stands under the node. Assumes nothing.
+-- The walk that builds a type: what stands at the places of `node_form` and `field_form`, as records, and what follows
+-- there. A node is stored, the parts after it are handed on, and they come back with what stands under the node.
+-- Assumes nothing.
 use mathlib.Core.Path.{_≡_, refl, sym, ap, _∙_}
 use mathlib.Core.List.{List, _∷_}
 use Prim.Native.Nat.{ℕ, suc, _+_, _-_, _≤_, _<_}
@@ -8,7 +9,7 @@ use native.Mathlib.Nat.{zero-add, add-zero}
 use native.Mathlib.Numerals.{add-one}
 use lib.ListN.{length, getD, set, take-append-drop}
 use Rattle.flat.specs.Kind
-use Rattle.flat.specs.Tree.{DataType, leaf, Fields, size, sizes, count, kindsOf, kindsOfs, argsOf, argsOfs, headKind}
+use Rattle.flat.specs.Tree.{DataType, leaf, Fields, size, sizes, kindsOf, kindsOfs, argsOf, argsOfs, headKind}
 use Rattle.flat.specs.Walk.{Valid, ValidRun, typeAt, runAt}
 use Rattle.flat.specs.Reading.{type}
 use Rattle.flat.specs.Output.{fitting, over, Writes}
@@ -23,10 +24,12 @@ use Rattle.dtype_build.specs.Leaf.{leafOf, mapLeaves, mapFields, keptArg
 use Rattle.dtype_build.specs.declared.leaf.Form.{Form}
 use Rattle.dtype_build.proofs.Leaves.{leaf-is}
 use Rattle.dtype_build.proofs.Forms.{size-map, sizes-map, count-map}
-use Rattle.dtype_build.proofs.Writes.{after, back, toBe, after-length, back-length, next, over-front}
+use Rattle.dtype_build.proofs.Writes.{after, back, toBe, over-length, after-length, back-length, next, over-front}
 
 -- ---- a leaf, its kind and its argument stored
-pub leaf-stored : (form : Form) (k a : ℕ) {K A : List ℕ} → HasRoom 1 K A → (y z : ℕ) → y ≡ headKind (leafOf form k a) → z ≡ keptArg k y a → BuiltType (leafOf form k a) K A (set K 0 y) (set A 0 z) 1
+pub leaf-stored : (form : Form) (k a : ℕ) {K A : List ℕ} → HasRoom 1 K A →
+    (y z : ℕ) → y ≡ headKind (leafOf form k a) → z ≡ keptArg k y a →
+    BuiltType (leafOf form k a) K A (set K 0 y) (set A 0 z) 1
 unfolding kindsOf argsOf
 leaf-stored form k a {K} {A} o y z p q =
     let e : leafOf form k a ≡ leaf y z = leaf-is k a form ∙ rw (← p, ← q) in
@@ -35,7 +38,7 @@ leaf-stored form k a {K} {A} o y z p q =
 -- ---- a type
 
 -- What a walk over a type is given: the type at the front of ks and xs, and K and A with room for it.
-pub record Node : Type 0 where
+pub record Task : Type 0 where
   pub form : Form
   pub ks : List ℕ
   pub xs : List ℕ
@@ -44,19 +47,19 @@ pub record Node : Type 0 where
   pub valid : Valid ks xs
   pub room : HasRoom (size (typeAt ks xs)) K A
 
--- what it has to build
-abbrev pub result : Node → DataType
+-- the type that is to be built
+abbrev pub result : Task → DataType
 result p = mapLeaves (leafOf (p .form)) (typeAt (p .ks) (p .xs))
 
--- the parts of K and A that it hands on, once the node at the front is stored
-abbrev pub kindsAfter : Node → List ℕ
+-- the parts of K and A after the node at the front, once that is stored
+abbrev pub kindsAfter : Task → List ℕ
 kindsAfter p = after 0 (getD (p .ks) 0 0) (p .K)
 
-abbrev pub argsAfter : Node → List ℕ
+abbrev pub argsAfter : Task → List ℕ
 argsAfter p = after 0 (getD (p .xs) 0 0) (p .A)
 
-module _ (p : Node) where
-  open Node p using (form, ks, xs, K, A, valid)
+module _ (p : Task) where
+  open Task p using (form, ks, xs, K, A, valid)
 
   -- where the type is a leaf, the leaf is all of it
   pub leaf-built : getD ks 0 0 < Kind.List → {K′ A′ : List ℕ} {r : ℕ} →
@@ -68,7 +71,17 @@ module _ (p : Node) where
   pub built-size : {K₀ A₀ K′ A′ : List ℕ} {r : ℕ} → BuiltType (result p) K₀ A₀ K′ A′ r → r ≡ size (typeAt ks xs)
   built-size w = w .nodes ∙ length-kinds (result p) ∙ size-map form (typeAt ks xs)
 
-  -- and what was built was written
+  -- K and A are as long as they were
+  built-lengths : {K′ A′ : List ℕ} {r : ℕ} → BuiltType (result p) K A K′ A′ r →
+      (length K′ ≡ length K) × (length A′ ≡ length A)
+  built-lengths w =
+      let kinds = length-kinds (result p) in
+      let args = length-args (result p) in
+      let n = size-map form (typeAt ks xs) in
+      let o = p .room in
+      (ap length (w .kinds) ∙ over-length (kindsOf (result p)) K (omega arith), ap length (w .args) ∙ over-length (argsOf (result p)) A (omega arith))
+
+  -- what was built was written
   pub built-writes : {K′ A′ : List ℕ} {r : ℕ} → BuiltType (result p) K A K′ A′ r →
       Writes (fitting (length K) (length A) (type (result p))) K A K′ A′ (Written.Nodes r)
   built-writes w =
@@ -84,19 +97,20 @@ kindsBuilt form fs = kindsOfs (mapFields (leafOf form) fs)
 abbrev pub argsBuilt : Form → Fields → List ℕ
 argsBuilt form fs = argsOfs (mapFields (leafOf form) fs)
 
--- What stands under the node: m nodes, which are built as the kinds P and the arguments Q. Below says that they stand there, by the node's argument.
+-- What stands under the node: m nodes, which are built as the kinds P and the arguments Q. Below says, by the node's
+-- argument, that they stand there.
 pub record Parent (Below : ℕ → List ℕ → List ℕ → Type 0) : Type 0 where
-  pub node : Node
-  pub below : Below (getD (node .xs) 0 0) (from 1 (node .ks)) (from 1 (node .xs))
+  pub task : Task
+  pub below : Below (getD (task .xs) 0 0) (from 1 (task .ks)) (from 1 (task .xs))
   pub m : ℕ
   pub P : List ℕ
   pub Q : List ℕ
-  pub nodes : size (typeAt (node .ks) (node .xs)) ≡ suc m
-  pub kinds : kindsOf (result node) ≡ getD (node .ks) 0 0 ∷ P
-  pub args : argsOf (result node) ≡ getD (node .xs) 0 0 ∷ Q
+  pub nodes : size (typeAt (task .ks) (task .xs)) ≡ suc m
+  pub kinds : kindsOf (result task) ≡ getD (task .ks) 0 0 ∷ P
+  pub args : argsOf (result task) ≡ getD (task .xs) 0 0 ∷ Q
 
-module _ (p : Node) where
-  open Node p using (form, ks, xs, valid)
+module _ (p : Task) where
+  open Task p using (form, ks, xs, valid)
 
   -- a Struct
   module _ (kind : getD ks 0 0 ≡ Kind.Struct) where
@@ -113,7 +127,7 @@ module _ (p : Node) where
     abbrev pub struct-parent : Parent ValidRun
     struct-parent =
         record {
-          node = p;
+          task = p;
           below = struct-valid ks xs valid kind;
           m = sizes fields;
           P = kindsBuilt form fields;
@@ -142,7 +156,7 @@ module _ (p : Node) where
     abbrev pub wrapper-parent : Parent (λ width. Valid)
     wrapper-parent =
         record {
-          node = p;
+          task = p;
           below = one-valid ks xs valid nested other;
           m = size inner;
           P = kindsOf (mapLeaves (leafOf form) inner);
@@ -152,29 +166,29 @@ module _ (p : Node) where
           args = over-inner .1;
         }
 
--- the node is stored: what the walk over what stands under it requires
+-- what the walk over the nodes under a node requires, once that is stored
 pub under-requires : {Below : ℕ → List ℕ → List ℕ → Type 0} (p : Parent Below) →
-    Below (getD (p .node .xs) 0 0) (from 1 (p .node .ks)) (from 1 (p .node .xs)) ×
-    HasRoom (p .m) (kindsAfter (p .node)) (argsAfter (p .node))
+    Below (getD (p .task .xs) 0 0) (from 1 (p .task .ks)) (from 1 (p .task .xs)) ×
+    HasRoom (p .m) (kindsAfter (p .task)) (argsAfter (p .task))
 under-requires p =
-    let o = p .node .room in
-    let kinds = after-length 0 (getD (p .node .ks) 0 0) (p .node .K) in
-    let args = after-length 0 (getD (p .node .xs) 0 0) (p .node .A) in
+    let o = p .task .room in
+    let kinds = after-length 0 (getD (p .task .ks) 0 0) (p .task .K) in
+    let args = after-length 0 (getD (p .task .xs) 0 0) (p .task .A) in
     (p .below, record { kinds = omega (arith, p .nodes); args = omega (arith, p .nodes) })
 
--- That walk is done, and the two parts came back as L and M.
+-- The walk over the nodes under a node is done, and the two parts came back as L and M.
 pub record Back (Below : ℕ → List ℕ → List ℕ → Type 0) : Type 0 where
   pub parent : Parent Below
   pub L : List ℕ
   pub M : List ℕ
   pub n : ℕ
-  pub built : Built (parent .P) (parent .Q) (kindsAfter (parent .node)) (argsAfter (parent .node)) L M n
+  pub built : Built (parent .P) (parent .Q) (kindsAfter (parent .task)) (argsAfter (parent .task)) L M n
 
 module _ {Below : ℕ → List ℕ → List ℕ → Type 0} (b : Back Below) where
   open Back b using (parent, L, M, n, built)
-  open Node (parent .node) using (ks, xs, K, A, valid, room as has-room)
+  open Task (parent .task) using (ks, xs, K, A, valid, room as has-room)
 
-  pub back-built : BuiltType (result (parent .node)) K A (back 0 (getD ks 0 0) K L) (back 0 (getD xs 0 0) A M) (n + 1)
+  pub back-built : BuiltType (result (parent .task)) K A (back 0 (getD ks 0 0) K L) (back 0 (getD xs 0 0) A M) (n + 1)
   back-built =
       let v = valid in
       let o = has-room in
@@ -185,7 +199,11 @@ module _ {Below : ℕ → List ℕ → List ℕ → Type 0} (b : Back Below) whe
       })
 
   pub back-within : n + 1 ≤ length ks
-  back-within = omega (arith, built-size (parent .node) back-built, valid)
+  back-within = omega (arith, built-size (parent .task) back-built, valid)
+
+  -- K and A are as long as they were
+  pub back-lengths : (length (back 0 (getD ks 0 0) K L) ≡ length K) × (length (back 0 (getD xs 0 0) A M) ≡ length A)
+  back-lengths = built-lengths (parent .task) back-built
 
 -- ---- the fields of a Struct
 
@@ -193,8 +211,9 @@ module _ {Below : ℕ → List ℕ → List ℕ → Type 0} (b : Back Below) whe
 abbrev pub runFrom : (at m : ℕ) → List ℕ → List ℕ → Fields
 runFrom at m ks xs = runAt m (from at ks) (from at xs)
 
--- The loop of a walk over m fields, at the place `at` with `left` of them left. The m fields over what the two arrays held at first, K₀ and A₀, come to those
--- that are left, from this place on, over what the arrays hold now. What the walk was given stands here too, so that no answer goes back beyond the loop.
+-- The loop of a walk over m fields, at the place `at` with `left` of them left. The m fields over what the two arrays
+-- held at first, K₀ and A₀, come to those that are left, from this place on, over what the arrays hold now, K and A.
+-- What the walk was given stands here too, so that no answer goes back beyond the loop.
 pub record Along (form : Form) (m : ℕ) (ks xs K₀ A₀ : List ℕ) (at left : ℕ) (K A : List ℕ) : Type 0 where
   pub valid : ValidRun m ks xs
   pub room : HasRoom (sizes (runAt m ks xs)) K₀ A₀
@@ -219,7 +238,8 @@ start {form} {m} {ks} {xs} {K} {A} p =
       args = rw (from-zero ks, from-zero xs);
     }
 
-module _ {form : Form} {m : ℕ} {ks xs K₀ A₀ : List ℕ} {at left : ℕ} {K A : List ℕ} (a : Along form m ks xs K₀ A₀ at left K A) where
+module _ {form : Form} {m : ℕ} {ks xs K₀ A₀ : List ℕ} {at left : ℕ} {K A : List ℕ}
+    (a : Along form m ks xs K₀ A₀ at left K A) where
   -- no field is left
   pub fields-built : left ≡ 0 → BuiltFields (mapFields (leafOf form) (runAt m ks xs)) K₀ A₀ K A at
   unfolding kindsOf argsOf mapLeaves size
@@ -237,13 +257,14 @@ module _ {form : Form} {m : ℕ} {ks xs K₀ A₀ : List ℕ} {at left : ℕ} {K
     abbrev type-next : DataType
     type-next = typeAt (from (at + 1) ks) (from (at + 1) xs)
 
-    -- how many nodes all fields have, where that type has n
-    all-nodes : (n : ℕ) → n ≡ size type-next → sizes (runAt m ks xs) ≡ at + 1 + n + sizes (runFrom (at + 1 + n) (left - 1) ks xs)
+    -- how many nodes all fields have, where the type of the next has n
+    all-nodes : (n : ℕ) → n ≡ size type-next →
+        sizes (runAt m ks xs) ≡ at + 1 + n + sizes (runFrom (at + 1 + n) (left - 1) ks xs)
     all-nodes n e = a .nodes ∙ rw (next-nodes left at ks xs (a .others) more n e) (omega arith)
 
-    -- the field is stored: what the walk over its type is given
-    abbrev node-next : Node
-    node-next =
+    -- what the walk over the type of the next field is given, once the field is stored
+    abbrev task-next : Task
+    task-next =
         let n = all-nodes (size type-next) refl in
         let kinds = after-length at Kind.Field K in
         let args = after-length at (getD xs at 0) A in
@@ -257,20 +278,21 @@ module _ {form : Form} {m : ℕ} {ks xs K₀ A₀ : List ℕ} {at left : ℕ} {K
           room = record { kinds = omega arith; args = omega arith };
         }
 
-    pub next-requires : Valid (from (at + 1) ks) (from (at + 1) xs) × HasRoom (size type-next) (after at Kind.Field K) (after at (getD xs at 0) A)
-    next-requires = (node-next .valid, node-next .room)
+    pub next-requires : Valid (from (at + 1) ks) (from (at + 1) xs) ×
+        HasRoom (size type-next) (after at Kind.Field K) (after at (getD xs at 0) A)
+    next-requires = (task-next .valid, task-next .room)
 
     pub next-shorter : length (from (at + 1) ks) < length ks
     next-shorter = omega (arith, length-from (at + 1) ks, all-nodes (size type-next) refl)
 
-    -- that walk is done, and the two parts came back as L and M
+    -- the type of the next field is built, and the two parts came back as L and M
     pub field-done : {L M : List ℕ} {n : ℕ} →
         BuiltType (mapLeaves (leafOf form) type-next) (after at Kind.Field K) (after at (getD xs at 0) A) L M n →
         Along form m ks xs K₀ A₀ (at + 1 + n) (left - 1) (back at Kind.Field K L) (back at (getD xs at 0) A M)
     unfolding kindsOf argsOf mapLeaves
     field-done {L} {M} {n} w =
-        let t : DataType = result node-next in
-        let e = built-size node-next w in
+        let t : DataType = result task-next in
+        let e = built-size task-next w in
         let q : n ≡ length (argsOf t) = e ∙ sym (length-args t ∙ size-map form type-next) in
         let f = next-field left at ks xs (a .others) more n e in
         let i = all-nodes n e in

@@ -1,5 +1,5 @@
--- What stands in a lent array after a walk stored a node and handed the part after it on. Of lists alone: any walk that writes goes by these.
--- Assumes nothing.
+-- What stands in a lent array after a walk stored a node and handed the part after it on. Of lists alone: any walk that
+-- writes goes by these. Assumes nothing.
 use mathlib.Core.Path.{_≡_, refl, sym, ap, ap₂, _∙_}
 use mathlib.Core.List.{List, [], _∷_, _++_, append-nil, append-assoc}
 use Prim.Native.Nat.{ℕ, suc, _+_, _-_, _≤_, _<_}
@@ -23,6 +23,9 @@ back at y out L = putMid (at + 1) (length (set out at y) - (at + 1)) (set out at
 -- out, once P is written from the place `at` on
 abbrev pub toBe : ℕ → List ℕ → List ℕ → List ℕ
 toBe at P out = take at out ++ over P (drop at out)
+
+pub over-length : (P out : List ℕ) → length P ≤ length out → length (over P out) ≡ length out
+over-length P out h = simp (length-append, length-drop) (omega arith)
 
 pub after-length : (at y : ℕ) (out : List ℕ) → length (after at y out) ≡ length out - (at + 1)
 after-length at y out = length-from (at + 1) (set out at y) ∙ simp length-set

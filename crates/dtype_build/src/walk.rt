@@ -21,7 +21,9 @@ pub fn node_form(
       let built = mapLeaves (leafOf form) (typeAt (now (kinds .entry)) (now (args .entry)))
       let K = now («out_kinds» .entry)
       let A = now («out_args» .entry)
-      ⌜ BuiltType built K A (now («out_kinds» .exit)) (now («out_args» .exit)) r ⌝ }
+      let K′ = now («out_kinds» .exit)
+      let A′ = now («out_args» .exit)
+      ⌜ BuiltType built K A K′ A′ r ⌝ }
 {
     let k = kinds[0];
     let a = args[0];
@@ -43,7 +45,7 @@ pub fn node_form(
 
 // Builds the given number of fields at the front of kinds and args, in the given form, at the front of out_kinds and
 // out_args, and returns their number of nodes.
-pub fn field_form(
+fn field_form(
     form: Form,
     kinds: &[u8],
     args: &[u64],
@@ -57,7 +59,9 @@ pub fn field_form(
       let built = mapFields (leafOf form) (runAt count (now (kinds .entry)) (now (args .entry)))
       let K = now («out_kinds» .entry)
       let A = now («out_args» .entry)
-      ⌜ BuiltFields built K A (now («out_kinds» .exit)) (now («out_args» .exit)) r ⌝ }
+      let K′ = now («out_kinds» .exit)
+      let A′ = now («out_args» .exit)
+      ⌜ BuiltFields built K A K′ A′ r ⌝ }
 {
     let mut at = 0;
     let mut left = count;
