@@ -31,21 +31,24 @@ use flat::Optional;
 use flat::Written;
 use flat::error::Error;
 
-// The number of nodes, and so of the kinds that stand after the count.
-fn nodes(encoded: &[u8]) -> Written
+// What a predicate says of any type, told by the kinds where they stand.
+fn ask_nodes(p: Predicate, encoded: &[u8]) -> Answer
     ensures { λ r. do
       nodes ← ⟦Flat::MAX_NODES⟧ .entry
       deep ← ⟦Flat::MAX_DEPTH⟧ .entry
       w ← ⟦Encoding::ARGUMENT_BYTES⟧ .entry
-      ⌜ r ≡ writtenOf (decoding w nodes deep (now (encoded .entry))) ⌝ }
+      ⌜ r ≡ answerOf (predicateOf p) (decoding w nodes deep (now (encoded .entry))) ⌝ }
 {
     match encoded::check(encoded) {
-        Checked::Valid => Written::Nodes(encoded::node_count(encoded)),
-        Checked::Refused(e) => Written::Refused(e),
+        Checked::Valid => {
+            let n = encoded::node_count(encoded);
+            yes_no(told_by(p, &encoded[2..2 + n]))
+        }
+        Checked::Refused(e) => Answer::Refused(e),
     }
 }
 
-// What a predicate says of the type, told by the kinds where they stand: refusals 1 to 5.
+// What a predicate says of the type: refusals 1 to 5.
 pub fn ask(p: Predicate, encoded: &[u8]) -> Answer
     ensures { λ r. do
       nodes ← ⟦Flat::MAX_NODES⟧ .entry
@@ -56,10 +59,7 @@ pub fn ask(p: Predicate, encoded: &[u8]) -> Answer
     if encoded::is_plain(encoded) {
         return yes_no(told_by(p, &encoded[2..3]));
     }
-    match nodes(&encoded[0..]) {
-        Written::Nodes(n) => yes_no(told_by(p, &encoded[2..2 + n])),
-        Written::Refused(e) => Answer::Refused(e),
-    }
+    ask_nodes(p, &encoded[0..])
 }
 
 // Which part: the inner type, the leaf type, or the type under an Array's consecutive Arrays.
@@ -222,6 +222,28 @@ fn form_in(
     }
 }
 
+// Encodes any type in the given form, with arrays that have room for its nodes.
+fn form_nodes(form: Form, allow_unknown: bool, encoded: &[u8], out: &mut [u8]) -> Encoded
+    ensures { λ r. do
+      nodes ← ⟦Flat::MAX_NODES⟧ .entry
+      deep ← ⟦Flat::MAX_DEPTH⟧ .entry
+      w ← ⟦Encoding::ARGUMENT_BYTES⟧ .entry
+      let formed = formOf form «allow_unknown» (decoding w nodes deep (now (encoded .entry)))
+      let fitting = fittingBytes w (length (now (out .entry))) formed
+      ⌜ Encodes w fitting (now (out .entry)) (now (out .exit)) r ⌝ }
+{
+    if encoded::node_count(encoded) <= Encoding::FEW {
+        let mut args = [0u64; Encoding::FEW];
+        let mut kinds = [0u8; Encoding::FEW];
+        let mut new = [0u64; Encoding::FEW];
+        return form_in(form, allow_unknown, encoded, &mut args, &mut kinds, &mut new, out);
+    }
+    let mut args = [0u64; Flat::MAX_NODES];
+    let mut kinds = [0u8; Flat::MAX_NODES];
+    let mut new = [0u64; Flat::MAX_NODES];
+    form_in(form, allow_unknown, encoded, &mut args, &mut kinds, &mut new, out)
+}
+
 // Encodes the type in the given form to the front of out: refusals 1 to 5, 7 where an `Unknown(Any)` is not allowed, then 8.
 fn form_of(form: Form, allow_unknown: bool, encoded: &[u8], out: &mut [u8]) -> Encoded
     ensures { λ r. do
@@ -238,32 +260,7 @@ fn form_of(form: Form, allow_unknown: bool, encoded: &[u8], out: &mut [u8]) -> E
         }
         return put_plain(form, encoded[2], out);
     }
-    if encoded::node_count(encoded) <= Encoding::FEW {
-        let mut args = [0u64; Encoding::FEW];
-        let mut kinds = [0u8; Encoding::FEW];
-        let mut new = [0u64; Encoding::FEW];
-        return form_in(
-            form,
-            allow_unknown,
-            encoded,
-            &mut args,
-            &mut kinds,
-            &mut new,
-            out,
-        );
-    }
-    let mut args = [0u64; Flat::MAX_NODES];
-    let mut kinds = [0u8; Flat::MAX_NODES];
-    let mut new = [0u64; Flat::MAX_NODES];
-    form_in(
-        form,
-        allow_unknown,
-        encoded,
-        &mut args,
-        &mut kinds,
-        &mut new,
-        out,
-    )
+    form_nodes(form, allow_unknown, &encoded[0..], out)
 }
 
 // The type with each unknown type made known: refusals 1 to 5, 7, then 8.
@@ -276,7 +273,7 @@ pub fn materialize_unknown(encoded: &[u8], allow_unknown: bool, out: &mut [u8]) 
       let fitting = fittingBytes w (length (now (out .entry))) known
       ⌜ Encodes w fitting (now (out .entry)) (now (out .exit)) r ⌝ }
 {
-    form_of(Form::Materialized, allow_unknown, encoded, out)
+    form_of(Form::Materialized, allow_unknown, &encoded[0..], out)
 }
 
 // Its physical form: refusals 1 to 5, then 8. An `Unknown(Any)` is no reason to refuse it.
@@ -289,5 +286,5 @@ pub fn to_physical(encoded: &[u8], out: &mut [u8]) -> Encoded
       let fitting = fittingBytes w (length (now (out .entry))) stored
       ⌜ Encodes w fitting (now (out .entry)) (now (out .exit)) r ⌝ }
 {
-    form_of(Form::Physical, true, encoded, out)
+    form_of(Form::Physical, true, &encoded[0..], out)
 }
