@@ -10,6 +10,7 @@ use lib.IntN.{ℤ, pos}
 use borrow.Author.Tests.{eqb-true}
 use Rattle.flat.specs.Kind.{UInt64, UInt128, Int8, Int16, Int32, Int64, Int128, Float64}
 use Rattle.flat.proofs.Rules.{and-left, and-right}
+use Rattle.flat.proofs.Truths.{never, to-T}
 use Rattle.dtype.specs.Match.{among}
 use Rattle.dtype.specs.Predicate.{isSignedInteger}
 use Rattle.supertype_answer.specs.Join.{Some, node}
@@ -18,7 +19,6 @@ use Rattle.supertype_numbers.proofs.Tests.{to-listed}
 use Rattle.supertype_lossless.specs.Lossless.{upcastOf}
 use Rattle.supertype_lossless.specs.declared.upcast.Upcast.the-variants.{To}
 use Rattle.supertype_arms.specs.Supertype.{supertype}
-use Rattle.supertype_arms.proofs.Answers.{to-T}
 use Rattle.supertype_report.specs.Laws.{uint128WithSigned, uint64WithSigned, Logged, left, right, MadeOne, NumberLaws}
 use Rattle.supertype_report.proofs.Rounding.{merged}
 use Rattle.supertype_report.proofs.Pairs.{joined, is-joined, Answered, float64, integral, answered, told}
@@ -103,7 +103,7 @@ module _ (i s : Bool) (a b : ℕ) (p : Listed a) (q : Listed b) where
 
       back : Answered a b (joined a b) → uint64WithSigned a b ≡ true → supertype i s (node a 0) (node b 0) ≡ Some (node Float64 0)
       back (float64 d f u x y) e = is-joined a b p q i s ∙ ap (λ (t : ℕ). Some (node t 0)) f
-      back (integral d l k) e = absurd (subst T (sym e ∙ d) tt)
+      back (integral d l k) e = never (sym d ∙ e)
 
 uint128 : (i s : Bool) (a b : ℕ) → uint128WithSigned a b ≡ true → supertype i s (node a 0) (node b 0) ≡ Some (node Int128 0)
 unfolding joined
@@ -114,7 +114,7 @@ avoidable a b e = let l = uint64-listed a b e in go (answered a b (l .0) (l .1))
   where
     go : {t : ℕ} → Answered a b t → (upcastOf a b ≡ To Int128) × Includes Int128 a × Includes Int128 b
     go (float64 d f u x y) = (u, x, y)
-    go (integral d l k) = absurd (subst T (sym e ∙ d) tt)
+    go (integral d l k) = never (sym d ∙ e)
 
 merges : (a b : ℕ) → uint64WithSigned a b ≡ true → MadeOne a b
 unfolding isSignedInteger among
