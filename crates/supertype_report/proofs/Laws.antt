@@ -19,7 +19,7 @@ use Rattle.supertype_numbers.proofs.Tests.{to-listed}
 use Rattle.supertype_lossless.specs.Lossless.{upcastOf}
 use Rattle.supertype_lossless.specs.declared.upcast.Upcast.the-variants.{To}
 use Rattle.supertype_arms.specs.Supertype.{supertype}
-use Rattle.supertype_report.specs.Laws.{uint128WithSigned, uint64WithSigned, Logged, left, right, MadeOne, NumberLaws}
+use Rattle.supertype_report.specs.Laws.{uint128WithSigned, signedTo64, uint64WithSigned, Logged, left, right, MadeOne, NumberLaws}
 use Rattle.supertype_report.proofs.Rounding.{merged}
 use Rattle.supertype_report.proofs.Pairs.{joined, is-joined, Answered, float64, integral, answered, told}
 
@@ -58,9 +58,9 @@ uint128-listed : (a b : ℕ) → uint128WithSigned a b ≡ true → Listed a × 
 unfolding isListed uint128WithSigned isSignedInteger
 uint128-listed a b e = both-listed (omega arith) tt (one-is UInt128 (Int8 ∷ Int16 ∷ Int32 ∷ Int64 ∷ Int128 ∷ []) a b (to-T e))
 
-uint64-is : (a b : ℕ) → uint64WithSigned a b ≡ true → OneIs UInt64 (Int8 ∷ Int16 ∷ Int32 ∷ Int64 ∷ []) a b
+uint64-is : (a b : ℕ) → uint64WithSigned a b ≡ true → OneIs UInt64 signedTo64 a b
 unfolding uint64WithSigned
-uint64-is a b e = one-is UInt64 (Int8 ∷ Int16 ∷ Int32 ∷ Int64 ∷ []) a b (to-T e)
+uint64-is a b e = one-is UInt64 signedTo64 a b (to-T e)
 
 uint64-listed : (a b : ℕ) → uint64WithSigned a b ≡ true → Listed a × Listed b
 unfolding isListed
@@ -70,7 +70,7 @@ uint64-listed a b e = both-listed (omega arith) tt (uint64-is a b e)
 pub uint64-logged : (a b : ℕ) → uint64WithSigned a b ≡ true → (z : ℤ) → Holds UInt64 z → Logged a b z
 uint64-logged a b e z h = go (uint64-is a b e)
   where
-    go : OneIs UInt64 (Int8 ∷ Int16 ∷ Int32 ∷ Int64 ∷ []) a b → Logged a b z
+    go : OneIs UInt64 signedTo64 a b → Logged a b z
     go (first f m) = left (subst (λ (k : ℕ). Holds k z) (sym f) h)
     go (second m f) = right (subst (λ (k : ℕ). Holds k z) (sym f) h)
 

@@ -4,10 +4,11 @@ use mathlib.Core.Bool.{Bool, true, false, cond, not, _&&_, _||_}
 use mathlib.Core.Logic.{_↔_}
 use Prim.Native.Nat.{ℕ, _<_}
 use native.Mathlib.Omega.{arith}
-use borrow.Author.Tests.{lt-leb}
+use borrow.Author.Tests.{lt-leb, not-true}
 use lib.Dec.{T, leb, eqb, eqb→eq}
 use Rattle.flat.specs.Kind.{Int128, Float64}
 use Rattle.flat.proofs.Rules.{and-left, and-right, and-both, or-right}
+use Rattle.flat.proofs.Truths.{is-true}
 use Rattle.dtype.specs.Predicate.{isNested}
 use Rattle.dtype.specs.Equality.{equalNode}
 use Rattle.dtype.proofs.Runs.{same, are-same}
@@ -23,10 +24,6 @@ use Rattle.supertype_arms.specs.Rule.{ruleOf, skip, Apart, Settles}
 use Rattle.supertype_arms.specs.Supertype.{run, inner, supertypeWith, knownSupertype, supertype}
 use Rattle.supertype_arms.proofs.Areas.{alike, alike-eq, right-at}
 use Rattle.supertype_report.specs.Laws.{uint128WithSigned, uint64WithSigned}
-
-not-true : (x : Bool) → T (not x) → x ≡ false
-not-true true h = absurd h
-not-true false h = refl
 
 abbrev kindOf : Upcast → ℕ
 kindOf (To k) = k
@@ -62,12 +59,13 @@ joined-hold = tt
 
 -- ---- what it keeps
 
--- t is the kind of the supertype: Float64, although Int128 includes both ranges, or an integer type, which includes them unless UInt128 meets a signed type
+-- t is the kind of the supertype: Float64, although Int128 includes both ranges, or an integer type, which includes them
+-- unless UInt128 meets a signed type
 pub data Answered (a b t : ℕ) : Type 0 where
   float64 : uint64WithSigned a b ≡ true → t ≡ Float64 → upcastOf a b ≡ To Int128 → Includes Int128 a → Includes Int128 b → Answered a b t
   integral : uint64WithSigned a b ≡ false → Listed t → (Includes t a × Includes t b) ↔ (uint128WithSigned a b ≡ false) → Answered a b t
 
--- the same as tests
+-- the two cases as tests
 abbrev isFloat : ℕ → ℕ → ℕ → Bool
 isFloat a b t = eqb t Float64 && (eqb (kindOf (upcastOf a b)) Int128 && (inside Int128 a && inside Int128 b))
 
@@ -108,7 +106,9 @@ module _ (a b : ℕ) (p : Listed a) (q : Listed b) where
       alike = are-same _ _ (and-right (isListed t) _ u)
 
       there : Includes t a × Includes t b → uint128WithSigned a b ≡ false
-      there h = not-true _ (subst T alike (and-both (inside t a) _ (includes t a l p .0 (h .0)) (includes t b l q .0 (h .1))))
+      there h =
+          let both = and-both (inside t a) _ (includes t a l p .0 (h .0)) (includes t b l q .0 (h .1)) in
+          not-true _ (is-true _ (subst T alike both))
 
       back : uint128WithSigned a b ≡ false → Includes t a × Includes t b
       back f =
@@ -132,7 +132,7 @@ module _ (a b : ℕ) (p : Listed a) (q : Listed b) where
 
 -- ---- it is the code's
 
--- of two kinds in order, the plan's, and the same in either order
+-- the kind of the supertype of two kinds in order is the plan's, and it is one in either order
 unfoldable ordered-at : ℕ → ℕ → Bool
 unfolding joined skip
 ordered-at a b = leb b a || (not (skip a b) && (alike (Kind (joined a b)) (ruleOf false a b) && eqb (joined b a) (joined a b)))
@@ -147,7 +147,7 @@ module _ (a b : ℕ) (p : Listed a) (q : Listed b) (h : a < b) where
   ordered = or-right _ (lt-leb b a h) (at-pair ordered-at ordered-hold a b p q)
 
   pub apart : Apart a b
-  apart = record { in-order = omega arith; in-range = omega arith; two = not-true _ (and-left (not (skip a b)) _ ordered) }
+  apart = record { in-order = omega arith; in-range = omega arith; two = not-true _ (is-true _ (and-left (not (skip a b)) _ ordered)) }
 
   either-way : joined b a ≡ joined a b
   either-way = eqb→eq (joined b a) (joined a b) (and-right (alike (Kind (joined a b)) (ruleOf false a b)) _ (and-right (not (skip a b)) _ ordered))

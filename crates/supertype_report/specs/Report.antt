@@ -36,8 +36,8 @@ abbrev pub byUpcast : Upcast → Report
 byUpcast (To k) = Report.Avoidable
 byUpcast Nothing = Report.Unavoidable
 
--- the report on two kinds: where UInt64 or UInt128 meets a signed type that is no wider the supertype loses numbers, and
--- the lossless upcast tells whether an integer type keeps them
+-- the report on two kinds: where UInt64 or UInt128 meets a signed type that is no wider the supertype loses numbers,
+-- and the lossless upcast tells whether an integer type keeps them
 unfoldable pub reportOf : ℕ → ℕ → Report
 reportOf a b =
     cond (isListed a && isListed b)
