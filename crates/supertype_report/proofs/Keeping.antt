@@ -46,7 +46,8 @@ not-double w = go (w .m) (w .q) (w .finite .significand) (w .is)
   where
     go : (m q : ℕ) → m < 2 ^ 53 → 2 ^ 53 + 1 ≡ m * 2 ^ q → ⊥
     go m zero l e = omega arith
-    go m (suc q) l e = let f : m * 2 ^ suc q ≡ 2 * (m * 2 ^ q) = rw (pow-succ' 2 q) (mul-left-comm m 2 (2 ^ q)) in omega arith
+    go m (suc q) l e =
+        let f : m * 2 ^ suc q ≡ 2 * (m * 2 ^ q) = rw (pow-succ' 2 q) (mul-left-comm m 2 (2 ^ q)) in omega arith
 
 not-float64 : Has Float64 odd → ⊥
 unfolding formatOf
@@ -100,11 +101,13 @@ module _ {a b : ℕ} (l : Listed a × Listed b) (lost : Kept a b → ⊥) where
   -- of one type with itself nothing is lost
   differ : a ≡ b → ⊥
   differ e =
-      lost (keeps (record { integers = l; is = of-equal l e }) (λ z h. h) (λ z h. subst (λ (k : ℕ). Holds k z) (sym e) h))
+      lost (keeps (record { integers = l; is = of-equal l e }) (λ z h. h)
+      (λ z h. subst (λ (k : ℕ). Holds k z) (sym e) h))
 
   pub lossy : Says a b (byUpcast (upcastOf a b))
   lossy = go (upcastOf a b) refl
     where
       go : (u : Upcast) → upcastOf a b ≡ u → Says a b (byUpcast u)
-      go (To k) e = let m = lossless-laws .least a b (l .0) (l .1) differ k .0 e in (l, lost, (k, m .is-listed, m .covers))
+      go (To k) e =
+          let m = lossless-laws .least a b (l .0) (l .1) differ k .0 e in (l, lost, (k, m .is-listed, m .covers))
       go Nothing e = (l, lost, lossless-laws .none a b (l .0) (l .1) differ .0 e)

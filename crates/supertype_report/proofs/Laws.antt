@@ -19,7 +19,8 @@ use Rattle.supertype_numbers.proofs.Tests.{to-listed}
 use Rattle.supertype_lossless.specs.Lossless.{upcastOf}
 use Rattle.supertype_lossless.specs.declared.upcast.Upcast.the-variants.{To}
 use Rattle.supertype_arms.specs.Supertype.{supertype}
-use Rattle.supertype_report.specs.Laws.{uint128WithSigned, signedTo64, uint64WithSigned, Logged, left, right, MadeOne, NumberLaws}
+use Rattle.supertype_report.specs.Laws.{uint128WithSigned, signedTo64, uint64WithSigned, Logged, left, right}
+use Rattle.supertype_report.specs.Laws.{MadeOne, NumberLaws}
 use Rattle.supertype_report.proofs.Rounding.{merged}
 use Rattle.supertype_report.proofs.Pairs.{joined, is-joined, Answered, float64, integral, answered, told}
 
@@ -56,7 +57,8 @@ both-listed {u} {js} {a} {b} l t (second m e) = (among-listed js t a m, subst Li
 
 uint128-listed : (a b : ℕ) → uint128WithSigned a b ≡ true → Listed a × Listed b
 unfolding isListed uint128WithSigned isSignedInteger
-uint128-listed a b e = both-listed (omega arith) tt (one-is UInt128 (Int8 ∷ Int16 ∷ Int32 ∷ Int64 ∷ Int128 ∷ []) a b (to-T e))
+uint128-listed a b e =
+    both-listed (omega arith) tt (one-is UInt128 (Int8 ∷ Int16 ∷ Int32 ∷ Int64 ∷ Int128 ∷ []) a b (to-T e))
 
 uint64-is : (a b : ℕ) → uint64WithSigned a b ≡ true → OneIs UInt64 signedTo64 a b
 unfolding uint64WithSigned
@@ -84,7 +86,8 @@ module _ (i s : Bool) (a b : ℕ) (p : Listed a) (q : Listed b) where
       go (float64 e f u x y) n = absurd (n f)
       go (integral e l k) n = l
 
-  integers : (t : ℕ) → Listed t → supertype i s (node a 0) (node b 0) ≡ Some (node t 0) → (Includes t a × Includes t b) ↔ (uint128WithSigned a b ≡ false)
+  integers : (t : ℕ) → Listed t → supertype i s (node a 0) (node b 0) ≡ Some (node t 0)
+      → (Includes t a × Includes t b) ↔ (uint128WithSigned a b ≡ false)
   integers t l e = go (told a b p q i s t e)
     where
       go : Answered a b t → (Includes t a × Includes t b) ↔ (uint128WithSigned a b ≡ false)
@@ -101,11 +104,13 @@ module _ (i s : Bool) (a b : ℕ) (p : Listed a) (q : Listed b) where
           go (float64 d f u x y) = d
           go (integral d l k) = absurd (omega arith)
 
-      back : Answered a b (joined a b) → uint64WithSigned a b ≡ true → supertype i s (node a 0) (node b 0) ≡ Some (node Float64 0)
+      back : Answered a b (joined a b) → uint64WithSigned a b ≡ true
+          → supertype i s (node a 0) (node b 0) ≡ Some (node Float64 0)
       back (float64 d f u x y) e = is-joined a b p q i s ∙ ap (λ (t : ℕ). Some (node t 0)) f
       back (integral d l k) e = never (sym d ∙ e)
 
-uint128 : (i s : Bool) (a b : ℕ) → uint128WithSigned a b ≡ true → supertype i s (node a 0) (node b 0) ≡ Some (node Int128 0)
+uint128 : (i s : Bool) (a b : ℕ) → uint128WithSigned a b ≡ true
+    → supertype i s (node a 0) (node b 0) ≡ Some (node Int128 0)
 unfolding joined
 uint128 i s a b e = let l = uint128-listed a b e in is-joined a b (l .0) (l .1) i s ∙ rw e
 

@@ -11,7 +11,8 @@ use Rattle.supertype_report.proofs.report_integers.Statement.{statement
 use Rattle.supertype_report.proofs.report_integers.Tie as tie
 
 -- the kind of the supertype
-joined : (c : tie.After-integer-supertype) → OfKind (c .before .args .a) (c .before .args .b) (c .integer-supertype .result)
+joined : (c : tie.After-integer-supertype)
+    → OfKind (c .before .args .a) (c .before .args .b) (c .integer-supertype .result)
 joined c = record { integers = c .before .pre; is = c .integer-supertype .ensures }
 
 includes-requires : tie.Need-includes-requires
@@ -24,7 +25,8 @@ returns : tie.Need-returns
 returns c =
     let at = c .before .before .before in
     let w = joined (at .before .before) in
-    report-laws .only _ _ _ (w .integers, keeps w (at .includes .ensures .0 (cc)) (c .before .includes2 .ensures .0 (cc)))
+    report-laws .only _ _ _
+    (w .integers, keeps w (at .includes .ensures .0 (cc)) (c .before .includes2 .ensures .0 (cc)))
 
 -- where the ways meet that don't return
 lost : (j : tie.Joined1) → let a = j .before .before .args in Kept (a .a) (a .b) → ⊥
