@@ -9,16 +9,16 @@ use lib.Dec.{T, leb, eqb, eqb→eq}
 use Rattle.flat.specs.Kind.{Int128, Float64}
 use Rattle.flat.proofs.Rules.{and-left, and-right, and-both, or-right}
 use Rattle.flat.proofs.Truths.{is-true}
-use Rattle.dtype.specs.Predicate.{isNested}
 use Rattle.dtype.specs.Equality.{equalNode}
 use Rattle.dtype.proofs.Runs.{same, are-same}
 use Rattle.supertype_answer.specs.Join.{Node, Supertype, Some, Nothing, node}
 use Rattle.supertype_numbers.specs.Range.{Listed, isListed, Includes}
 use Rattle.supertype_numbers.proofs.Tests.{to-listed, at, pairs, at-pair}
 use Rattle.supertype_numbers.proofs.Ranges.{inside, includes}
-use Rattle.supertype_lossless.specs.Lossless.{upcastBy, floats, signed, unsigned, mixed, upcastWhere, upcastOf}
+use Rattle.supertype_lossless.specs.Lossless.{upcastOf}
 use Rattle.supertype_lossless.specs.declared.upcast.Upcast.{Upcast}
 use Rattle.supertype_lossless.specs.declared.upcast.Upcast.the-variants.{To, Nothing as NoUpcast}
+use Rattle.supertype_lossless.proofs.Upcasts.{right as upcasts}
 use Rattle.supertype_arms.specs.declared.plan.Plan.the-variants.{Kind}
 use Rattle.supertype_arms.specs.Rule.{ruleOf, skip, Apart, Settles}
 use Rattle.supertype_arms.specs.Supertype.{run, inner, supertypeWith, knownSupertype, supertype}
@@ -35,7 +35,7 @@ is-int128 NoUpcast t = absurd t
 
 -- the kind of the supertype: that of the lossless upcast, save where UInt128 or UInt64 meets a signed type
 unfoldable pub joined : ℕ → ℕ → ℕ
-unfolding right-at isNested uint128WithSigned uint64WithSigned upcastOf upcastWhere upcastBy floats signed unsigned mixed
+unfolding right-at upcasts uint128WithSigned uint64WithSigned
 joined a b =
     cond (uint128WithSigned a b) Int128 (cond (uint64WithSigned a b) Float64 (cond (eqb a b) a (kindOf (upcastOf a b))))
 
