@@ -72,7 +72,8 @@ only {s} {l} {r} {p} w q t =
     or-right (q (l .kind) (r .kind)) (ap not same-plan) (at-apart (among-kinds p q) t s (l .kind) (r .kind) (w .apart))
 
 -- both kinds, where the plan is that of one pair
-pair : {s : Bool} {l r : Node} {p : Plan} → Planned s l r p → (a b : ℕ) → T (everywhere (among-kinds p (λ i j. eqb i a && eqb j b)))
+pair : {s : Bool} {l r : Node} {p : Plan} → Planned s l r p → (a b : ℕ)
+    → T (everywhere (among-kinds p (λ i j. eqb i a && eqb j b)))
     → (l .kind ≡ a) × (r .kind ≡ b)
 pair {s} {l} {r} w a b t =
     let u = only w (λ i j. eqb i a && eqb j b) t in
@@ -127,7 +128,8 @@ module _ {s : Bool} {l r : Node} where
       let k = pair w Kind.Datetime Kind.Duration (unfold everywhere in tt) in
       let f = unit-of-datetime l (w .fits-left) (k .0) in
       let g = unit-of-duration r (w .fits-right) (k .1) in
-      by-plan (Some (node Kind.Datetime m)) w (rw (h, eq-eqb (l .kind) Kind.Datetime (k .0), larger-unit l r f (omega arith)))
+      by-plan (Some (node Kind.Datetime m)) w
+      (rw (h, eq-eqb (l .kind) Kind.Datetime (k .0), larger-unit l r f (omega arith)))
 
   pub one-zone : {m : ℕ} → Planned s l r plan.Datetimes → l .arg / 4 ≡ r .arg / 4
       → m ≡ 4 * (r .arg / 4) + max (r .arg % 4) (l .arg % 4) → Common.Some Kind.Datetime m ≡ given s l r
@@ -137,7 +139,13 @@ module _ {s : Bool} {l r : Node} where
       let f = unit-of-datetime l (w .fits-left) (k .0) in
       let g = unit-of-datetime r (w .fits-right) (k .1) in
       by-plan (Some (node Kind.Datetime m)) w
-      (rw (h, zones (zone l) (zone r), eq-eqb (zone l) (zone r) z, larger-unit l r f g, max-comm (r .arg % 4) (l .arg % 4)))
+      (rw (
+        h,
+        zones (zone l) (zone r),
+        eq-eqb (zone l) (zone r) z,
+        larger-unit l r f g,
+        max-comm (r .arg % 4) (l .arg % 4),
+      ))
 
   pub two-zones : Planned s l r plan.Datetimes → (l .arg / 4 ≡ r .arg / 4 → ⊥) → Common.Nothing ≡ given s l r
   unfolding run
@@ -169,11 +177,14 @@ module _ {s : Bool} {l r : Node} where
       (rw (sym (of-run isUnknownInt false 0 26 (unfold says in tt) (l .kind) (omega arith)))
       (h ∙ ap (λ (n : Node). dynNumber knownSupertype n (value r)) (bare l (w .fits-left) (omega arith))))
 
-  pub boolean : {k : ℕ} → Planned s l r plan.DynBoolean → k ≡ materializeDynInt (value r) → Common.Some k 0 ≡ given s l r
+  pub boolean : {k : ℕ} → Planned s l r plan.DynBoolean → k ≡ materializeDynInt (value r)
+      → Common.Some k 0 ≡ given s l r
   unfolding run
   boolean {k} w h =
       let one : l .kind ≡ Kind.Boolean = eqb→eq _ _ (only w (λ a b. eqb a Kind.Boolean) (unfold everywhere in tt)) in
-      let t : Listed k = to-listed k (rw h (dyn-int-of isListed (unfold isListed in tt) (unfold isListed in tt) (value r))) in
+      let t : Listed k = to-listed k
+      (rw h (dyn-int-of isListed (unfold isListed in tt) (unfold isListed in tt) (value r))) in
       by-plan (Some (node k 0)) w
       (rw (← h) (known-boolean k (t .0) (t .1)
-      ∙ ap (λ (n : Node). knownSupertype n (node k 0)) ((λ i. node (sym one i) 0) ∙ bare l (w .fits-left) (omega arith))))
+      ∙ ap (λ (n : Node). knownSupertype n (node k 0))
+      ((λ i. node (sym one i) 0) ∙ bare l (w .fits-left) (omega arith))))

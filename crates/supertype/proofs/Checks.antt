@@ -32,7 +32,8 @@ use Rattle.supertype.specs.Pair.{decimalWithInteger, pairChecked, afterC
 module _ (k l : ℕ) where
   pub decimal-left : k ≡ Kind.Decimal → isListed l ≡ decimalWithInteger k l
   unfolding decimalWithInteger
-  decimal-left e = rw (e, sym (of-run isListed false 12 244 (unfold says isListed in tt) Kind.Decimal (omega arith)), or-false)
+  decimal-left e =
+      rw (e, sym (of-run isListed false 12 244 (unfold says isListed in tt) Kind.Decimal (omega arith)), or-false)
 
   pub decimal-right : (k ≡ Kind.Decimal → ⊥) → l ≡ Kind.Decimal → isListed k ≡ decimalWithInteger k l
   unfolding decimalWithInteger
@@ -65,7 +66,8 @@ unfolding pairChecked
 none-nested k l = go (isNested k) (isNested l) (decimalWithInteger k l)
   where
     go : (a b d : Bool)
-        → checked.Valid ≡ cond (a || b) (checked.Refused Nested) (cond d (checked.Refused DecimalWithInteger) checked.Valid)
+        → checked.Valid
+        ≡ cond (a || b) (checked.Refused Nested) (cond d (checked.Refused DecimalWithInteger) checked.Valid)
         → (a ≡ false) × (b ≡ false)
     go true b d e = impossible cc
     go false true d e = impossible cc
@@ -78,7 +80,8 @@ root-fits : (n : Node) → RootFits (Root.Node (n .kind) (n .arg)) → isNested 
 unfolding fits
 root-fits n h e = go (decLe (n .kind) Kind.UnknownIntNeg)
   where
-    go : Dec (n .kind ≤ Kind.UnknownIntNeg) → (leb (n .kind) Kind.UnknownIntNeg && argumentFits (n .kind) (n .arg)) ≡ true
+    go : Dec (n .kind ≤ Kind.UnknownIntNeg)
+        → (leb (n .kind) Kind.UnknownIntNeg && argumentFits (n .kind) (n .arg)) ≡ true
     go (yes l) = rw (le-leb (n .kind) Kind.UnknownIntNeg l) (h .1)
     go (no m) = never (sym (of-run isNested true Kind.List 3 (unfold says in tt) (n .kind) (omega (arith, h .0)) ∙ e))
 
@@ -95,14 +98,18 @@ module _ (l r : Node) where
     unfolding rootSupertype
     pair-refused e p = rw (← p)
 
-    pub pair-joined : (c : Common) → checked.Valid ≡ pairChecked (l .kind) (r .kind) → c ≡ commonOf (supertype false s l r)
+    pub pair-joined : (c : Common) → checked.Valid ≡ pairChecked (l .kind) (r .kind)
+        → c ≡ commonOf (supertype false s l r)
         → foundCommon c ≡ rootSupertype false s l r
     unfolding rootSupertype
     pair-joined c p e = rw (← p) (ap foundCommon e ∙ found-common (supertype false s l r))
 
 -- what is found of the roots of two readings; the implode flag has no part in it
-pub joined : (i s : Bool) (left right : Reading) {found : Option Reading} {l r : Root} → l ≡ rootOf left → r ≡ rootOf right → found ≡ joiningRoots (rootSupertype false s) l r → found ≡ joining (supertypeOf i s) left right
+pub joined : (i s : Bool) (left right : Reading) {found : Option Reading} {l r : Root} → l ≡ rootOf left
+    → r ≡ rootOf right → found ≡ joiningRoots (rootSupertype false s) l r → found ≡ joining (supertypeOf i s) left right
 unfolding supertypeOf rootSupertype
 joined i s left right p q e =
     e ∙ ap₂ (joiningRoots (rootSupertype false s)) p q ∙ sym (joining-roots (rootSupertype false s) left right)
-    ∙ (λ j. joining (λ t u. afterCheck (pairChecked (headKind t) (headKind u)) (foundOf (supertype-laws .implode false i s (rootNode t) (rootNode u) j))) left right)
+    ∙ (λ j. joining
+    (λ t u. afterCheck (pairChecked (headKind t) (headKind u))
+    (foundOf (supertype-laws .implode false i s (rootNode t) (rootNode u) j))) left right)

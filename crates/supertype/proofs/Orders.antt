@@ -57,5 +57,8 @@ module _ (i s : Bool) {l r : Node} (w : Different l r) where
   pub any-string : l .kind ≡ Kind.UnknownAny → r .kind ≡ Kind.String → Some (node Kind.String 0) ≡ supertype i s l r
   any-string e f = first-try Kind.String (rw (e, f) (any-string-plan s))
 
-  pub dyn-str : Kind.UnknownStr < l .kind → r .kind ≡ Kind.UnknownStr → Some (node Kind.UnknownAny 0) ≡ supertype i s l r
-  dyn-str h f = first-try Kind.UnknownAny (rw f (dyn-str-plan s (l .kind) (omega arith) (omega (arith, in-range l (w .fits-left)))))
+  pub dyn-str : Kind.UnknownStr < l .kind → r .kind ≡ Kind.UnknownStr
+      → Some (node Kind.UnknownAny 0) ≡ supertype i s l r
+  dyn-str h f =
+      first-try Kind.UnknownAny
+      (rw f (dyn-str-plan s (l .kind) (omega arith) (omega (arith, in-range l (w .fits-left)))))

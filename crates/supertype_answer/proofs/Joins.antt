@@ -31,7 +31,8 @@ module _ {A : Type 0} (refusal : Error → A) (rule : DataType → DataType → 
   left-refused right h = sym (pairs.left-refused _ _ _ _ (ap rootReading h))
 
   module _ {l r : Root} {k a : ℕ} (left : l ≡ Root.Node k a) where
-    pub right-refused : {e : Error} → r ≡ Root.Refused e → refusal e ≡ bothOf refusal rule (rootReading l) (rootReading r)
+    pub right-refused : {e : Error} → r ≡ Root.Refused e
+        → refusal e ≡ bothOf refusal rule (rootReading l) (rootReading r)
     right-refused h = sym (pairs.right-refused _ _ _ _ (ap rootReading left) (ap rootReading h))
 
     pub both-roots : {m b : ℕ} → r ≡ Root.Node m b

@@ -45,7 +45,9 @@ module _ (l r : ℕ) (p : Listed l) (q : Listed r) where
   is-least t e = record {
     is-listed = h;
     covers = (includes t l h p .1 (and-left (inside t l) _ o), (includes t r h q .1 (and-right (inside t l) _ o), tt));
-    innermost = λ u i c. includes u t i h .1 (implies (over l r u) _ (at (λ u. not (over l r u) || inside u t) m u i) (covered u i c));
+    innermost =
+        λ u i c. includes u t i h .1
+        (implies (over l r u) _ (at (λ u. not (over l r u) || inside u t) m u i) (covered u i c));
   }
     where
       h : Listed t
@@ -90,7 +92,8 @@ module _ (l r : ℕ) (p : Listed l) (q : Listed r) where
 abbrev wider : Format → Format → Bool
 wider h f =
     leb (f .precision) (h .precision)
-    && (leb (f .emax + f .precision) (h .emax + h .precision) && leb (f .emax + 1 - f .precision) (h .emax + 1 - h .precision))
+    && (leb (f .emax + f .precision) (h .emax + h .precision)
+    && leb (f .emax + 1 - f .precision) (h .emax + 1 - h .precision))
 
 is-wider : (h f : Format) → T (wider h f) → FormatIncludes h f
 is-wider h f t =
@@ -109,7 +112,8 @@ ofUpcast (To t) p = ofFormat (formatOf t) p
 ofUpcast Nothing p = false
 
 abbrev kept : ℕ → ℕ → Bool
-kept l r = ofFormat (formatOf l) (λ f. ofFormat (formatOf r) (λ g. ofUpcast (upcastOf l r) (λ h. wider h f && wider h g)))
+kept l r =
+    ofFormat (formatOf l) (λ f. ofFormat (formatOf r) (λ g. ofUpcast (upcastOf l r) (λ h. wider h f && wider h g)))
 
 tested-floats : T (area (apart kept) Kind.Float16 3 Kind.Float16 3)
 unfolding formatOf right-kinds
@@ -120,7 +124,8 @@ unfolding formatOf
 is-float k f = go (eqb k Kind.Float16) (eqb k Kind.Float32) (eqb k Kind.Float64) _ _ _ refl refl refl
   where
     go : (a b c : Bool) (x y z : Format) → eqb k Kind.Float16 ≡ a → eqb k Kind.Float32 ≡ b → eqb k Kind.Float64 ≡ c
-        → cond a (some x) (cond b (some y) (cond c (some z) none)) ≡ some f → (Kind.Float16 ≤ k) × (k < Kind.Float16 + 3)
+        → cond a (some x) (cond b (some y) (cond c (some z) none)) ≡ some f
+        → (Kind.Float16 ≤ k) × (k < Kind.Float16 + 3)
     go true b c x y z p q r e = omega (arith, eqb-true)
     go false true c x y z p q r e = omega (arith, eqb-true)
     go false false true x y z p q r e = omega (arith, eqb-true)
@@ -129,7 +134,8 @@ is-float k f = go (eqb k Kind.Float16) (eqb k Kind.Float32) (eqb k Kind.Float64)
 module _ (l r : ℕ) (f g : Format) (p : formatOf l ≡ some f) (q : formatOf r ≡ some g) (d : l ≡ r → ⊥) where
   -- the upcast has a format that includes both
   abbrev Wide : Type 0
-  Wide = (t : ℕ) × (h : Format) × (upcastOf l r ≡ To t) × (formatOf t ≡ some h) × FormatIncludes h f × FormatIncludes h g
+  Wide =
+      (t : ℕ) × (h : Format) × (upcastOf l r ≡ To t) × (formatOf t ≡ some h) × FormatIncludes h f × FormatIncludes h g
 
   has-both : Wide
   has-both =

@@ -1,5 +1,5 @@
--- The upcast of two types rests on the kinds at their roots: a type of a class of numbers is a leaf with the argument 0.
--- Assumes nothing.
+-- The upcast of two types rests on the kinds at their roots: a type of a class of numbers is a leaf with the argument
+-- 0. Assumes nothing.
 use mathlib.Core.Path.{_≡_, refl, sym, ap, ap₂, subst, _∙_}
 use mathlib.Core.Bool.{Bool, true, false, not, _&&_, _||_}
 use mathlib.Core.Option.{Option}
@@ -21,7 +21,8 @@ use Rattle.dtype.specs.Predicate.{isFloat, isUnknownInt, isSignedInteger, isUns
 use Rattle.dtype.specs.Equality.{equal, equalNode}
 use Rattle.dtype.proofs.Runs.{says, of-run}
 use Rattle.supertype_answer.specs.Join.{joining, joiningRoots}
-use Rattle.supertype_lossless.specs.Lossless.{upcastWhere, upcastOf, lossless, foundUpcast, rootUpcast, losslessOf}
+use Rattle.supertype_lossless.specs.Lossless.{upcastWhere, upcastOf, lossless, foundUpcast, rootUpcast}
+use Rattle.supertype_lossless.specs.Lossless.{losslessOf}
 use Rattle.supertype_lossless.proofs.Upcasts.{other, other-none}
 
 -- a leaf's kind is in no class of numbers, or it has the argument 0 and is no Unknown int
@@ -37,7 +38,8 @@ unfolding argumentFits
 no-argument k a z e = eqb-true a 0 (zero-follows (argumentRule k) a z ∙ both-true (leb k Kind.Field) _ e .1)
 
 -- equal types of such a kind are those of one kind
-equal-kinds : (k : ℕ) → k ≤ Kind.UnknownIntNeg → T (plain k) → (u : DataType) → RootFits (Root.Node (headKind u) (headArg u))
+equal-kinds : (k : ℕ) → k ≤ Kind.UnknownIntNeg → T (plain k) → (u : DataType)
+    → RootFits (Root.Node (headKind u) (headArg u))
     → equal (leaf k 0) u ≡ eqb k (headKind u)
 unfolding equal equalNode headKind headArg
 equal-kinds k h t (leaf l b) v = go (isUnknownInt k) (and-right (isZero (argumentRule k)) _ t) (eqb k l) refl
@@ -68,7 +70,8 @@ low k h e = go (decLe k Kind.UnknownIntNeg)
     go (yes l) = l
     go (no n) = never (sym (nested k (omega arith) h ∙ e))
 
-by-kinds : (t u : DataType) → RootFits (Root.Node (headKind t) (headArg t)) → RootFits (Root.Node (headKind u) (headArg u))
+by-kinds : (t u : DataType) → RootFits (Root.Node (headKind t) (headArg t))
+    → RootFits (Root.Node (headKind u) (headArg u))
     → lossless t u ≡ upcastOf (headKind t) (headKind u)
 unfolding lossless upcastOf headKind headArg
 by-kinds (leaf k a) u p q = go (other k) refl (other-or-plain k (p .0))
@@ -91,7 +94,8 @@ by-roots (refused e) right p q = refl
 by-roots (type t) (refused e) p q = refl
 by-roots (type t) (type u) p q = ap foundUpcast (sym (by-kinds t u p q))
 
-pub joined : (left right : Reading) {found : Option Reading} {l r : Root} → (l ≡ rootOf left) × RootFits l → (r ≡ rootOf right) × RootFits r
+pub joined : (left right : Reading) {found : Option Reading} {l r : Root} → (l ≡ rootOf left) × RootFits l
+    → (r ≡ rootOf right) × RootFits r
     → found ≡ joiningRoots rootUpcast l r → found ≡ joining losslessOf left right
 joined left right p q e =
     e ∙ ap₂ (joiningRoots rootUpcast) (p .0) (q .0)

@@ -27,7 +27,7 @@ alike-eq (To j) Nothing t = absurd t
 alike-eq Nothing (To k) t = absurd t
 alike-eq Nothing Nothing t = refl
 
--- f is the upcast of two kinds
+-- f is the upcast of two kinds; unfolding `right` unfolds all that the upcast is computed by
 unfoldable pub right : (ℕ → ℕ → Upcast) → ℕ → ℕ → Bool
 unfolding upcastOf upcastWhere upcastBy floats signed unsigned mixed among isFloat isUnknownInt isSignedInteger isUnsignedInteger isInteger isNested isUnknown
 right f l r = alike (f l r) (upcastOf l r)

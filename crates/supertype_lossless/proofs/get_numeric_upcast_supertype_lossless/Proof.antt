@@ -10,7 +10,8 @@ returns c =
     let put = c .before .before .before .before in
     let roots = put .before .before .before in
     let left = roots .before .before .check-root .ensures in
-    rw (← joined (reading _ _ _ _) (reading _ _ _ _) left (roots .before .check-root2 .ensures) (roots .upcast-roots .ensures))
+    rw (← joined (reading _ _ _ _) (reading _ _ _ _) left (roots .before .check-root2 .ensures)
+    (roots .upcast-roots .ensures))
     (put .put .ensures)
 
 pub get-numeric-upcast-supertype-lossless-spec : {M : Type 1} → statement M

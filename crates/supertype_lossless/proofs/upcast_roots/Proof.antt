@@ -21,7 +21,8 @@ types : (c : tie.After-upcast-kinds)
 unfolding headKind rootUpcast
 types c =
     let right = c .before .before in
-    ap foundUpcast (c .upcast-kinds .ensures) ∙ both-roots _ _ (right .before .before .before .left2 .given .1) (right .right2 .given .1)
+    ap foundUpcast (c .upcast-kinds .ensures)
+    ∙ both-roots _ _ (right .before .before .before .left2 .given .1) (right .right2 .given .1)
 
 returns-3 : tie.Need-returns-3
 returns-3 c = ap foundUpcast (sym (c .before .t .given .1)) ∙ types (c .before .before .before)

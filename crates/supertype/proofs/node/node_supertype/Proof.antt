@@ -4,7 +4,8 @@ use native.Mathlib.Omega.{arith}
 use borrow.Author.Needs.{needs}
 use Rattle.supertype_answer.specs.Join.{node, commonOf}
 use Rattle.supertype.proofs.Numbers.{level-any, level}
-use Rattle.supertype.proofs.Orders.{Different, ready, ready-turned, equal, in-order, out-of-order, any-string, dyn-str}
+use Rattle.supertype.proofs.Orders.{Different, ready, ready-turned, equal, in-order, out-of-order, any-string}
+use Rattle.supertype.proofs.Orders.{dyn-str}
 use Rattle.supertype.proofs.node.node_supertype.Statement.{statement}
 use Rattle.supertype.proofs.node.node_supertype.Tie as tie
 
@@ -35,7 +36,9 @@ ordered-requires-2 c κs = ready-turned (differ (c .before .before .before .befo
 returns-5 : tie.Need-returns-5
 returns-5 c =
     c .ordered2 .ensures
-    ∙ ap commonOf (out-of-order _ _ (differ (c .before .before .before .before .before)) (omega arith) (level-any _ _ (omega arith) (omega arith)))
+    ∙ ap commonOf
+    (out-of-order _ _ (differ (c .before .before .before .before .before)) (omega arith)
+    (level-any _ _ (omega arith) (omega arith)))
 
 ordered-requires-3 : tie.Need-ordered-requires-3
 ordered-requires-3 c κs = ready-turned (differ (c .before .before .before)) (omega arith)
@@ -43,7 +46,9 @@ ordered-requires-3 c κs = ready-turned (differ (c .before .before .before)) (om
 returns-6 : tie.Need-returns-6
 returns-6 c =
     c .ordered3 .ensures
-    ∙ ap commonOf (out-of-order _ _ (differ (c .before .before .before .before)) (omega arith) (level _ _ (omega arith) (omega arith)))
+    ∙ ap commonOf
+    (out-of-order _ _ (differ (c .before .before .before .before)) (omega arith)
+    (level _ _ (omega arith) (omega arith)))
 
 pub node-supertype-spec : {M : Type 1} → statement M
 node-supertype-spec =
