@@ -93,11 +93,15 @@ module _ (t : ℕ) where
   node-span-returns-2 : Node-span node-span-lts.Need-returns-2 t
   node-span-returns-2 c = node-leaf (past (c .before .before .before)) (omega arith) (c .if2 .taken)
 
+  -- at a Struct
+  abbrev bottom-of : Node-span node-span-lts.Else2 t → Node-span node-span-lts.After-bottom t
+  bottom-of c = c .before .before .before
+
   node-span-field-span-requires : Node-span node-span-lts.Need-field-span-requires t
-  node-span-field-span-requires c κs = fields-call (past (c .before .before .before .before .before .before)) (c .before .before .before .if2 .left)
+  node-span-field-span-requires c κs = fields-call (past (bottom-of (c .before .before .before))) (c .before .before .before .if2 .left)
 
   -- after the walk of the fields
-  fields-said : (c : Node-span node-span-lts.After-field-span t) → FieldsSaid (past (c .before .before .before .before .before .before .before)) (c .field-span .result)
+  fields-said : (c : Node-span node-span-lts.After-field-span t) → FieldsSaid (past (bottom-of (c .before .before .before .before))) (c .field-span .result)
   fields-said c = record { shallow = omega arith; struct = c .before .before .before .before .if2 .left; says = c .field-span .ensures }
 
   node-span-add-t28 : Node-span node-span-lts.Need-add-t28 t
@@ -127,10 +131,11 @@ pub +field-span+node-span-spec : {M : Type 1} → statement M
     (node-span-returns t)
     (λ c. search (needs, past t (c .before)))
     (λ c. search (needs, past t (c .before .before)))
-    (λ c. search (needs, past t (c .before .before .before))) (λ c. search (needs, past t (c .before .before .before))) (λ c. search needs)
-    (λ c. search needs) (λ c. search (needs, past t (c .before .before .before .before))) (λ c. search (needs, past t (c .before .before .before .before))) (λ c. search needs)
+    (λ c. search (needs, past t (bottom-of t c))) (λ c. search (needs, past t (bottom-of t c))) (λ c. search needs)
     (λ c. search needs)
-    (λ c. search (needs, past t (c .before .before .before .before .before .before)))
+    (λ c. search (needs, past t (bottom-of t (c .before)))) (λ c. search (needs, past t (bottom-of t (c .before)))) (λ c. search needs)
+    (λ c. search needs)
+    (λ c. search (needs, past t (bottom-of t (c .before .before .before))))
     (node-span-field-span-requires t)
     (λ c. search needs)
     (node-span-add-t28 t)
