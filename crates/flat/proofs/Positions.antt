@@ -87,11 +87,6 @@ node-at ks xs at h h′ s e = ap₂ nodeAt (drop-cons ks at 0 h) (drop-cons xs a
 pub fields-zero : (ks xs : List ℕ) → fieldsAt 0 ks xs ≡ some empty
 fields-zero ks xs = fields-step 0 ks xs
 
-pub fields-end : (m : ℕ) (ks xs : List ℕ) → 0 < m → length ks ≡ 0 → fieldsAt m ks xs ≡ none
-fields-end zero ks xs p h = absurd (omega arith)
-fields-end (suc m) [] xs p h = fields-step (suc m) [] xs
-fields-end (suc m) (k ∷ ks) xs p h = absurd (omega arith)
-
 module _ (m : ℕ) (ks xs : List ℕ) (at : ℕ) (p : 0 < m) (h : at < length ks) (h′ : at < length xs) where
   pub fields-at : (b : Bool) → eqb (getD ks at 0) Kind.Field ≡ b → fieldsAt m (drop at ks) (drop at xs) ≡ underField nodeAt fieldsAt b (m - 1) (getD xs at 0) (drop (at + 1) ks) (drop (at + 1) xs)
   fields-at b e = ap₂ (fieldsAt m) (drop-cons ks at 0 h) (drop-cons xs at 0 h′) ∙ go m p ∙ rw (add-one, e)
