@@ -1,5 +1,5 @@
--- The reader and the flat form: what is written is read back from the front of any longer lists, and whatever is read is
--- exactly what stood there. Assumes nothing.
+-- The reader and the flat form: what is written is read back from the front of any longer lists, and whatever is read
+-- is exactly what stood there. Assumes nothing.
 use mathlib.Core.Path.{_≡_, refl, sym, ap, ap₂, _∙_, subst}
 use mathlib.Core.Bool.{Bool, true, false, cond}
 use mathlib.Core.List.{List, [], _∷_, _++_, append-assoc}
@@ -160,7 +160,7 @@ mutual
   soundsIn zero = steps-sound never (λ m. never) (λ ks xs. tt) (λ m ks xs. tt)
   soundsIn (suc n) = steps-sound (nodeIn n) (fieldsIn n) (soundIn n) (soundsIn n)
 
--- ---- the same without a bound
+-- ---- the readers without a bound
 pub read-back : (t : DataType) → Good t → (ks xs : List ℕ) → nodeAt (kindsOf t ++ ks) (argsOf t ++ xs) ≡ some t
 unfolding nodeAt
 read-back t g ks xs = readIn t g (length (kindsOf t ++ ks)) ks xs (simp (length-append, length-kinds) (omega arith))

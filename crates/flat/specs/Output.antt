@@ -68,7 +68,7 @@ optionalOf none = Optional.Nothing
 optionalOf (some (refused e)) = Optional.Refused e
 optionalOf (some (type t)) = Optional.Some (size t)
 
--- document 01's number of such an answer, which is 0 for None
+-- document 01's number of an answer that may be None
 abbrev pub optionalNumber : Optional → ℕ
 optionalNumber (Optional.Some n) = 0
 optionalNumber Optional.Nothing = 0

@@ -1,4 +1,5 @@
--- `flat::argument::argument_fits` meets its contract: single kinds by computation, runs of kinds by one computed test each. Assumes nothing.
+-- `flat::argument::argument_fits` meets its contract: single kinds by computation, runs of kinds by one computed test
+-- each. Assumes nothing.
 use native.Mathlib.Omega.{arith}
 use borrow.Author.Needs.{needs}
 use Rattle.flat.specs.Argument.{argumentFits, argumentRule}
