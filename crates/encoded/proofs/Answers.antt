@@ -19,6 +19,7 @@ use Rattle.flat.specs.declared.Checked.the-variants.{Valid}
 use Rattle.flat.specs.Output.{over, Writes}
 use Rattle.flat.specs.declared.error.Error.{Error}
 use Rattle.flat.specs.declared.error.Error.the-variants.{Length, OutputTooShort}
+use Rattle.flat.proofs.Truths.{impossible}
 use Rattle.flat.proofs.Sizes.{length-kinds}
 use Rattle.flat.proofs.Meaning.{Holds, holds, checked-type, check-passed}
 use Rattle.flat.proofs.Roots.{root-read}
@@ -125,7 +126,7 @@ decoded-fits w nodes deep s t e = go (sizeFits w nodes s) e
   where
     go : (b : Bool) → unless b Length (reading nodes deep (kindsIn s) (argsIn w s)) ≡ type t → b ≡ true
     go true e = refl
-    go false e = absurd (let z : _≡_ {A = ℕ} 0 1 = cc in omega arith)
+    go false e = impossible cc
 
 -- and hold its flat form
 pub decoded-holds : (w nodes deep : ℕ) (s : List ℕ) (t : DataType) → decoding w nodes deep s ≡ type t → Holds nodes deep (kindsIn s) (argsIn w s) t

@@ -13,6 +13,7 @@ use Rattle.flat.specs.declared.Checked.{Checked}
 use Rattle.flat.specs.declared.Written.{Written}
 use Rattle.flat.specs.declared.error.Error.{Error}
 use Rattle.flat.specs.declared.error.Error.the-variants.{Length}
+use Rattle.flat.proofs.Truths.{impossible}
 use Rattle.flat.proofs.Meaning.{Passed, check-passed, checked-refused}
 use Rattle.encoded.specs.Encoding.{argsIn, decoding}
 use Rattle.encoded.specs.Answer.{nodesIn, argsOpened, Opens}
@@ -36,12 +37,12 @@ module _ {w nodes deep n : ℕ} {s xs xs′ : List ℕ} {a : Checked} (z : Sized
 
 -- the answer of a call that writes a type, or reads one
 pub written-type : (r : Reading) {n : ℕ} → Written.Nodes n ≡ writtenOf r → (t : DataType) × (r ≡ type t) × (size t ≡ n)
-written-type (refused e) q = absurd (let z : _≡_ {A = ℕ} 0 1 = cc in omega arith)
+written-type (refused e) q = impossible cc
 written-type (type t) q = (t, refl, cc)
 
 pub written-refused : (r : Reading) {e : Error} → Written.Refused e ≡ writtenOf r → r ≡ refused e
 written-refused (refused d) {e} q = let y : d ≡ e = cc in ap refused y
-written-refused (type t) q = absurd (let z : _≡_ {A = ℕ} 0 1 = cc in omega arith)
+written-refused (type t) q = impossible cc
 
 pub written-form : {w nodes deep n : ℕ} {s : List ℕ} {a : Written} → a ≡ Written.Nodes n → a ≡ writtenOf (decoding w nodes deep s) → EncodedForm w nodes deep n s
 written-form {w} {nodes} {deep} {n} {s} q e =

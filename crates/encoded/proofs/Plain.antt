@@ -1,6 +1,6 @@
 -- Bytes that are one plain leaf: what the test comes to, and what it tells. Assumes nothing.
 use mathlib.Core.Path.{_≡_, refl, sym, ap, _∙_}
-use mathlib.Core.Bool.{Bool, true, false, _&&_, and-eq-true-iff}
+use mathlib.Core.Bool.{Bool, true, false, _&&_}
 use mathlib.Core.List.{List, [], _∷_}
 use Prim.Native.Nat.{ℕ, _≤_, _<_}
 use native.Mathlib.Omega.{arith}
@@ -12,6 +12,7 @@ use Rattle.flat.specs.Argument.{plainLeaf}
 use Rattle.flat.specs.Tree.{leaf, headKind, headArg}
 use Rattle.flat.specs.Reading.{type, onePlain, rootOf, RootFits}
 use Rattle.flat.specs.declared.Root.{Root}
+use Rattle.flat.proofs.Truths.{both-true}
 use Rattle.flat.proofs.Plain.{kinds-told, plain-fits, PlainType, plain-type}
 use Rattle.encoded.specs.Encoding.{number, argsFrom, kindsIn, argsIn, sizeFits, decoding}
 use Rattle.encoded.specs.Answer.{nodesIn, plainIn}
@@ -57,7 +58,7 @@ pub record PlainBytes (w nodes : ℕ) (s : List ℕ) : Type 0 where
 pub plain-bytes : {w nodes : ℕ} {s : List ℕ} → plainIn w nodes s ≡ true → PlainBytes w nodes s
 unfolding plainIn onePlain
 plain-bytes {w} {nodes} {s} e =
-    let both = and-eq-true-iff (sizeFits w nodes s) (onePlain (kindsIn s) (argsIn w s)) .0 e in
+    let both = both-true (sizeFits w nodes s) (onePlain (kindsIn s) (argsIn w s)) e in
     let z = sized w nodes s (both .0) in
     let p : (deep : ℕ) → PlainType nodes deep (kindsIn s) (argsIn w s) = λ deep. plain-type nodes deep _ _ (omega (arith, z .some, z .few)) (both .1) in
     let one : Sized w nodes 1 s = rw (sym (kinds-length z) ∙ ap length (p 0 .kinds)) at z in

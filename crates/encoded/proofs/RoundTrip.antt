@@ -14,6 +14,7 @@ use Rattle.flat.specs.Reading.{Reading, refused, type, unless, reading, IsType}
 use Rattle.flat.specs.Output.{over, fitting, kindsOver, argsOver, writtenOf, Writes}
 use Rattle.flat.specs.declared.Written.{Written}
 use Rattle.flat.specs.declared.error.Error.the-variants.{OutputTooShort}
+use Rattle.flat.proofs.Truths.{impossible}
 use Rattle.flat.proofs.Sizes.{length-kinds, length-args, size-pos}
 use Rattle.flat.proofs.Meaning.{form-length, form-even, passes, holds, holds-form}
 use Rattle.flat.proofs.Outputs.{room}
@@ -120,12 +121,12 @@ encode-gives w t {out} h e = let fits = le-leb (encodedSize w (size t)) (length 
 encode-tells : (w : ℕ) (r : Reading) {out out′ : List ℕ} {n : ℕ} → Encodes w (fittingBytes w (length out) r) out out′ (Encoded.Bytes n)
     → (t : DataType) × (r ≡ type t) × (take n out′ ≡ encoding w (kindsOf t) (argsOf t))
 unfolding fittingBytes bytesOver
-encode-tells w (refused d) e = absurd (let a = e .answers in let z : _≡_ {A = ℕ} 0 1 = cc in omega arith)
+encode-tells w (refused d) e = let a = e .answers in impossible cc
 encode-tells w (type t) {out} {out′} {n} e = (t, refl, go (leb (encodedSize w (size t)) (length out)) (e .answers) (e .bytes))
   where
     go : (b : Bool) → Encoded.Bytes n ≡ encodedOf w (unless b OutputTooShort (type t)) → out′ ≡ bytesOver w (unless b OutputTooShort (type t)) out → take n out′ ≡ encoding w (kindsOf t) (argsOf t)
     go true a o = let m : encodedSize w (size t) ≡ n = cc in rw o (take-at _ _ n (tree-bytes w t ∙ m))
-    go false a o = absurd (let z : _≡_ {A = ℕ} 0 1 = cc in omega arith)
+    go false a o = impossible cc
 
 -- so too `decode`
 decode-gives : (t : DataType) {ks xs ks′ xs′ : List ℕ} {answer : Written} → size t ≤ length ks → size t ≤ length xs → Writes (fitting (length ks) (length xs) (type t)) ks xs ks′ xs′ answer
@@ -136,13 +137,13 @@ decode-gives t {ks} {xs} k x d = let fits = room (length ks) (length xs) t k x i
 decode-tells : (r : Reading) {ks xs ks′ xs′ : List ℕ} {n : ℕ} → Writes (fitting (length ks) (length xs) r) ks xs ks′ xs′ (Written.Nodes n)
     → (t : DataType) × (r ≡ type t) × (take n ks′ ≡ kindsOf t) × (take n xs′ ≡ argsOf t)
 unfolding fitting kindsOver argsOver
-decode-tells (refused e) d = absurd (let a = d .answers in let z : _≡_ {A = ℕ} 0 1 = cc in omega arith)
+decode-tells (refused e) d = let a = d .answers in impossible cc
 decode-tells (type t) {ks} {xs} {ks′} {xs′} {n} d = let f = go (leb (size t) (length ks) && leb (size t) (length xs)) (d .answers) (d .kinds) (d .args) in (t, refl, f .0, f .1)
   where
     go : (b : Bool) → Written.Nodes n ≡ writtenOf (unless b OutputTooShort (type t)) → ks′ ≡ kindsOver (unless b OutputTooShort (type t)) ks → xs′ ≡ argsOver (unless b OutputTooShort (type t)) xs
         → (take n ks′ ≡ kindsOf t) × (take n xs′ ≡ argsOf t)
     go true a k x = let m : size t ≡ n = cc in (rw k (take-at _ _ n (length-kinds t ∙ m)), rw x (take-at _ _ n (length-args t ∙ m)))
-    go false a k x = absurd (let z : _≡_ {A = ℕ} 0 1 = cc in omega arith)
+    go false a k x = impossible cc
 
 pub reads-back : {w nodes deep : ℕ} → nodes < 256 ^ 2 → 2 ^ 64 ≤ 256 ^ w → ReadsBack w nodes deep
 reads-back {w} {nodes} {deep} small wide = record {

@@ -1,4 +1,5 @@
--- The scan accepts every type, where its bound is large enough: where it accepts none, none stands there. Assumes nothing.
+-- The scan accepts every type, where its bound is large enough: where it accepts none, none stands there. Assumes
+-- nothing.
 use mathlib.Core.Path.{_≡_, refl, ap₂, _∙_}
 use mathlib.Core.Bool.{Bool, true}
 use mathlib.Core.List.{List, [], _∷_, _++_, append-assoc}
@@ -17,7 +18,8 @@ use Rattle.flat.proofs.Positions.{children-leaf}
 use Rattle.flat.proofs.Meaning.{at-kinds, at-args}
 use Rattle.flat.proofs.States.{Opened, outermost, inside, opens, settles, settled-within, paid-within, start-within}
 
--- The answer is that for what stands after the nodes, from a state that owes so many fields and has no more than `top` levels nested.
+-- The answer is that for what stands after the nodes, from a state that owes so many fields and has no more than
+-- `top` levels nested.
 record Onto (deep top owed : ℕ) (ks xs : List ℕ) (answer : Bool) : Type 0 where
   state : Scan
   within : NoDeeper top state

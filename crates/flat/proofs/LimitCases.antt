@@ -1,4 +1,5 @@
--- Document 01's worked cases of the limits hold wherever the limits lie between the sizes and the depths of its trees. Assumes nothing.
+-- Document 01's worked cases of the limits hold wherever the limits lie between the sizes and the depths of its
+-- trees. Assumes nothing.
 use mathlib.Core.Path.{refl, sym, ap}
 use Prim.Native.Nat.{ℕ, zero, suc, _≤_, _<_}
 use native.Mathlib.Omega.{arith}

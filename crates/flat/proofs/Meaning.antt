@@ -1,4 +1,5 @@
--- What `reading` means: it gives exactly the valid types, each from its own flat form and from nothing else. Assumes nothing.
+-- What `reading` means: it gives exactly the valid types, each from its own flat form and from nothing else. Assumes
+-- nothing.
 use mathlib.Core.Path.{_≡_, refl, sym, ap, ap₂, subst, _∙_}
 use mathlib.Core.Bool.{Bool, true, false, _&&_}
 use mathlib.Core.List.{List, [], _++_, append-assoc, append-nil}
@@ -84,7 +85,7 @@ module _ {ks xs : List ℕ} {t : DataType} (f : FlatForm ks xs t) where
   pub form-read : nodeAt ks xs ≡ some t
   form-read = ap₂ nodeAt at-kinds at-args ∙ read-back t (good t (f .ruled)) [] []
 
-  -- So a walk may start: the type stands at the front.
+  -- The type stands at the front, so a walk may start there.
   pub form-stands : Valid ks xs × (typeAt ks xs ≡ t)
   form-stands = (valid-of (node-of ks xs t form-even form-read), type-is ks xs t form-read)
 
@@ -216,7 +217,19 @@ check-passed {nodes} {deep} {ks} {xs} e =
     let s = stands nodes deep ks xs (r .0) (r .1) in
     record { tree = r .0; reads = r .1; form = h; even = form-even f; whole = sym (form-length f); valid = s .0; front = s .1 }
 
--- and their first node is the type's root
+-- A check that passed, with its limits and its arrays: what a view of a place in the code gives, since its type can't
+-- name the code's constants.
+pub record AnyPassed : Type 0 where
+  pub nodes : ℕ
+  pub deep : ℕ
+  pub kinds : List ℕ
+  pub args : List ℕ
+  pub passed : Passed nodes deep kinds args
+
+abbrev pub any-passed : {nodes deep : ℕ} {ks xs : List ℕ} → Passed nodes deep ks xs → AnyPassed
+any-passed {nodes} {deep} {ks} {xs} p = record { nodes = nodes; deep = deep; kinds = ks; args = xs; passed = p }
+
+-- The first node of arrays that passed is the type's root.
 module _ {nodes deep : ℕ} {ks xs : List ℕ} (v : Passed nodes deep ks xs) where
   pub root-kind : headKind (v .tree) ≡ getD ks 0 0
   root-kind = ap headKind (sym (v .front)) ∙ type-kind ks xs (v .valid)

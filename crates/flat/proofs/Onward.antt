@@ -1,4 +1,5 @@
--- The fields from a place on: what a walk over fields, which moves its place along the arrays, meets at the next field. Assumes nothing.
+-- The fields from a place on: what a walk over fields, which moves its place along the arrays, meets at the next
+-- field. Assumes nothing.
 use mathlib.Core.Path.{_≡_, refl, sym, ap, _∙_}
 use mathlib.Core.List.{List}
 use Prim.Native.Nat.{ℕ, suc, _+_, _-_}

@@ -1,4 +1,5 @@
--- What a call that writes a type comes to: a refusal leaves all as it was, and 8 is given where an output array is shorter than the type. Assumes nothing.
+-- What a call that writes a type comes to: a refusal leaves all as it was, and 8 is given where an output array is
+-- shorter than the type. Assumes nothing.
 use mathlib.Core.Path.{_≡_, refl, ap}
 use mathlib.Core.List.{List}
 use mathlib.Core.Option.{Option, none, some}

@@ -1,4 +1,5 @@
--- The laws of a call on two types: the left one's refusal comes first, then the right one's, then the rule. Assumes nothing.
+-- The laws of a call on two types: the left one's refusal comes first, then the right one's, then the rule. Assumes
+-- nothing.
 use mathlib.Core.Path.{_≡_, refl}
 use Prim.Native.Nat.{ℕ}
 use Rattle.flat.specs.Tree.{DataType, headKind, headArg}

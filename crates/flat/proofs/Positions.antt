@@ -1,5 +1,6 @@
--- A position in the two arrays is a subtree: what the reader says there, from the node that stands there and what it says of the positions after it.
--- These laws have no bound on the reading; every walk's proof goes by them. Assumes nothing.
+-- A position in the two arrays is a subtree: what the reader says there, from the node that stands there and what it
+-- says of the positions after it. These laws have no bound on the reading; every walk's proof goes by them. Assumes
+-- nothing.
 use mathlib.Core.Path.{_≡_, refl, ap, ap₂, _∙_}
 use mathlib.Core.Bool.{Bool, true, false}
 use mathlib.Core.List.{List, [], _∷_}
@@ -23,7 +24,7 @@ same-under p p′ f f′ under-array k a ks xs e g = ap (mapO (array a)) e
 same-under p p′ f f′ fields k a ks xs e g = ap (mapO struct) g
 same-under p p′ f f′ no-type k a ks xs e g = refl
 
--- So too of a field and those after it.
+-- Readers that agree on what stands under a field, and on the fields after it, agree on the fields.
 same-under-field : (p p′ : Reads DataType) (f f′ : ℕ → Reads Fields) (b : Bool) (m a : ℕ) (ks xs : List ℕ) → p ks xs ≡ p′ ks xs → ((j : ℕ) → f m (drop j ks) (drop j xs) ≡ f′ m (drop j ks) (drop j xs)) → underField p f b m a ks xs ≡ underField p′ f′ b m a ks xs
 same-under-field p p′ f f′ false m a ks xs e g = refl
 same-under-field p p′ f f′ true m a ks xs e g = rw e (go (p′ ks xs))
@@ -86,11 +87,6 @@ node-at ks xs at h h′ s e = ap₂ nodeAt (drop-cons ks at 0 h) (drop-cons xs a
 -- fields at a position
 pub fields-zero : (ks xs : List ℕ) → fieldsAt 0 ks xs ≡ some empty
 fields-zero ks xs = fields-step 0 ks xs
-
-pub fields-end : (m : ℕ) (ks xs : List ℕ) → 0 < m → length ks ≡ 0 → fieldsAt m ks xs ≡ none
-fields-end zero ks xs p h = absurd (omega arith)
-fields-end (suc m) [] xs p h = fields-step (suc m) [] xs
-fields-end (suc m) (k ∷ ks) xs p h = absurd (omega arith)
 
 module _ (m : ℕ) (ks xs : List ℕ) (at : ℕ) (p : 0 < m) (h : at < length ks) (h′ : at < length xs) where
   pub fields-at : (b : Bool) → eqb (getD ks at 0) Kind.Field ≡ b → fieldsAt m (drop at ks) (drop at xs) ≡ underField nodeAt fieldsAt b (m - 1) (getD xs at 0) (drop (at + 1) ks) (drop (at + 1) xs)

@@ -1,5 +1,5 @@
--- The reader and the flat form: what is written is read back from the front of any longer lists, whatever is read is exactly what stood there, and so the
--- tree is unique. Assumes nothing.
+-- The reader and the flat form: what is written is read back from the front of any longer lists, and whatever is read
+-- is exactly what stood there. Assumes nothing.
 use mathlib.Core.Path.{_≡_, refl, sym, ap, ap₂, _∙_, subst}
 use mathlib.Core.Bool.{Bool, true, false, cond}
 use mathlib.Core.List.{List, [], _∷_, _++_, append-assoc}
@@ -160,7 +160,7 @@ mutual
   soundsIn zero = steps-sound never (λ m. never) (λ ks xs. tt) (λ m ks xs. tt)
   soundsIn (suc n) = steps-sound (nodeIn n) (fieldsIn n) (soundIn n) (soundsIn n)
 
--- What is written is read back, and only that: so two trees with one flat form are one.
+-- ---- the readers without a bound
 pub read-back : (t : DataType) → Good t → (ks xs : List ℕ) → nodeAt (kindsOf t ++ ks) (argsOf t ++ xs) ≡ some t
 unfolding nodeAt
 read-back t g ks xs = readIn t g (length (kindsOf t ++ ks)) ks xs (simp (length-append, length-kinds) (omega arith))
@@ -172,13 +172,6 @@ sound ks xs = soundIn (length ks) ks xs
 pub sounds : (m : ℕ) (ks xs : List ℕ) → Sounds m ks xs (fieldsAt m ks xs)
 unfolding fieldsAt
 sounds m ks xs = soundsIn (length ks) m ks xs
-
-pub unique : (t u : DataType) → Good t → Good u → (ks xs ls ys : List ℕ) → kindsOf t ++ ks ≡ kindsOf u ++ ls → argsOf t ++ xs ≡ argsOf u ++ ys → t ≡ u
-unique t u g h ks xs ls ys p q =
-    some-inj (sym (read-back t g ks xs) ∙ ap₂ nodeAt p q ∙ read-back u h ls ys)
-  where
-    some-inj : some t ≡ some u → t ≡ u
-    some-inj e = cc
 
 -- A type that was read has as many nodes as stand there, at most.
 pub bounded : (ks xs : List ℕ) (t : DataType) → nodeAt ks xs ≡ some t → size t ≤ length ks

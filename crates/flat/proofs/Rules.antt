@@ -34,7 +34,7 @@ pub implies : (a b : Bool) → T (not a || b) → T a → T b
 implies true b t s = t
 implies false b t s = absurd s
 
--- so of each of them
+-- a test that holds of a run holds of each number in it
 pub in-run : (f : ℕ → Bool) (lo n : ℕ) → T (run f lo n) → (k : ℕ) → lo ≤ k → k < lo + n → T (f k)
 in-run f lo zero t k h l = absurd (omega arith)
 in-run f lo (suc n) t k h l = go (eqb k lo) refl (λ m. in-run f (suc lo) n (and-right (f lo) (run f (suc lo) n) t) k m (omega arith))

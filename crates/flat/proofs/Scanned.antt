@@ -23,7 +23,7 @@ use Rattle.flat.proofs.States.{Settled, settles, Opened, outermost, ins
 use Rattle.flat.proofs.Meaning.{Passed, check-passed, form-length, lengths-fit, passes}
 
 -- ---- fields
--- they keep the rules, and their types, which are d levels deep, go no deeper than `deep`
+-- fields that keep the rules, whose types, which are d levels deep, go no deeper than `deep`
 unfoldable AllFit : ℕ → ℕ → Fields → Type 0
 AllFit deep d empty = Unit {0}
 AllFit deep d (field name t fs) = (argumentFits Kind.Field name ≡ true) × Ruled t × (d + depth t ≤ deep) × AllFit deep d fs
@@ -50,7 +50,7 @@ unfolding count
 no-field empty e = refl
 no-field (field name t fs) e = absurd (omega arith)
 
--- the first n of them, and the others
+-- the first n of so many fields, and the others
 record Split (deep d n m : ℕ) (fs : Fields) : Type 0 where
   one : Fields
   two : Fields
@@ -101,7 +101,7 @@ record FieldsThen (deep : ℕ) (s : Scan) (ks xs : List ℕ) : Type 0 where
   fit-one : AllFit deep (s .depth) one
   fit-two : AllFit deep (s .base) two
 
--- A type, and then those.
+-- A type, and then the fields still owed.
 record TypeThen (deep : ℕ) (s : Scan) (ks xs : List ℕ) : Type 0 where
   tree : DataType
   kinds-left : List ℕ
@@ -311,7 +311,7 @@ scanned deep ks xs e = go (type-then deep ks xs start (start-within deep) e)
           omega (arith, settles start),
         )
 
--- So two arrays that it accepts are a type.
+-- Two arrays that the scan accepts are a type.
 pub accepted-passed : (nodes deep : ℕ) (ks xs : List ℕ) → scanAccepts nodes deep ks xs ≡ true → Passed nodes deep ks xs
 unfolding scanAccepts
 accepted-passed nodes deep ks xs e =

@@ -176,7 +176,7 @@ module _ {deep at : ℕ} {ks xs : List ℕ} {s : Scan} {p : AtType deep ks xs at
       pub deep-struct : deep < r .depth → false ≡ scanType deep start ks xs
       deep-struct d = sym (struct-step ∙ rw (lt-leb (r .depth) deep d))
 
--- It is a List or an Array, under which the state is r.
+-- A List or an Array fits there, under which the state is r.
 pub record UnderOne {deep at : ℕ} {ks xs : List ℕ} {s : Scan} {p : AtType deep ks xs at s} (f : NodeFits p) (r : Scan) : Type 0 where
   pub low : Kind.List ≤ getD ks at 0
   pub high : getD ks at 0 < Kind.Struct

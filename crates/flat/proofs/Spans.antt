@@ -1,4 +1,5 @@
--- How the answers of the check's walk follow from one another: what stands under the Lists and Arrays at the front, and the fields that are left. Assumes nothing.
+-- How the answers of the check's walk follow from one another: what stands under the Lists and Arrays at the front,
+-- and the fields that are left. Assumes nothing.
 use mathlib.Core.Path.{_≡_, refl, sym, ap, subst, _∙_}
 use mathlib.Core.Bool.{Bool, true, false, cond}
 use mathlib.Core.List.{List, [], _∷_}
@@ -179,7 +180,8 @@ lowest (k ∷ ks) (a ∷ xs) t n = go t (at-node (k ∷ ks) (a ∷ xs) t n) n (l
 abbrev fieldsUnder : List ℕ → List ℕ → ℕ → Fields
 fieldsUnder ks xs n = runAt (getD xs n 0) (from (n + 1) ks) (from (n + 1) xs)
 
--- The walk of a valid type, asked for so many levels, stands past the n Lists and Arrays at the front of arrays of t nodes.
+-- The walk of a valid type, asked for so many levels, stands past the n Lists and Arrays at the front of arrays of t
+-- nodes.
 pub record AtBottom (t levels : ℕ) (ks xs : List ℕ) (n : ℕ) : Type 0 where
   pub nodes : length ks ≡ t
   pub valid : Valid ks xs
@@ -243,7 +245,8 @@ fieldsFrom m ks xs at = runAt m (from at ks) (from at xs)
 abbrev fieldType : List ℕ → List ℕ → ℕ → DataType
 fieldType ks xs at = typeAt (from (at + 1) ks) (from (at + 1) xs)
 
--- Of the m fields at the front of arrays of t nodes all but `left` are done: they end at `at`, and are as deep as `done`, which is within the levels asked for.
+-- Of the m fields at the front of arrays of t nodes all but `left` are done: they end at `at`, and are as deep as
+-- `done`, which is within the levels asked for.
 pub record Along (t levels m : ℕ) (ks xs : List ℕ) (at left : ℕ) : Type 0 where
   pub nodes : length ks ≡ t
   pub run : ValidRun m ks xs

@@ -53,9 +53,9 @@ opens m s = go (eqb (s .owed) 0) refl
     go true e = outermost (eqb-true (s .owed) 0 e)
     go false e = inside
 
--- the same in the code's terms, from the settled state r
+-- the state under a Struct in the code's terms, from the settled state r
 module _ (m : ℕ) (s r : Scan) (e : r ≡ settled s) where
-  settled-owed : r .owed ≡ s .owed
+  pub settled-owed : r .owed ≡ s .owed
   settled-owed = rw e (settles s .owed)
 
   pub first-opened : r .owed ≡ 0 → _≡_ {A = Scan} (record { owed = m; outer = m; base = r .depth + 2; depth = r .depth + 2 }) (opened m s)

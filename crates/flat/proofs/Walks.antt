@@ -1,5 +1,5 @@
--- What a walk of a valid type meets: the cases at a node and at a field, in the terms of the parts that it hands on, and what holds of those parts. They
--- are stated once, for every walk. Assumes nothing.
+-- What a walk of a valid type meets: the cases at a node and at a field, in the terms of the parts that it hands on,
+-- and what holds of those parts. They are stated once, for every walk. Assumes nothing.
 use mathlib.Core.Path.{_≡_, refl, sym, ap, ap₂, _∙_, subst}
 use mathlib.Core.Bool.{Bool, true, false}
 use mathlib.Core.List.{List}

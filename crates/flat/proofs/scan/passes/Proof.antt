@@ -1,4 +1,5 @@
--- `flat::scan::passes` meets its contract: the loop stands before a type, and past it before the fields still owed. Assumes nothing.
+-- `flat::scan::passes` meets its contract: the loop stands before a type, and past it before the fields still owed.
+-- Assumes nothing.
 use mathlib.Core.Logic.{⊎-elim}
 use Prim.Native.Nat.{_-_}
 use native.Mathlib.Omega.{arith}

@@ -1,7 +1,8 @@
 -- The check's walk: `node_span` and `field_span` call each other. How the proof of a walk is made:
 -- * The measure is the number of nodes in the arrays that a member is handed. Each call hands on fewer.
--- * A view of a place tells all that is known there as one record of proofs/Spans.antt, for which the place's history is read once.
--- * An answer is one law of proofs/Spans.antt on the view of a place before it: one chain of `.before` leads there.
+-- * A view of a place (`field-span-said`, `node-span-past`, `node-span-said`) tells what is known there as a record of
+--   proofs/Spans.antt. It alone reads how the place was reached.
+-- * An answer is a law of proofs/Spans.antt on such a record: one chain of `.before` leads to the place of the view.
 -- Assumes nothing.
 use native.Mathlib.Omega.{arith}
 use denote.Ref.{now}
@@ -10,8 +11,9 @@ use Prim.Native.Nat.{ℕ, _<_}
 use lib.ListN.{length}
 use borrow.Fn.Kinds.{In, Out}
 use borrow.Fn.PlainCycle.{Measures, is, falls, and}
-use Rattle.flat.proofs.Spans.{AtBottom, at-bottom, node-deep, node-leaf, fields-call, FieldsSaid, fields-inside, node-fields, node-deeper}
 use Rattle.flat.proofs.Spans.{Along, start, fields-done, no-level, type-call, TypeSaid, field-deep, field-done}
+use Rattle.flat.proofs.Spans.{AtBottom, at-bottom, node-deep, node-leaf, fields-call}
+use Rattle.flat.proofs.Spans.{FieldsSaid, fields-inside, node-fields, node-deeper}
 use Rattle.flat.proofs.span.field_span.Reads as field-span
 use Rattle.flat.proofs.span.field_span.Kinds as field-span-kinds
 use Rattle.flat.proofs.span.+field_span+node_span.Lts-field_span as field-span-lts
@@ -48,12 +50,21 @@ Inv-loop t kinds args count levels at₀ left₀ at left = Along t levels count 
 abbrev μ-loop : field-span-lts.MeasureT-loop
 μ-loop kinds args count levels at₀ left₀ at left = left
 
--- a place or a need of a member at the measure t
-abbrev Field-span : (field-span-lts.Claims → In 2 field-span-kinds.ps → Out 2 field-span-kinds.ps field-span-kinds.r → field-span-lts.InvT-loop → field-span-lts.MeasureT-loop → Type 0) → ℕ → Type 0
-Field-span place t = place (node-span-below t, node-span.Post) (field-span-at t) field-span.Post (Inv-loop t) μ-loop
+abbrev field-span-claims : ℕ → field-span-lts.Claims
+field-span-claims t = (node-span-below t, node-span.Post)
 
-abbrev Node-span : (node-span-lts.Claims → In 2 node-span-kinds.ps → Out 2 node-span-kinds.ps node-span-kinds.r → Type 0) → ℕ → Type 0
-Node-span place t = place (bottom-reads.Asked, bottom-reads.Learnt, field-span-below t, field-span.Post) (node-span-at t) node-span.Post
+abbrev node-span-claims : ℕ → node-span-lts.Claims
+node-span-claims t = (bottom-reads.Asked, bottom-reads.Learnt, field-span-below t, field-span.Post)
+
+-- a place or a need of a member at the measure t
+abbrev Field-span :
+    (field-span-lts.Claims → In 2 field-span-kinds.ps → Out 2 field-span-kinds.ps field-span-kinds.r
+    → field-span-lts.InvT-loop → field-span-lts.MeasureT-loop → Type 0) → ℕ → Type 0
+Field-span place t = place (field-span-claims t) (field-span-at t) field-span.Post (Inv-loop t) μ-loop
+
+abbrev Node-span :
+    (node-span-lts.Claims → In 2 node-span-kinds.ps → Out 2 node-span-kinds.ps node-span-kinds.r → Type 0) → ℕ → Type 0
+Node-span place t = place (node-span-claims t) (node-span-at t) node-span.Post
 
 module _ (t : ℕ) where
   -- ---- the walk of fields
@@ -67,53 +78,71 @@ module _ (t : ℕ) where
   field-span-node-span-requires c κs = type-call (c .before .before .before .before .loop .inv) (omega arith)
 
   -- after the walk of the next field's type
-  type-said : (c : Field-span field-span-lts.After-node-span t) → TypeSaid (c .before .before .before .before .before .loop .inv) (c .node-span .result)
-  type-said c = record { more = omega arith; room = omega arith; says = c .node-span .ensures }
+  field-span-said :
+      (c : Field-span field-span-lts.After-node-span t)
+      → TypeSaid (c .before .before .before .before .before .loop .inv) (c .node-span .result)
+  field-span-said c = record { more = omega arith; room = omega arith; says = c .node-span .ensures }
 
   field-span-loop-again : Field-span field-span-lts.Need-loop-again t
-  field-span-loop-again c = field-done (type-said (c .before .before .before)) (c .before .n .given .1)
+  field-span-loop-again c = field-done (field-span-said (c .before .before .before)) (c .before .n .given .1)
 
   field-span-add-at : Field-span field-span-lts.Need-add-at t
   field-span-add-at c = omega (arith, field-span-loop-again c .inside)
 
   field-span-returns-2 : Field-span field-span-lts.Need-returns-2 t
-  field-span-returns-2 c = field-deep (type-said (c .before .before)) (c .enum-told .given .1)
+  field-span-returns-2 c = field-deep (field-span-said (c .before .before)) (c .enum-told .given .1)
 
   field-span-returns-3 : Field-span field-span-lts.Need-returns-3 t
   field-span-returns-3 c = fields-done (c .before .loop .inv) (omega arith)
 
   -- ---- the walk of a node
   -- past the Lists and Arrays
-  past : (c : Node-span node-span-lts.After-bottom t) → let s = c .before .before .before in AtBottom t (s .args .levels) (now (s .args .kinds)) (now (s .args .args)) (c .bottom .result)
-  past c = at-bottom (c .before .before .before .pre) (c .bottom .ensures .0)
+  node-span-past :
+      (c : Node-span node-span-lts.After-bottom t)
+      → let s = c .before .before .before in
+      AtBottom t (s .args .levels) (now (s .args .kinds)) (now (s .args .args)) (c .bottom .result)
+  node-span-past c = at-bottom (c .before .before .before .pre) (c .bottom .ensures .0)
 
   node-span-returns : Node-span node-span-lts.Need-returns t
-  node-span-returns c = node-deep (past (c .before)) (c .if1 .taken)
+  node-span-returns c = node-deep (node-span-past (c .before)) (c .if1 .taken)
 
   node-span-returns-2 : Node-span node-span-lts.Need-returns-2 t
-  node-span-returns-2 c = node-leaf (past (c .before .before .before)) (omega arith) (c .if2 .taken)
+  node-span-returns-2 c = node-leaf (node-span-past (c .before .before .before)) (omega arith) (c .if2 .taken)
+
+  -- at a Struct
+  abbrev node-span-bottom : Node-span node-span-lts.Else2 t → Node-span node-span-lts.After-bottom t
+  node-span-bottom c = c .before .before .before
 
   node-span-field-span-requires : Node-span node-span-lts.Need-field-span-requires t
-  node-span-field-span-requires c κs = fields-call (past (c .before .before .before .before .before .before)) (c .before .before .before .if2 .left)
+  node-span-field-span-requires c κs =
+      fields-call (node-span-past (node-span-bottom (c .before .before .before))) (c .before .before .before .if2 .left)
 
   -- after the walk of the fields
-  fields-said : (c : Node-span node-span-lts.After-field-span t) → FieldsSaid (past (c .before .before .before .before .before .before .before)) (c .field-span .result)
-  fields-said c = record { shallow = omega arith; struct = c .before .before .before .before .if2 .left; says = c .field-span .ensures }
+  node-span-said :
+      (c : Node-span node-span-lts.After-field-span t)
+      → FieldsSaid (node-span-past (node-span-bottom (c .before .before .before .before))) (c .field-span .result)
+  node-span-said c = record { shallow = omega arith; struct = omega arith; says = c .field-span .ensures }
 
   node-span-add-t28 : Node-span node-span-lts.Need-add-t28 t
-  node-span-add-t28 c = omega (arith, fields-inside (fields-said (c .before .before .before)) (c .before .n .given .1))
+  node-span-add-t28 c =
+      omega (arith, fields-inside (node-span-said (c .before .before .before)) (c .before .n .given .1))
 
   node-span-returns-3 : Node-span node-span-lts.Need-returns-3 t
-  node-span-returns-3 c = node-fields (fields-said (c .before .before .before)) (c .before .n .given .1)
+  node-span-returns-3 c = node-fields (node-span-said (c .before .before .before)) (c .before .n .given .1)
 
   node-span-returns-4 : Node-span node-span-lts.Need-returns-4 t
-  node-span-returns-4 c = node-deeper (fields-said (c .before .before)) (c .enum-told .given .1)
+  node-span-returns-4 c = node-deeper (node-span-said (c .before .before)) (c .enum-told .given .1)
 
 pub +field-span+node-span-spec : {M : Type 1} → statement M
-+field-span+node-span-spec = close μ-field-span μ-node-span (λ t. field-span-lts.spec (node-span-below t, node-span.Post) (field-span-at t) field-span.Post (Inv-loop t) μ-loop
++field-span+node-span-spec =
+    close
+    μ-field-span
+    μ-node-span
+    (λ t. field-span-lts.spec (field-span-claims t) (field-span-at t) field-span.Post (Inv-loop t) μ-loop
     (field-span-loop-holds t)
     (field-span-returns t)
-    (λ c. search needs) (λ c. search needs) (λ c. search needs) (λ c. search needs) (λ c. search needs) (λ c. search needs) (λ c. search needs) (λ c. search needs)
+    (λ c. search needs) (λ c. search needs) (λ c. search needs) (λ c. search needs)
+    (λ c. search needs) (λ c. search needs) (λ c. search needs) (λ c. search needs)
     (field-span-node-span-requires t)
     (λ c. search needs)
     (field-span-add-at t)
@@ -122,19 +151,22 @@ pub +field-span+node-span-spec : {M : Type 1} → statement M
     (λ c. search needs)
     (field-span-returns-2 t)
     (field-span-returns-3 t))
-    λ t. node-span-lts.spec (bottom-reads.Asked, bottom-reads.Learnt, field-span-below t, field-span.Post) (node-span-at t) node-span.Post
+    (λ t. node-span-lts.spec (node-span-claims t) (node-span-at t) node-span.Post
     (λ c κs. search needs)
     (node-span-returns t)
-    (λ c. search (needs, past t (c .before)))
-    (λ c. search (needs, past t (c .before .before)))
-    (λ c. search (needs, past t (c .before .before .before))) (λ c. search (needs, past t (c .before .before .before))) (λ c. search needs)
-    (λ c. search needs) (λ c. search (needs, past t (c .before .before .before .before))) (λ c. search (needs, past t (c .before .before .before .before))) (λ c. search needs)
-    (λ c. search needs)
-    (λ c. search (needs, past t (c .before .before .before .before .before .before)))
+    (λ c. search (needs, node-span-past t (c .before)))
+    (λ c. search (needs, node-span-past t (c .before .before)))
+    (λ c. search (needs, node-span-past t (node-span-bottom t c)))
+    (λ c. search (needs, node-span-past t (node-span-bottom t c)))
+    (λ c. search needs) (λ c. search needs)
+    (λ c. search (needs, node-span-past t (node-span-bottom t (c .before))))
+    (λ c. search (needs, node-span-past t (node-span-bottom t (c .before))))
+    (λ c. search needs) (λ c. search needs)
+    (λ c. search (needs, node-span-past t (node-span-bottom t (c .before .before .before))))
     (node-span-field-span-requires t)
     (λ c. search needs)
     (node-span-add-t28 t)
     (λ c. search needs)
     (node-span-returns-2 t)
     (node-span-returns-3 t)
-    (node-span-returns-4 t)
+    (node-span-returns-4 t))
