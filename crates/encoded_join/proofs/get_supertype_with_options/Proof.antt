@@ -9,9 +9,8 @@ returns : tie.Need-returns
 returns c =
     let put = c .before .before in
     let roots = put .before .before in
-    let to-string = roots .before .before .before .before .before .before .args .allow-primitive-to-string in
     let left = roots .before .before .check-root .ensures .0 in
-    rw (← joined _ to-string (decoding _ _ _ _) (decoding _ _ _ _) left (roots .before .check-root2 .ensures .0)
+    rw (← joined _ _ (decoding _ _ _ _) (decoding _ _ _ _) left (roots .before .check-root2 .ensures .0)
     (roots .join-roots .ensures))
     (put .put .ensures)
 
