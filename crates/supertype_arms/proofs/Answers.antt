@@ -1,19 +1,19 @@
 -- From plans of kinds to answers for types: what the definition gives in its two tries is what the plan of the kinds in
 -- order gives. Assumes nothing.
 use mathlib.Core.Path.{_≡_, refl, sym, _∙_, ap, subst}
-use mathlib.Core.Bool.{Bool, true, false, not, _&&_, _||_, and-comm, and-eq-true-iff}
+use mathlib.Core.Bool.{Bool, true, false, not, _&&_, _||_, and-comm}
 use mathlib.Core.List.{[], _∷_}
 use Prim.Native.Nat.{ℕ, _≤_, _<_}
 use native.Mathlib.Nat.{max-comm}
 use native.Mathlib.Omega.{arith}
 use native.Mathlib.Decide.{ℕ-discrete}
 use lib.Dec.{T, leb, ltb, eqb, eqb→eq}
-use borrow.Author.Tests.{eq-eqb, ne-eqb, eqb-true, leb-true, le-ltb, lt-leb}
+use borrow.Author.Tests.{eq-eqb, ne-eqb, leb-true, le-ltb, lt-leb}
 use Rattle.flat.specs.Kind.{Duration, Datetime, String, UnknownAny, UnknownStr, UnknownFloat, UnknownIntPos}
-use Rattle.flat.specs.Kind.{UnknownIntNeg, Field}
-use Rattle.flat.specs.Argument.{follows, argumentFits, argumentRule}
-use Rattle.flat.proofs.Rules.{in-run, area, in-area, and-left, and-right, or-right, isZero, zero-follows}
-use Rattle.flat.proofs.Truths.{never, is-true}
+use Rattle.flat.specs.Kind.{UnknownIntNeg}
+use Rattle.flat.specs.Argument.{argumentFits, argumentRule}
+use Rattle.flat.proofs.Rules.{in-run, area, in-area, and-left, and-right, or-right, implies, isZero}
+use Rattle.flat.proofs.Truths.{never, is-true, to-T, both-true}
 use Rattle.dtype.specs.Match.{among}
 use Rattle.dtype.specs.Predicate.{isUnknownInt}
 use Rattle.dtype.specs.Equality.{equalNode}
@@ -22,6 +22,7 @@ use Rattle.dtype.specs.declared.time_unit.TimeUnit.{TimeUnit}
 use Rattle.dtype.specs.declared.time_unit.TimeUnit.the-variants.{Nanoseconds, Microseconds, Milliseconds}
 use Rattle.dtype.specs.TimeUnits.{getTimeUnits}
 use Rattle.supertype_answer.specs.Join.{Node, Supertype, Some, Nothing, node}
+use Rattle.supertype_answer.proofs.Nodes.{no-argument}
 use Rattle.dtype.proofs.Coarser.{coarser}
 use Rattle.supertype_arms.specs.declared.plan.Plan.{Plan}
 use Rattle.supertype_arms.specs.declared.plan.Plan.the-variants.{No, Left, Right, Kind, Decimals}
@@ -64,21 +65,18 @@ same-sym l r =
 module _ (n : Node) (f : fits n ≡ true) where
   both : (leb (n .kind) UnknownIntNeg ≡ true) × (argumentFits (n .kind) (n .arg) ≡ true)
   unfolding fits
-  both = and-eq-true-iff (leb (n .kind) UnknownIntNeg) (argumentFits (n .kind) (n .arg)) .0 f
+  both = both-true (leb (n .kind) UnknownIntNeg) _ f
 
   pub in-range : n .kind ≤ UnknownIntNeg
   in-range = leb-true (n .kind) UnknownIntNeg (both .0)
 
   -- a kind that has no argument has the argument 0
   pub plain-zero : plain (n .kind) ≡ true → n .arg ≡ 0
-  unfolding plain argumentFits argumentRule among
+  unfolding plain argumentRule among
   plain-zero p =
-      let zero : T (isZero (argumentRule (n .kind))) = or-right (isZero (argumentRule (n .kind))) (ap not p)
-      (in-run (λ k. not (plain k) || isZero (argumentRule k)) 0 28 tt (n .kind) (omega arith)
-      (omega (arith, in-range))) in
-      eqb-true (n .arg) 0
-      (zero-follows (argumentRule (n .kind)) (n .arg) zero
-      ∙ and-eq-true-iff (leb (n .kind) Field) (follows (argumentRule (n .kind)) (n .arg)) .0 (both .1) .1)
+      let low : n .kind < 28 = omega (arith, in-range) in
+      let t = in-run (λ k. not (plain k) || isZero (argumentRule k)) 0 28 tt (n .kind) (omega arith) low in
+      no-argument (n .kind) (n .arg) (implies (plain (n .kind)) _ t (to-T p)) (both .1)
 
 pub same-node : (n : Node) → n .arg ≡ 0 → node (n .kind) 0 ≡ n
 same-node n e = λ i. record { kind = n .kind; arg = sym e i }

@@ -6,21 +6,22 @@ use mathlib.Core.Option.{Option}
 use Prim.Native.Nat.{ℕ, _≤_}
 use native.Mathlib.Omega.{arith}
 use native.Mathlib.Decide.{decLe}
-use lib.Dec.{T, leb, eqb}
+use lib.Dec.{T, eqb}
 use borrow.Author.Tests.{eqb-true, eq-eqb, ne-eqb}
 use Rattle.flat.specs.Kind
-use Rattle.flat.specs.Argument.{argumentRule, argumentFits}
+use Rattle.flat.specs.Argument.{argumentRule}
 use Rattle.flat.specs.Tree.{DataType, leaf, list, array, struct, headKind, headArg}
 use Rattle.flat.specs.Reading.{Reading, refused, type, rootOf, RootFits}
 use Rattle.flat.specs.Both.{bothOf}
 use Rattle.flat.specs.declared.Root.{Root}
-use Rattle.flat.proofs.Rules.{in-run, and-left, and-right, isZero, zero-follows}
-use Rattle.flat.proofs.Truths.{never, both-true}
+use Rattle.flat.proofs.Rules.{in-run, and-left, and-right, isZero}
+use Rattle.flat.proofs.Truths.{never}
 use Rattle.dtype.specs.Match.{among}
 use Rattle.dtype.specs.Predicate.{isFloat, isUnknownInt, isSignedInteger, isUnsignedInteger, isInteger, isUnknown}
 use Rattle.dtype.specs.Equality.{equal, equalNode}
 use Rattle.dtype.proofs.Runs.{says, of-run}
 use Rattle.supertype_answer.specs.Join.{joining, joiningRoots}
+use Rattle.supertype_answer.proofs.Nodes.{no-argument}
 use Rattle.supertype_lossless.specs.Lossless.{upcastWhere, upcastOf, lossless, foundUpcast, rootUpcast}
 use Rattle.supertype_lossless.specs.Lossless.{losslessOf}
 use Rattle.supertype_lossless.proofs.Upcasts.{other, other-none}
@@ -32,10 +33,6 @@ plain k = isZero (argumentRule k) && not (isUnknownInt k)
 other-or-plain : (k : ℕ) → k ≤ Kind.Struct → T (other k || plain k)
 unfolding argumentRule among isFloat isUnknownInt isSignedInteger isUnsignedInteger isInteger isUnknown
 other-or-plain k h = in-run (λ k. other k || plain k) Kind.Null 31 tt k (omega arith) (omega arith)
-
-no-argument : (k a : ℕ) → T (isZero (argumentRule k)) → argumentFits k a ≡ true → a ≡ 0
-unfolding argumentFits
-no-argument k a z e = eqb-true a 0 (zero-follows (argumentRule k) a z ∙ both-true (leb k Kind.Field) _ e .1)
 
 -- equal types of such a kind are those of one kind
 equal-kinds : (k : ℕ) → k ≤ Kind.UnknownIntNeg → T (plain k) → (u : DataType)

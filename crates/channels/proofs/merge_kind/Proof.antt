@@ -1,9 +1,9 @@
 -- `channels::merge_kind` meets its contract. Assumes nothing.
-use mathlib.Core.Path.{_≡_, sym, ap, _∙_}
+use mathlib.Core.Path.{sym, ap, _∙_}
 use native.Mathlib.Omega.{arith}
 use borrow.Author.Needs.{needs}
 use borrow.Author.Tests.{not-true, not-false}
-use Rattle.channels.specs.Merge.{upcastHeld, mergedWith}
+use Rattle.channels.specs.Merge.{upcastHeld}
 use Rattle.channels.proofs.Arms.{bad-code, not-integer, Taken, first, equal, upcast}
 use Rattle.channels.proofs.merge_kind.Statement.{statement}
 use Rattle.channels.proofs.merge_kind.Tie as tie
@@ -32,17 +32,17 @@ returns-3 c = first (taken (c .before)) (c .if3 .taken)
 returns-4 : tie.Need-returns-4
 returns-4 c = equal (taken (c .before .before)) (omega arith) (c .if4 .taken)
 
-by-upcast : (c : tie.After-upcast-kinds)
-    → let a = c .before .before .before .before .before .before .before .args in
-    upcastHeld (c .upcast-kinds .result) ≡ mergedWith (a .held) (a .kind)
-by-upcast c =
-    ap upcastHeld (c .upcast-kinds .ensures) ∙ upcast (taken (c .before .before .before)) (omega arith) (omega arith)
-
 returns-5 : tie.Need-returns-5
-returns-5 c = ap upcastHeld (sym (c .before .c .given .1)) ∙ by-upcast (c .before .before .before)
+returns-5 c =
+    let at = c .before .before .before in
+    ap upcastHeld (sym (c .before .c .given .1) ∙ at .upcast-kinds .ensures)
+    ∙ upcast (taken (at .before .before .before)) (omega arith) (omega arith)
 
 returns-6 : tie.Need-returns-6
-returns-6 c = ap upcastHeld (sym (c .enum-told .given .1)) ∙ by-upcast (c .before .before)
+returns-6 c =
+    let at = c .before .before in
+    ap upcastHeld (sym (c .enum-told .given .1) ∙ at .upcast-kinds .ensures)
+    ∙ upcast (taken (at .before .before .before)) (omega arith) (omega arith)
 
 pub merge-kind-spec : {M : Type 1} → statement M
 merge-kind-spec =
