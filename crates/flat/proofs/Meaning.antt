@@ -217,18 +217,6 @@ check-passed {nodes} {deep} {ks} {xs} e =
     let s = stands nodes deep ks xs (r .0) (r .1) in
     record { tree = r .0; reads = r .1; form = h; even = form-even f; whole = sym (form-length f); valid = s .0; front = s .1 }
 
--- A check that passed, with its limits and its arrays: what a view of a place in the code gives, since its type can't
--- name the code's constants.
-pub record AnyPassed : Type 0 where
-  pub nodes : ℕ
-  pub deep : ℕ
-  pub kinds : List ℕ
-  pub args : List ℕ
-  pub passed : Passed nodes deep kinds args
-
-abbrev pub any-passed : {nodes deep : ℕ} {ks xs : List ℕ} → Passed nodes deep ks xs → AnyPassed
-any-passed {nodes} {deep} {ks} {xs} p = record { nodes = nodes; deep = deep; kinds = ks; args = xs; passed = p }
-
 -- The first node of arrays that passed is the type's root.
 module _ {nodes deep : ℕ} {ks xs : List ℕ} (v : Passed nodes deep ks xs) where
   pub root-kind : headKind (v .tree) ≡ getD ks 0 0

@@ -34,6 +34,15 @@ answered-no {r} e t = sym e ∙ not-true r t
 pub answered-yes : {r b : Bool} → r ≡ b → not r ≡ false → b ≡ true
 answered-yes {r} e t = sym e ∙ not-false r t
 
+-- A fact with its statement: what a view of a place in the code gives, where to state it would be to name a constant of
+-- the code, or to go over the way there again. A view is an `abbrev`, so its fact is seen.
+pub record Fact : Type 1 where
+  pub states : Type 0
+  pub proof : states
+
+abbrev pub fact : {A : Type 0} → A → Fact
+fact {A} a = record { states = A; proof = a }
+
 -- one element stored at the front
 pub over-one : (out : List ℕ) → 0 < length out → (y : ℕ) → set out 0 y ≡ over (y ∷ []) out
 over-one [] h y = absurd (omega arith)
