@@ -4,3 +4,4 @@ pub mod Answers
 pub mod Plain
 pub mod Opening
 pub mod RoundTrip
+pub mod Finding

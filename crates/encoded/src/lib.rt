@@ -8,9 +8,11 @@ ghost use lib.ListN.{length};
 ghost use Rattle.flat.specs.Reading.{checkedOf, rootOf, RootFits};
 ghost use Rattle.flat.specs.Output.{over};
 ghost use Rattle.encoded.specs.Encoding.{argsIn, decoding};
+ghost use Rattle.encoded.specs.Found.{encodedFound};
 ghost use Rattle.encoded.specs.Answer.{nodesIn, plainIn, encodedNumber, encodedValue, Opens, EncodeEnsures, DecodeEnsures, Puts};
 use flat::Checked;
 use flat::Flat;
+use flat::Optional;
 use flat::Root;
 use flat::Written;
 use flat::argument;
@@ -52,6 +54,16 @@ impl Encoded {
         match self {
             Encoded::Bytes(n) => n as u64,
             Encoded::Refused(_) => 0,
+        }
+    }
+
+    // The answer of a call that may find nothing, where it encoded what it found.
+    pub fn found(self) -> Optional
+        ensures { λ r. ⌜ r ≡ encodedFound self ⌝ }
+    {
+        match self {
+            Encoded::Bytes(n) => Optional::Some(n),
+            Encoded::Refused(e) => Optional::Refused(e),
         }
     }
 }

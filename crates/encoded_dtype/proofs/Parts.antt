@@ -21,10 +21,10 @@ use Rattle.dtype_inner.specs.Part.{Last}
 use Rattle.dtype_inner.specs.Shape.{shape, shapeOf, arraysAt, widthsAt}
 use Rattle.dtype_inner.proofs.Endings.{Found, Finds, finds-inner, finds-leaf, finds-array-leaf}
 use Rattle.dtype_inner.proofs.Shapes.{arrays-fit, shape-at}
-use Rattle.encoded_dtype.specs.Found.{fittingFoundBytes, EncodesFound, encodedFound}
+use Rattle.encoded.specs.Found.{fittingFoundBytes, EncodesFound, encodedFound}
 use Rattle.encoded_dtype.specs.Parts.{partOf, partNodes, partReading}
 use Rattle.encoded_dtype.specs.declared.Part.{Part}
-use Rattle.encoded_dtype.proofs.Finding.{nothing-found, encodes-found}
+use Rattle.encoded.proofs.Finding.{nothing-found, encodes-found}
 
 -- the kinds alone tell how many nodes each part has
 finds-part : (p : Part) → Finds (partOf p) (partNodes p)

@@ -1,4 +1,3 @@
--- What a call comes to that may find a type, the parts that are found, and the forms that a type is built in anew.
-pub mod Found
+-- The parts of a type that a call finds, and the forms that a type is built in anew.
 pub mod Parts
 pub mod Forms

@@ -11,7 +11,7 @@ ghost use Rattle.dtype.specs.Predicates.{predicateOf};
 ghost use Rattle.dtype_inner.specs.Shape.{shapeOf};
 ghost use Rattle.dtype_build.specs.Build.{materialized, physical};
 ghost use Rattle.dtype_build.specs.Leaf.{leafOf};
-ghost use Rattle.encoded_dtype.specs.Found.{encodedFound, fittingFoundBytes, EncodesFound};
+ghost use Rattle.encoded.specs.Found.{fittingFoundBytes, EncodesFound};
 ghost use Rattle.encoded_dtype.specs.Parts.{partOf, partNodes, partReading};
 ghost use Rattle.encoded_dtype.specs.Forms.{formOf, RoomFor, EncodesForm};
 use dtype::answer::Answer;
@@ -19,7 +19,7 @@ use dtype::answer::yes_no;
 use dtype::predicate::Predicate;
 use dtype::predicate::told_by;
 use dtype_build::any_refused;
-use dtype_build::datatype::node_form;
+use dtype_build::walk::node_form;
 use dtype_build::leaf::Form;
 use dtype_build::leaf::kind_form;
 use dtype_inner::Shape;
@@ -80,16 +80,6 @@ fn part_nodes(part: Part, kinds: &[u8]) -> usize
     }
 }
 
-// The answer of a call that encoded the type that it found.
-fn found(encoded: Encoded) -> Optional
-    ensures { λ r. ⌜ r ≡ encodedFound encoded ⌝ }
-{
-    match encoded {
-        Encoded::Bytes(size) => Optional::Some(size),
-        Encoded::Refused(e) => Optional::Refused(e),
-    }
-}
-
 // Encodes the part, which stands at the type's end, to the front of out.
 fn part_in(part: Part, encoded: &[u8], args: &mut [u64], out: &mut [u8]) -> Optional
     requires { do
@@ -114,7 +104,7 @@ fn part_in(part: Part, encoded: &[u8], args: &mut [u64], out: &mut [u8]) -> Opti
                 return Optional::Nothing;
             }
             let at = n - m;
-            found(encoded::put(&kinds[at..], &values[at..], out))
+            encoded::put(&kinds[at..], &values[at..], out).found()
         }
         Written::Refused(e) => Optional::Refused(e),
     }

@@ -2,16 +2,15 @@
 ghost use mathlib.Core.Path.{_≡_};
 ghost use lib.ListN.{length};
 ghost use Rattle.encoded.specs.Encoding.{decoding};
+ghost use Rattle.encoded.specs.Found.{fittingFoundBytes, EncodesFound};
 ghost use Rattle.supertype_answer.specs.Join.{resultOf, joining};
 ghost use Rattle.supertype_lossless.specs.Lossless.{losslessOf};
 ghost use Rattle.supertype.specs.Pair.{supertypeOf};
 ghost use Rattle.supertype_report.specs.Report.{typesReport};
 ghost use Rattle.channels.specs.Merge.{outcomeOf};
-ghost use Rattle.encoded_join.specs.Join.{fittingFoundBytes, EncodesFound};
 use channels::ChannelTypes;
 use channels::Merged;
 use channels::merge_codes;
-use encoded::Encoded;
 use encoded::Encoding;
 use encoded::check_root;
 use flat::Flat;
@@ -36,10 +35,7 @@ fn put(found: Found, out: &mut [u8]) -> Optional
         Found::Some(k, a) => {
             let kinds = [k];
             let args = [a];
-            match encoded::put(&kinds, &args, out) {
-                Encoded::Bytes(size) => Optional::Some(size),
-                Encoded::Refused(e) => Optional::Refused(e),
-            }
+            encoded::put(&kinds, &args, out).found()
         }
     }
 }

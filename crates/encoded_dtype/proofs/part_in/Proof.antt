@@ -4,7 +4,7 @@ use native.Mathlib.Omega.{arith}
 use mathlib.Core.Path.{refl, sym}
 use Rattle.encoded.proofs.Opening.{unopened}
 use Rattle.encoded_dtype.proofs.Opening.{View, view-of}
-use Rattle.encoded_dtype.proofs.Finding.{refusal-found}
+use Rattle.encoded.proofs.Finding.{refusal-found}
 use Rattle.encoded_dtype.proofs.Parts.{part-within, part-puts, part-none, part-some}
 use Rattle.encoded_dtype.proofs.part_in.Statement.{statement}
 use Rattle.encoded_dtype.proofs.part_in.Tie as tie

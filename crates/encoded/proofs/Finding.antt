@@ -6,9 +6,9 @@ use Prim.Native.Nat.{ℕ}
 use Rattle.flat.specs.Reading.{Reading, refused, type}
 use Rattle.flat.specs.declared.Optional.{Optional}
 use Rattle.flat.specs.declared.error.Error.{Error}
 use Rattle.encoded.specs.Answer.{fittingBytes, bytesOver, encodedOf, Encodes}
 use Rattle.encoded.specs.declared.Encoded.{Encoded}
-use Rattle.encoded_dtype.specs.Found.{fittingFoundBytes, optionalBytes, EncodesFound, encodedFound}
+use Rattle.encoded.specs.Found.{fittingFoundBytes, optionalBytes, EncodesFound, encodedFound}
 
 pub nothing-found : {w : ℕ} {found : Option Reading} {out : List ℕ} → found ≡ none
     → EncodesFound w found out out Optional.Nothing
