@@ -9,7 +9,7 @@ use Prim.Native.Nat.{ℕ, suc, _+_, _-_, _^_, _≤_, _<_}
 use native.Mathlib.Omega.{arith}
 use lib.ListN.{length}
 use Rattle.flat.specs.Tree.{DataType, Fields, field, size, sizes}
-use Rattle.flat.specs.Walk.{Valid, ValidRun, typeAt, runAt}
+use Rattle.flat.specs.Walk.{Valid, ValidRun, typeAt}
 use Rattle.flat.proofs.Truths.{impossible}
 use Rattle.flat.proofs.Walks.{from, length-from, shorter, run-end}
 use Rattle.flat.proofs.Onward.{from-zero, next-valid, next-run, next-field}

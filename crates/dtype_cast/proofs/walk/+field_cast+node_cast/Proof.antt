@@ -3,8 +3,8 @@
 --
 -- How this proof is made. What is known at a place of the code is one record over lists (proofs/Pairs.antt for two
 -- nodes, proofs/Steps.antt for two runs of fields). A view below makes it from the generated record of that place, and
--- only views look far back along `.before`; a later view starts from an earlier one. Each answer is then one law, of the
--- view at its place and of what was tested or called since.
+-- only views look far back along `.before`; a later view starts from an earlier one. Each answer is then one law, of
+-- the view at its place and of what was tested or called since.
 --
 --   node_cast     roots       the roots have told                              Roots
 --                 same-kind   they leave it open, and are of one kind          SameKind
