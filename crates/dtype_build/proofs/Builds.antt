@@ -68,7 +68,7 @@ module _ (p : Task) where
   leaf-built l w = rw (type-leaf ks xs valid l) w
 
   -- the answer is the type's own number of nodes
-  pub built-size : {K₀ A₀ K′ A′ : List ℕ} {r : ℕ} → BuiltType (result p) K₀ A₀ K′ A′ r → r ≡ size (typeAt ks xs)
+  built-size : {K₀ A₀ K′ A′ : List ℕ} {r : ℕ} → BuiltType (result p) K₀ A₀ K′ A′ r → r ≡ size (typeAt ks xs)
   built-size w = w .nodes ∙ length-kinds (result p) ∙ size-map form (typeAt ks xs)
 
   -- K and A are as long as they were
@@ -79,7 +79,9 @@ module _ (p : Task) where
       let args = length-args (result p) in
       let n = size-map form (typeAt ks xs) in
       let o = p .room in
-      (ap length (w .kinds) ∙ over-length (kindsOf (result p)) K (omega arith), ap length (w .args) ∙ over-length (argsOf (result p)) A (omega arith))
+      let long-kinds = ap length (w .kinds) ∙ over-length (kindsOf (result p)) K (omega arith) in
+      let long-args = ap length (w .args) ∙ over-length (argsOf (result p)) A (omega arith) in
+      (long-kinds, long-args)
 
   -- what was built was written
   pub built-writes : {K′ A′ : List ℕ} {r : ℕ} → BuiltType (result p) K A K′ A′ r →
@@ -97,8 +99,8 @@ kindsBuilt form fs = kindsOfs (mapFields (leafOf form) fs)
 abbrev pub argsBuilt : Form → Fields → List ℕ
 argsBuilt form fs = argsOfs (mapFields (leafOf form) fs)
 
--- What stands under the node: m nodes, which are built as the kinds P and the arguments Q. Below says, by the node's
--- argument, that they stand there.
+-- A task whose node is no leaf, and what stands under that node: m nodes, which are built as the kinds P and the arguments
+-- Q. Below says, by the node's argument, that they stand there.
 pub record Parent (Below : ℕ → List ℕ → List ℕ → Type 0) : Type 0 where
   pub task : Task
   pub below : Below (getD (task .xs) 0 0) (from 1 (task .ks)) (from 1 (task .xs))
