@@ -15,7 +15,19 @@ returns-2 : tie.Need-returns-2
 returns-2 c = refusal-found _ _ (ap resultOf (c .before .found .given .1))
 
 returns-3 : tie.Need-returns-3
-returns-3 c = ?
+unfolding kindsOf argsOf
+returns-3 c =
+    let found = c .before .before .before .before .before .before .before .before .found2 .given in
+    rw (found .1)
+    (encodes-found (puts-type (leaf (found .0 .0) (found .0 .1 .0)) refl refl (c .before .before .before .put .ensures)) (c .found3 .ensures))
 
 pub put-spec : {M : Type 1} → statement M
-put-spec = tie.close (tie.spec (λ c. search needs) (λ c. search needs) (λ c. search needs) (λ c. search needs) (λ c. search needs) (λ c κs. search needs) (λ c. search needs) (λ c. search needs) returns returns-2 (λ c κs. search needs) returns-3)
+put-spec =
+    tie.close
+    (tie.spec
+    (λ c. search needs) (λ c. search needs) (λ c. search needs) (λ c. search needs) (λ c. search needs)
+    (λ c κs. search needs) (λ c κs. search needs)
+    returns
+    returns-2
+    (λ c. search needs)
+    returns-3)
