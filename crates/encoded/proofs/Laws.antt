@@ -1,23 +1,40 @@
 -- Laws of encoded types, at any width w of an argument: a list that is written from the front, numbers as bytes, runs of arguments, and the whole.
 -- Assumes nothing.
-use mathlib.Core.Path.{_≡_, refl, sym, ap}
+use mathlib.Core.Path.{_≡_, refl, sym, ap, _∙_}
 use mathlib.Core.List.{List, [], _∷_, _++_, append-assoc, append-nil}
 use Prim.Native.Nat.{ℕ, zero, suc, _+_, _-_, _*_, _/_, _%_, _^_, _≤_, _<_}
 use native.Mathlib.Nat.{zero-add, zero-mul, suc-mul, add-comm, add-suc, pow-suc, mul-comm, add-mul, one-mul, div-lt-iff-lt-mul}
 use native.Mathlib.Numerals.{add-one}
 use native.Mathlib.Omega.{arith}
 use lib.Dec.{lit<}
-use lib.ListN.{length, getD, take, drop, set, length-append, length-take, length-drop, take-append-drop}
-use lib.Seq.{drop-cons, drop-drop, drop-length, length-take-le, take-at, drop-at, paste-suc, ext-getD, getD-take, getD-drop}
+use lib.ListN.{length, getD, take, drop, set, length-append, length-take, length-drop, length-set, take-append-drop}
+use lib.Seq.{drop-cons, drop-drop, drop-length, length-take-le, take-at, take-add, take-length, drop-at, paste-suc, ext-getD, getD-take, getD-drop}
 use borrow.Rule.Slice.PartAt.{part-to-end}
 use Rattle.encoded.specs.Encoding.{littleEndian, number, argBytes, argsFrom, encoding, encodedSize}
 use Rattle.encoded.specs.RoundTrip.{Below}
 
 -- ---- a list that is written from the front
 
--- a list d, with the first i elements of s over its front: one element more
-pub store-next : (s d : List ℕ) (i : ℕ) → i < length s → i < length d → set (take i s ++ drop i d) i (getD s i 0) ≡ take (i + 1) s ++ drop (i + 1) d
-store-next s d i h k = rw add-one (simp zero-add at (paste-suc d 0 s i 0 (omega arith) h))
+-- The first i elements of s were written over the front of d, which is d′ now.
+pub record Copied (s d d′ : List ℕ) (i : ℕ) : Type 0 where
+  pub here : i ≤ length s
+  pub even : length d′ ≡ length d
+  pub is : d′ ≡ take i s ++ drop i d
+
+pub copied-none : {s d : List ℕ} → Copied s d d 0
+copied-none = record { here = omega arith; even = refl; is = refl }
+
+module _ {s d d′ : List ℕ} {i : ℕ} (c : Copied s d d′ i) where
+  pub copied-one : {v : ℕ} → i < length s → i < length d → v ≡ getD s i 0 → Copied s d (set d′ i v) (i + 1)
+  copied-one h k e =
+      record {
+        here = omega arith;
+        even = simp length-set (c .even);
+        is = rw (e, c .is, add-one) (simp zero-add at (paste-suc d 0 s i 0 (omega arith) h));
+      }
+
+  pub copied-all : length s ≤ i → d′ ≡ s ++ drop (length s) d
+  copied-all h = let end : i ≡ length s = omega arith in rw (c .is, end, take-length)
 
 -- nothing stands past a part that goes to the end
 rest-none : (d : List ℕ) (at : ℕ) → drop (length d - at) (drop at d) ≡ []
@@ -99,6 +116,26 @@ unfolding argBytes
 argBytes-at w [] i h = absurd (omega arith)
 argBytes-at w (a ∷ xs) zero h = simp (zero-mul, take-at, littleEndian-length)
 argBytes-at w (a ∷ xs) (suc i) h = rw (suc-mul, add-comm (i * w) w, ← drop-drop (i * w) w) (simp (drop-at, littleEndian-length) (argBytes-at w xs i (omega arith)))
+
+-- the bytes of the arguments xs were written up to the i-th: one argument more, to the part of d′ that was lent
+pub args-next :
+    (xs : List ℕ) (i : ℕ) {d d′ y : List ℕ}
+    → Copied (argBytes 8 xs) d d′ (i * 8)
+    → i < length xs
+    → y ≡ littleEndian 8 (getD xs i 0) ++ drop 8 (take (length d′ - i * 8) (drop (i * 8) d′))
+    → length (take (i * 8) d′ ++ (y ++ drop (length d′ - i * 8) (drop (i * 8) d′))) ≡ length d′
+    → Copied (argBytes 8 xs) d (take (i * 8) d′ ++ (y ++ drop (length d′ - i * 8) (drop (i * 8) d′))) ((i + 1) * 8)
+args-next xs i {d} {d′} {y} c h e l =
+    let all = argBytes 8 xs in
+    let long = argBytes-length 8 xs in
+    let next : (i + 1) * 8 ≡ i * 8 + 8 = omega arith in
+    record {
+      here = omega arith;
+      even = l ∙ c .even;
+      is =
+          rw (next, take-add (i * 8) 8 all, argBytes-at 8 xs i h)
+          (write-next d′ (take (i * 8) all) d (littleEndian 8 (getD xs i 0)) y (i * 8) 8 (c .is) (length-take-le (i * 8) all (c .here)) e);
+    }
 
 -- arguments that fit w bytes each are read back from them
 pub argsFrom-argBytes : (w : ℕ) (xs : List ℕ) → Below (256 ^ w) xs → argsFrom w (length xs) (argBytes w xs) ≡ xs
