@@ -16,16 +16,16 @@ use Rattle.flat.specs.Tree.{DataType, size, kindsOf, argsOf}
 use Rattle.flat.specs.Reading.{Reading, refused, type, unless, reading, checkedOf, rootOf, RootFits}
 use Rattle.flat.specs.declared.Checked.{Checked}
 use Rattle.flat.specs.declared.Checked.the-variants.{Valid}
-use Rattle.flat.specs.Output.{over, Writes}
+use Rattle.flat.specs.Output.{over, fitting}
 use Rattle.flat.specs.declared.error.Error.{Error}
 use Rattle.flat.specs.declared.error.Error.the-variants.{Length, OutputTooShort}
 use Rattle.flat.proofs.Truths.{impossible}
 use Rattle.flat.proofs.Sizes.{length-kinds}
-use Rattle.flat.proofs.Meaning.{Holds, holds, checked-type, check-passed}
+use Rattle.flat.proofs.Meaning.{Holds, holds, checked-type, checked-refused, check-passed}
 use Rattle.flat.proofs.Roots.{root-read}
-use Rattle.flat.proofs.Outputs.{writes-type}
+use Rattle.flat.proofs.Outputs.{writes-refused, writes-type, few-kinds, few-args, room}
 use Rattle.encoded.specs.Encoding.{number, argsFrom, encoding, encodedSize, countIn, kindsIn, argsIn, sizeFits, decoding}
-use Rattle.encoded.specs.Answer.{nodesIn, fittingBytes, bytesOver, Encodes, Puts}
+use Rattle.encoded.specs.Answer.{nodesIn, fittingBytes, bytesOver, Encodes, DecodeEnsures, Puts}
 use Rattle.flat.specs.declared.Root.{Root}
 use Rattle.flat.specs.declared.Written.{Written}
 use Rattle.encoded.specs.declared.Encoded.{Encoded}
@@ -145,9 +145,9 @@ encoded-form {w} {nodes} {deep} {n} {s} v e c =
     let f : EncodedForm w nodes deep (size (r .0)) s = type-form (r .0) (r .1) in
     rw (f .sized .count ∙ sym c) at f
 
--- so too where n is what `node_count` answers
-pub counted-form : {w nodes deep n : ℕ} {s : List ℕ} {a : Checked} → a ≡ Valid → a ≡ checkedOf (decoding w nodes deep s) → n ≡ nodesIn w nodes s → EncodedForm w nodes deep n s
-counted-form {w} {nodes} {deep} {n} {s} v e c = let f : EncodedForm w nodes deep (countIn s) s = encoded-form v e refl in encoded-form v e (c ∙ nodes-sized (f .sized))
+-- the form of the bytes with the number of nodes that `node_count` answers
+pub counted-form : {w nodes deep n m : ℕ} {s : List ℕ} → EncodedForm w nodes deep n s → m ≡ nodesIn w nodes s → EncodedForm w nodes deep m s
+counted-form f c = rw (sym (c ∙ nodes-sized (f .sized))) at f
 
 -- ---- the root, where a check answers Valid
 
@@ -162,10 +162,33 @@ form-root {w} {nodes} {deep} {n} {s} f =
 
 -- ---- what `decode` and `encode` come to
 
--- the two parts of s, over the front of the two arrays
-pub decodes-type : {w nodes deep n : ℕ} {s : List ℕ} {r : Reading} {ks xs ks′ xs′ : List ℕ} (f : EncodedForm w nodes deep n s) → r ≡ type (f .tree)
-    → ks′ ≡ over (take (2 + n - 2) (drop 2 s)) ks → xs′ ≡ argsFrom w n (take (length s - (2 + n)) (drop (2 + n) s)) ++ drop n xs → Writes r ks xs ks′ xs′ (Written.Nodes n)
-decodes-type f h k a = let z = f .sized in writes-type h (sym (f .tree-size)) (rw (← f .kinds, ← kinds-part z) k) (rw (← f .args, args-length z, ← args-part z) a)
+pub decodes-refused :
+    (w nodes deep : ℕ) (s : List ℕ) {ks xs : List ℕ} {a : Checked} {e : Error}
+    → a ≡ Checked.Refused e
+    → a ≡ checkedOf (decoding w nodes deep s)
+    → DecodeEnsures w nodes deep s ks xs ks xs (Written.Refused e)
+unfolding fitting
+decodes-refused w nodes deep s {e = e} v h = writes-refused (rw (checked-refused (decoding w nodes deep s) e (sym v ∙ h)))
+
+module _ {w nodes deep n : ℕ} {s ks xs : List ℕ} (f : EncodedForm w nodes deep n s) where
+  pub decodes-few-kinds : length ks < n → DecodeEnsures w nodes deep s ks xs ks xs (Written.Refused OutputTooShort)
+  decodes-few-kinds h = writes-refused (ap (fitting (length ks) (length xs)) (f .reads) ∙ few-kinds _ _ (f .tree) (rw (f .tree-size) h))
+
+  pub decodes-few-args : n ≤ length ks → length xs < n → DecodeEnsures w nodes deep s ks xs ks xs (Written.Refused OutputTooShort)
+  decodes-few-args g h = writes-refused (ap (fitting (length ks) (length xs)) (f .reads) ∙ few-args _ _ (f .tree) (rw (f .tree-size) g) (rw (f .tree-size) h))
+
+  -- the two parts of s, over the front of the two arrays
+  pub decodes-type :
+      {ks′ xs′ : List ℕ}
+      → n ≤ length ks
+      → n ≤ length xs
+      → ks′ ≡ over (take (2 + n - 2) (drop 2 s)) ks
+      → xs′ ≡ argsFrom w n (take (length s - (2 + n)) (drop (2 + n) s)) ++ drop n xs
+      → DecodeEnsures w nodes deep s ks xs ks′ xs′ (Written.Nodes n)
+  decodes-type g h k a =
+      let z = f .sized in
+      let fits = ap (fitting (length ks) (length xs)) (f .reads) ∙ room _ _ (f .tree) (rw (f .tree-size) g) (rw (f .tree-size) h) in
+      writes-type fits (sym (f .tree-size)) (rw (← f .kinds, ← kinds-part z) k) (rw (← f .args, args-length z, ← args-part z) a)
 
 pub encodes-refused : {w : ℕ} {r : Reading} {e : Error} {out : List ℕ} → r ≡ refused e → Encodes w r out out (Encoded.Refused e)
 unfolding bytesOver
