@@ -1,6 +1,6 @@
--- What the answers tell, and what answers come to: bytes of the right length hold as many kinds and arguments as their count says, any others are refused
--- by 1; where a check answers Valid, there is a tree, and its root; and `decode` and `encode` leave its arrays or bytes, or all as it was.
--- Assumes nothing.
+-- What the answers tell, and what answers come to: bytes of the right length hold as many kinds and arguments as
+-- their count says, any others are refused by 1; where a check answers Valid, there is a tree, and its root; and
+-- `decode` and `encode` leave its arrays or bytes, or all as it was. Assumes nothing.
 use mathlib.Core.Path.{_≡_, refl, sym, ap, _∙_}
 use mathlib.Core.Bool.{Bool, true, false, cond, and-eq-true-iff}
 use mathlib.Core.List.{List, _++_}
@@ -54,7 +54,7 @@ module _ {w nodes n : ℕ} {s : List ℕ} (z : Sized w nodes n s) where
   unfolding kindsIn
   kinds-part = rw (← z .count, add-sub-cancel-left)
 
-  -- the arguments in the part after it
+  -- the arguments in the part of s after the kinds
   pub args-part : argsFrom w n (take (length s - (2 + n)) (drop (2 + n) s)) ≡ argsIn w s
   unfolding argsIn
   args-part = rw (part-to-end, ← z .count)
@@ -65,7 +65,7 @@ module _ {w nodes n : ℕ} {s : List ℕ} (z : Sized w nodes n s) where
   pub args-length : length (argsIn w s) ≡ n
   args-length = rw (← args-part, argsFrom-length)
 
-  -- those arguments, read to the front of xs
+  -- the arguments of s, read to the front of xs
   pub args-read : (rest : List ℕ) {xs : List ℕ} → xs ≡ argsFrom w n (take (length s - (2 + n)) (drop (2 + n) s)) ++ rest → take n xs ≡ argsIn w s
   args-read rest e = rw (e, args-part, take-at (argsIn w s) rest n args-length)
 
@@ -86,7 +86,7 @@ pub nodes-sized : {w nodes n : ℕ} {s : List ℕ} → Sized w nodes n s → nod
 unfolding nodesIn
 nodes-sized z = rw (size-fits z) (sym (z .count))
 
--- in any case
+-- the number of nodes is never over the limit
 pub nodes-few : (w nodes : ℕ) (s : List ℕ) → nodesIn w nodes s ≤ nodes
 unfolding nodesIn
 nodes-few w nodes s = go (sizeFits w nodes s) refl
@@ -95,7 +95,7 @@ nodes-few w nodes s = go (sizeFits w nodes s) refl
     go true f = sized w nodes s f .few
     go false f = omega arith
 
--- where it is 0
+-- where the number of nodes is 0
 pub nodes-none : (w nodes : ℕ) (s : List ℕ) {n : ℕ} → n ≡ nodesIn w nodes s → n ≡ 0 → sizeFits w nodes s ≡ false
 unfolding nodesIn
 nodes-none w nodes s e h = go (sizeFits w nodes s) refl (sym h ∙ e)
@@ -128,7 +128,7 @@ decoded-fits w nodes deep s t e = go (sizeFits w nodes s) e
     go true e = refl
     go false e = impossible cc
 
--- and hold its flat form
+-- bytes that are a type hold its flat form
 pub decoded-holds : (w nodes deep : ℕ) (s : List ℕ) (t : DataType) → decoding w nodes deep s ≡ type t → Holds nodes deep (kindsIn s) (argsIn w s) t
 decoded-holds w nodes deep s t e = holds nodes deep (kindsIn s) (argsIn w s) t (sym (decoding-sized (sized w nodes s (decoded-fits w nodes deep s t e)) deep) ∙ e)
 
@@ -151,7 +151,7 @@ counted-form f c = rw (sym (c ∙ nodes-sized (f .sized))) at f
 
 -- ---- the root, where a check answers Valid
 
--- where its two values stand in the bytes
+-- where the root's kind and argument stand in the bytes
 pub form-root : {w nodes deep n : ℕ} {s : List ℕ} → EncodedForm w nodes deep n s → (Root.Node (getD s 2 0) (number (take w (drop (2 + n) s))) ≡ rootOf (decoding w nodes deep s)) × RootFits (Root.Node (getD s 2 0) (number (take w (drop (2 + n) s))))
 form-root {w} {nodes} {deep} {n} {s} f =
     let z = f .sized in

@@ -1,5 +1,5 @@
--- Laws of encoded types, at any width w of an argument: a list that is written from the front, numbers as bytes, runs of arguments, and the whole.
--- Assumes nothing.
+-- Laws of encoded types, at any width w of an argument: a list that is written from the front, numbers as bytes, runs
+-- of arguments, and the whole. Assumes nothing.
 use mathlib.Core.Path.{_≡_, refl, sym, ap, _∙_}
 use mathlib.Core.List.{List, [], _∷_, _++_, append-assoc, append-nil}
 use Prim.Native.Nat.{ℕ, zero, suc, _+_, _-_, _*_, _/_, _%_, _^_, _≤_, _<_}
@@ -40,7 +40,8 @@ module _ {s d d′ : List ℕ} {i : ℕ} (c : Copied s d d′ i) where
 rest-none : (d : List ℕ) (at : ℕ) → drop (length d - at) (drop at d) ≡ []
 rest-none d at = rw (← length-drop, drop-length)
 
--- a list d that is p and then what is left of q, whose part from the end of p on is lent and comes back as y, with b at its front: b follows p
+-- a list d that is p and then what is left of q, whose part from the end of p on is lent and comes back as y, with b
+-- at its front: b follows p
 pub write-next : (d p q b y : List ℕ) (at k : ℕ) → d ≡ p ++ drop at q → length p ≡ at → y ≡ b ++ drop k (take (length d - at) (drop at d))
     → take at d ++ (y ++ drop (length d - at) (drop at d)) ≡ (p ++ b) ++ drop (at + k) q
 write-next d p q b y at k e n f = rw (rest-none, f, part-to-end, append-nil, e, take-at, drop-at, drop-drop, append-assoc)

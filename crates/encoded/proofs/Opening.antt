@@ -1,5 +1,5 @@
--- What `open` comes to, and what its answer tells: the kinds that stand in the bytes and the arguments that were read are the flat form of the tree, so that a
--- walk may start. Assumes nothing.
+-- What `open` comes to, and what its answer tells: the kinds that stand in the bytes and the arguments that were read
+-- are the flat form of the tree, so that a walk may start. Assumes nothing.
 use mathlib.Core.Path.{_≡_, refl, sym, ap, ap₂, _∙_}
 use mathlib.Core.List.{List}
 use Prim.Native.Nat.{ℕ, _+_, _-_, _≤_}
@@ -50,7 +50,8 @@ written-form {w} {nodes} {deep} {n} {s} q e =
     let f : EncodedForm w nodes deep (size (r .0)) s = type-form (r .0) (r .1) in
     rw (r .2) at f
 
--- The bytes s are a type of n nodes. Its kinds stand in s, its arguments at the front of xs: parts that are as good as checked.
+-- The bytes s are a type of n nodes. Its kinds stand in s, its arguments at the front of xs: parts that are as good
+-- as checked.
 pub record Opened (w nodes deep n : ℕ) (s xs : List ℕ) : Type 0 where
   pub sized : Sized w nodes n s
   pub room : n ≤ length xs

@@ -30,12 +30,12 @@ module _ {w nodes : ℕ} {s : List ℕ} (z : Sized w nodes 1 s) where
   unfolding argsFrom
   one-arg = rw (← args-part z, part-to-end)
 
-  -- the test of that node is the test of the bytes
+  -- the test of the one node is the test of the bytes
   pub one-told : plainLeaf (getD s 2 0) (number (take w (drop 3 s))) ≡ plainIn w nodes s
   unfolding plainIn onePlain
   one-told = rw (size-fits z, one-kind, one-arg)
 
--- any other number of nodes
+-- bytes of any other number of nodes are no plain leaf
 pub others-told : (w nodes : ℕ) (s : List ℕ) {n : ℕ} → n ≡ nodesIn w nodes s → (n ≡ 1 → ⊥) → false ≡ plainIn w nodes s
 unfolding plainIn
 others-told w nodes s e h = go (sizeFits w nodes s) refl
@@ -74,7 +74,7 @@ plain-bytes {w} {nodes} {s} e =
       reads = λ deep. rw (decoding-sized one, k) (rw k at (p deep .reads));
     }
 
--- its root
+-- the root of a plain leaf
 pub plain-root : {w nodes : ℕ} (deep : ℕ) {s : List ℕ} → PlainBytes w nodes s
     → (Root.Node (getD s 2 0) 0 ≡ rootOf (decoding w nodes deep s)) × RootFits (Root.Node (getD s 2 0) 0)
 unfolding headKind headArg
