@@ -37,7 +37,8 @@ pub check-with-spec : {M : Type 1} → statement M
 check-with-spec =
     tie.close
     (tie.spec
-    (λ c. search needs) (λ c. omega (arith, sized c .proof .size)) (λ c. omega (arith, sized c .proof .size)) (λ c. search needs)
+    (λ c. search needs) (λ c. omega (arith, sized c .proof .size)) (λ c. omega (arith, sized c .proof .size))
+    (λ c. search needs)
     read-args-requires
     (λ c. search needs) (λ c. search needs) (λ c. omega (arith, sized (begun c) .proof .size)) (λ c. search needs)
     (λ c. let at = c .before .before in sym (length-take-le _ _ (omega (arith, at .before .before .read-args .kept .1 .1 .0, room (begun at) .proof))))

@@ -22,5 +22,6 @@ is-plain-spec =
     (tie.spec
     (λ c κs. search needs)
     returns
-    (λ c. omega (arith, one (c .before) .proof .size)) (λ c κs. omega (arith, one (c .before) .proof .size)) (λ c κs. search needs)
+    (λ c. omega (arith, one (c .before) .proof .size)) (λ c κs. omega (arith, one (c .before) .proof .size))
+    (λ c κs. search needs)
     returns-2)

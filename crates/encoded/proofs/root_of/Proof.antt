@@ -10,7 +10,8 @@ use Rattle.encoded.proofs.root_of.Statement.{statement}
 use Rattle.encoded.proofs.root_of.Tie as tie
 
 returns : tie.Need-returns
-returns c = root-refused (decoding _ _ _ _) (sym (c .before .e .given .1) ∙ c .before .before .before .check-nodes .ensures)
+returns c =
+    root-refused (decoding _ _ _ _) (sym (c .before .e .given .1) ∙ c .before .before .before .check-nodes .ensures)
 
 -- the bytes are a type of as many nodes as they say, which `node_count` answers
 abbrev form : tie.After-enum-told → Fact
