@@ -3,12 +3,14 @@
 use mathlib.Core.Path.{_≡_, refl, sym, ap, _∙_}
 use mathlib.Core.List.{List, [], _∷_, _++_, append-assoc, append-nil}
 use Prim.Native.Nat.{ℕ, zero, suc, _+_, _-_, _*_, _/_, _%_, _^_, _≤_, _<_}
-use native.Mathlib.Nat.{zero-add, zero-mul, suc-mul, add-comm, add-suc, pow-suc, mul-comm, add-mul, one-mul, div-lt-iff-lt-mul}
+use native.Mathlib.Nat.{zero-add, zero-mul, suc-mul, add-comm, add-suc, pow-suc, mul-comm, add-mul, one-mul}
+use native.Mathlib.Nat.{div-lt-iff-lt-mul}
 use native.Mathlib.Numerals.{add-one}
 use native.Mathlib.Omega.{arith}
 use lib.Dec.{lit<}
 use lib.ListN.{length, getD, take, drop, set, length-append, length-take, length-drop, length-set, take-append-drop}
-use lib.Seq.{drop-cons, drop-drop, drop-length, length-take-le, take-at, take-add, take-length, drop-at, paste-suc, ext-getD, getD-take, getD-drop}
+use lib.Seq.{drop-cons, drop-drop, drop-length, length-take-le, take-at, take-add, take-length, drop-at, paste-suc}
+use lib.Seq.{ext-getD, getD-take, getD-drop}
 use borrow.Rule.Slice.PartAt.{part-to-end}
 use Rattle.encoded.specs.Encoding.{littleEndian, number, argBytes, argsFrom, encoding, encodedSize}
 use Rattle.encoded.specs.RoundTrip.{Below}
@@ -42,9 +44,12 @@ rest-none d at = rw (← length-drop, drop-length)
 
 -- a list d that is p and then what is left of q, whose part from the end of p on is lent and comes back as y, with b
 -- at its front: b follows p
-pub write-next : (d p q b y : List ℕ) (at k : ℕ) → d ≡ p ++ drop at q → length p ≡ at → y ≡ b ++ drop k (take (length d - at) (drop at d))
+pub write-next :
+    (d p q b y : List ℕ) (at k : ℕ) → d ≡ p ++ drop at q → length p ≡ at
+    → y ≡ b ++ drop k (take (length d - at) (drop at d))
     → take at d ++ (y ++ drop (length d - at) (drop at d)) ≡ (p ++ b) ++ drop (at + k) q
-write-next d p q b y at k e n f = rw (rest-none, f, part-to-end, append-nil, e, take-at, drop-at, drop-drop, append-assoc)
+write-next d p q b y at k e n f =
+    rw (rest-none, f, part-to-end, append-nil, e, take-at, drop-at, drop-drop, append-assoc)
 
 -- ---- numbers as bytes
 
@@ -59,10 +64,12 @@ abbrev pub bytesAt : ℕ → List ℕ → ℕ → ℕ → ℕ
 bytesAt zero s at k = 0
 bytesAt (suc w) s at k = getD s (at + k) 0 + 256 * bytesAt w s at (suc k)
 
-pub number-bytes : (w : ℕ) (s : List ℕ) (at k : ℕ) → at + k + w ≤ length s → number (take w (drop (at + k) s)) ≡ bytesAt w s at k
+pub number-bytes :
+    (w : ℕ) (s : List ℕ) (at k : ℕ) → at + k + w ≤ length s → number (take w (drop (at + k) s)) ≡ bytesAt w s at k
 unfolding number
 number-bytes zero s at k h = refl
-number-bytes (suc w) s at k h = rw (drop-cons s (at + k) 0 (omega arith), ← add-suc, number-bytes w s at (suc k) (omega arith))
+number-bytes (suc w) s at k h =
+    rw (drop-cons s (at + k) 0 (omega arith), ← add-suc, number-bytes w s at (suc k) (omega arith))
 
 pub littleEndian-length : (w v : ℕ) → length (littleEndian w v) ≡ w
 unfolding littleEndian
@@ -73,7 +80,8 @@ littleEndian-length (suc w) v = ap suc (littleEndian-length w (v / 256))
 pub number-littleEndian : (w v : ℕ) → v < 256 ^ w → number (littleEndian w v) ≡ v
 unfolding number littleEndian
 number-littleEndian zero v h = omega arith
-number-littleEndian (suc w) v h = rw (number-littleEndian w (v / 256) (div-lt-iff-lt-mul (lit< tt) .1 (rw pow-suc at h))) (omega arith)
+number-littleEndian (suc w) v h =
+    rw (number-littleEndian w (v / 256) (div-lt-iff-lt-mul (lit< tt) .1 (rw pow-suc at h))) (omega arith)
 
 -- bytes that are read as a number are written back
 pub littleEndian-number : (bs : List ℕ) → Below 256 bs → littleEndian (length bs) (number bs) ≡ bs
@@ -90,7 +98,8 @@ unfolding number
 number-below zero [] h f = omega arith
 number-below zero (b ∷ bs) h f = absurd (omega arith)
 number-below (suc w) [] h f = rw pow-suc (omega (arith, number-below w [] (omega arith) f))
-number-below (suc w) (b ∷ bs) h f = rw pow-suc (omega (arith, f 0 (omega arith), number-below w bs (omega arith) (λ i k. f (suc i) (omega arith))))
+number-below (suc w) (b ∷ bs) h f =
+    rw pow-suc (omega (arith, f 0 (omega arith), number-below w bs (omega arith) (λ i k. f (suc i) (omega arith))))
 
 -- ---- runs of arguments
 
@@ -100,7 +109,8 @@ argsFrom-length w zero bs = refl
 argsFrom-length w (suc n) bs = ap suc (argsFrom-length w n (drop w bs))
 
 -- an argument is the number in its own w bytes
-pub argsFrom-at : (w n : ℕ) (bs : List ℕ) (i : ℕ) → i < n → getD (argsFrom w n bs) i 0 ≡ number (take w (drop (i * w) bs))
+pub argsFrom-at :
+    (w n : ℕ) (bs : List ℕ) (i : ℕ) → i < n → getD (argsFrom w n bs) i 0 ≡ number (take w (drop (i * w) bs))
 unfolding argsFrom
 argsFrom-at w zero bs i h = absurd (omega arith)
 argsFrom-at w (suc n) bs zero h = rw zero-mul
@@ -112,11 +122,14 @@ argBytes-length w [] = sym (zero-mul w)
 argBytes-length w (a ∷ xs) = rw (length-append, littleEndian-length, argBytes-length w xs, suc-mul, add-comm w)
 
 -- an argument's own w bytes are those of its number
-pub argBytes-at : (w : ℕ) (xs : List ℕ) (i : ℕ) → i < length xs → take w (drop (i * w) (argBytes w xs)) ≡ littleEndian w (getD xs i 0)
+pub argBytes-at :
+    (w : ℕ) (xs : List ℕ) (i : ℕ) → i < length xs → take w (drop (i * w) (argBytes w xs)) ≡ littleEndian w (getD xs i 0)
 unfolding argBytes
 argBytes-at w [] i h = absurd (omega arith)
 argBytes-at w (a ∷ xs) zero h = simp (zero-mul, take-at, littleEndian-length)
-argBytes-at w (a ∷ xs) (suc i) h = rw (suc-mul, add-comm (i * w) w, ← drop-drop (i * w) w) (simp (drop-at, littleEndian-length) (argBytes-at w xs i (omega arith)))
+argBytes-at w (a ∷ xs) (suc i) h =
+    rw (suc-mul, add-comm (i * w) w, ← drop-drop (i * w) w)
+    (simp (drop-at, littleEndian-length) (argBytes-at w xs i (omega arith)))
 
 -- the bytes of the arguments xs were written up to the i-th: one argument more, to the part of d′ that was lent
 pub args-next :
@@ -170,12 +183,15 @@ args-below w n bs f i h =
 pub size-parts : (w n : ℕ) → encodedSize w n ≡ 2 + n + n * w
 size-parts w n = rw (add-mul, one-mul, mul-comm w n) (omega arith)
 
-pub encoding-length : (w : ℕ) (ks xs : List ℕ) → length xs ≡ length ks → length (encoding w ks xs) ≡ encodedSize w (length ks)
+pub encoding-length :
+    (w : ℕ) (ks xs : List ℕ) → length xs ≡ length ks → length (encoding w ks xs) ≡ encodedSize w (length ks)
 unfolding encoding
-encoding-length w ks xs e = rw (length-append, length-append, littleEndian-length, argBytes-length, e, size-parts) (omega arith)
+encoding-length w ks xs e =
+    rw (length-append, length-append, littleEndian-length, argBytes-length, e, size-parts) (omega arith)
 
 -- the count, the kinds and the arguments, one after the other over the front of out
 pub encoding-over : (w : ℕ) (ks xs out : List ℕ) → length xs ≡ length ks
     → ((littleEndian 2 (length ks) ++ ks) ++ argBytes w xs) ++ drop (2 + length ks + length xs * w) out ≡ encoding w ks xs ++ drop (length (encoding w ks xs)) out
 unfolding encoding
-encoding-over w ks xs out e = rw (encoding-length w ks xs e, size-parts, e, append-assoc (littleEndian 2 (length ks)) ks)
+encoding-over w ks xs out e =
+    rw (encoding-length w ks xs e, size-parts, e, append-assoc (littleEndian 2 (length ks)) ks)

@@ -19,13 +19,17 @@ use Rattle.flat.proofs.Meaning.{Passed, check-passed, checked-refused}
 use Rattle.encoded.specs.Encoding.{argsIn, decoding}
 use Rattle.encoded.specs.Answer.{nodesIn, argsOpened, Opens}
 use Rattle.encoded.proofs.Laws.{size-parts}
-use Rattle.encoded.proofs.Answers.{Sized, size-fits, kinds-part, kinds-length, args-length, decoding-sized, nodes-sized}
+use Rattle.encoded.proofs.Answers.{Sized, size-fits, kinds-part, kinds-length, args-length, decoding-sized}
+use Rattle.encoded.proofs.Answers.{nodes-sized}
 use Rattle.encoded.proofs.Answers.{nodes-none, decoding-none, EncodedForm, type-form, encoded-form}
 
 -- ---- what it comes to
-pub opens-none : {w nodes deep n : ℕ} {s xs : List ℕ} → n ≡ nodesIn w nodes s → n ≡ 0 → Opens w nodes deep s xs xs (Written.Refused Length)
+pub opens-none :
+    {w nodes deep n : ℕ} {s xs : List ℕ} → n ≡ nodesIn w nodes s → n ≡ 0
+    → Opens w nodes deep s xs xs (Written.Refused Length)
 unfolding argsOpened
-opens-none {w} {nodes} {deep} {n} {s} e h = record { answers = ap writtenOf (sym (decoding-none w nodes deep s e h)); args = rw (nodes-none w nodes s e h) }
+opens-none {w} {nodes} {deep} {n} {s} e h =
+    record { answers = ap writtenOf (sym (decoding-none w nodes deep s e h)); args = rw (nodes-none w nodes s e h) }
 
 module _ {w nodes deep n : ℕ} {s xs xs′ : List ℕ} {a : Checked} (z : Sized w nodes n s) (h : a ≡ checkedOf (decoding w nodes deep s)) (x : xs′ ≡ over (argsIn w s) xs) where
   pub opens-type : a ≡ Checked.Valid → Opens w nodes deep s xs xs′ (Written.Nodes n)
@@ -47,7 +51,9 @@ pub written-refused : (r : Reading) {e : Error} → Written.Refused e ≡ writte
 written-refused (refused d) {e} q = let y : d ≡ e = cc in ap refused y
 written-refused (type t) q = impossible cc
 
-pub written-form : {w nodes deep n : ℕ} {s : List ℕ} {a : Written} → a ≡ Written.Nodes n → a ≡ writtenOf (decoding w nodes deep s) → EncodedForm w nodes deep n s
+pub written-form :
+    {w nodes deep n : ℕ} {s : List ℕ} {a : Written} → a ≡ Written.Nodes n → a ≡ writtenOf (decoding w nodes deep s)
+    → EncodedForm w nodes deep n s
 written-form {w} {nodes} {deep} {n} {s} q e =
     let r = written-type (decoding w nodes deep s) (sym q ∙ e) in
     let f : EncodedForm w nodes deep (size (r .0)) s = type-form (r .0) (r .1) in

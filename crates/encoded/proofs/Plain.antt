@@ -16,7 +16,8 @@ use Rattle.flat.proofs.Truths.{both-true}
 use Rattle.flat.proofs.Plain.{kinds-told, plain-fits, PlainType, plain-type}
 use Rattle.encoded.specs.Encoding.{number, argsFrom, kindsIn, argsIn, sizeFits, decoding}
 use Rattle.encoded.specs.Answer.{nodesIn, plainIn}
-use Rattle.encoded.proofs.Answers.{Sized, sized, size-fits, kinds-part, args-part, kinds-length, decoding-sized, nodes-some, nodes-sized}
+use Rattle.encoded.proofs.Answers.{Sized, sized, size-fits, kinds-part, args-part, kinds-length, decoding-sized}
+use Rattle.encoded.proofs.Answers.{nodes-some, nodes-sized}
 
 -- ---- bytes of one node
 pub nodes-one : {w nodes n : ℕ} {s : List ℕ} → n ≡ nodesIn w nodes s → n ≡ 1 → Sized w nodes 1 s
