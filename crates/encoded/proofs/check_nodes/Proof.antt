@@ -9,7 +9,14 @@ use Rattle.encoded.proofs.check_nodes.Tie as tie
 returns : tie.Need-returns
 returns c = ap checkedOf (sym (decoding-none _ _ _ _ (c .before .node-count .ensures) (c .if1 .taken)))
 
--- room for many: for few and for some the tests say it
+-- room for few, and for some, as the tests say
+check-with-requires : tie.Need-check-with-requires
+check-with-requires c κs = search needs
+
+check-with-requires-2 : tie.Need-check-with-requires-2
+check-with-requires-2 c κs = search needs
+
+-- room for many, since there are never more
 check-with-requires-3 : tie.Need-check-with-requires-3
 check-with-requires-3 c κs =
     let at = c .before .before .before in
@@ -22,8 +29,10 @@ check-nodes-spec =
     (tie.spec
     (λ c κs. search needs)
     returns
-    (λ c. search needs) (λ c κs. search needs)
-    (λ c. search needs) (λ c. search needs) (λ c κs. search needs)
+    (λ c. search needs)
+    check-with-requires
+    (λ c. search needs) (λ c. search needs)
+    check-with-requires-2
     (λ c. search needs) (λ c. search needs)
     check-with-requires-3
     (λ c. search needs))
