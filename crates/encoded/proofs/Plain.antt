@@ -16,7 +16,8 @@ use Rattle.flat.proofs.Truths.{both-true}
 use Rattle.flat.proofs.Plain.{kinds-told, plain-fits, PlainType, plain-type}
 use Rattle.encoded.specs.Encoding.{number, argsFrom, kindsIn, argsIn, sizeFits, decoding}
 use Rattle.encoded.specs.Answer.{nodesIn, plainIn}
-use Rattle.encoded.proofs.Answers.{Sized, sized, size-fits, kinds-part, args-part, kinds-length, decoding-sized, nodes-some, nodes-sized}
+use Rattle.encoded.proofs.Answers.{Sized, sized, size-fits, kinds-part, args-part, kinds-length, decoding-sized}
+use Rattle.encoded.proofs.Answers.{nodes-some, nodes-sized}
 
 -- ---- bytes of one node
 pub nodes-one : {w nodes n : ℕ} {s : List ℕ} → n ≡ nodesIn w nodes s → n ≡ 1 → Sized w nodes 1 s
@@ -30,12 +31,12 @@ module _ {w nodes : ℕ} {s : List ℕ} (z : Sized w nodes 1 s) where
   unfolding argsFrom
   one-arg = rw (← args-part z, part-to-end)
 
-  -- the test of that node is the test of the bytes
+  -- the test of the one node is the test of the bytes
   pub one-told : plainLeaf (getD s 2 0) (number (take w (drop 3 s))) ≡ plainIn w nodes s
   unfolding plainIn onePlain
   one-told = rw (size-fits z, one-kind, one-arg)
 
--- any other number of nodes
+-- bytes of any other number of nodes are no plain leaf
 pub others-told : (w nodes : ℕ) (s : List ℕ) {n : ℕ} → n ≡ nodesIn w nodes s → (n ≡ 1 → ⊥) → false ≡ plainIn w nodes s
 unfolding plainIn
 others-told w nodes s e h = go (sizeFits w nodes s) refl
@@ -74,7 +75,7 @@ plain-bytes {w} {nodes} {s} e =
       reads = λ deep. rw (decoding-sized one, k) (rw k at (p deep .reads));
     }
 
--- its root
+-- the root of a plain leaf
 pub plain-root : {w nodes : ℕ} (deep : ℕ) {s : List ℕ} → PlainBytes w nodes s
     → (Root.Node (getD s 2 0) 0 ≡ rootOf (decoding w nodes deep s)) × RootFits (Root.Node (getD s 2 0) 0)
 unfolding headKind headArg

@@ -30,18 +30,25 @@ module _ (deep : ℕ) {ks xs : List ℕ} {t : DataType} (f : FlatForm ks xs t) w
   whole-form : shaped deep (length ks) (nodeAt ks xs) ≡ unless (leb (depth t) deep) Depth (type t)
   whole-form = rw (form-read f, eq-eqb (size t) (length ks) (sym (form-length f)))
 
-  pub too-deep : TooDeep ≡ spanWithin deep (typeAt ks xs) → Refused Depth ≡ checkedOf (shaped deep (length ks) (nodeAt ks xs))
+  pub too-deep :
+      TooDeep ≡ spanWithin deep (typeAt ks xs) → Refused Depth ≡ checkedOf (shaped deep (length ks) (nodeAt ks xs))
   too-deep e = rw (whole-form, lt-leb (depth t) deep (type-deeper deep t (e ∙ ap (spanWithin deep) (form-stands f .1))))
 
-  pub one-type : (n : ℕ) → Ends n ≡ spanWithin deep (typeAt ks xs) → Valid ≡ checkedOf (shaped deep (length ks) (nodeAt ks xs))
-  one-type n e = rw (whole-form, le-leb (depth t) deep (type-ended deep t n (e ∙ ap (spanWithin deep) (form-stands f .1)) .1))
+  pub one-type :
+      (n : ℕ) → Ends n ≡ spanWithin deep (typeAt ks xs) → Valid ≡ checkedOf (shaped deep (length ks) (nodeAt ks xs))
+  one-type n e =
+      rw (whole-form, le-leb (depth t) deep (type-ended deep t n (e ∙ ap (spanWithin deep) (form-stands f .1)) .1))
 
 -- ---- 1 to 3, and then the rest
-pub uneven : (nodes deep : ℕ) (ks xs : List ℕ) → (length ks ≡ length xs → ⊥) → Refused Length ≡ checkedOf (reading nodes deep ks xs)
+pub uneven :
+    (nodes deep : ℕ) (ks xs : List ℕ) → (length ks ≡ length xs → ⊥)
+    → Refused Length ≡ checkedOf (reading nodes deep ks xs)
 unfolding reading lengthFits
 uneven nodes deep ks xs e = rw (ne-eqb (length ks) (length xs) e)
 
-pub no-node : (nodes deep : ℕ) (ks xs : List ℕ) → length ks ≡ length xs → length ks ≡ 0 → Refused Length ≡ checkedOf (reading nodes deep ks xs)
+pub no-node :
+    (nodes deep : ℕ) (ks xs : List ℕ) → length ks ≡ length xs → length ks ≡ 0
+    → Refused Length ≡ checkedOf (reading nodes deep ks xs)
 unfolding reading lengthFits
 no-node nodes deep ks xs e z = rw (eq-eqb (length ks) (length xs) e, le-ltb 0 (length ks) (omega arith))
 
@@ -65,24 +72,33 @@ module _ (nodes deep : ℕ) {ks xs : List ℕ} (l : Lengths ks xs) where
     unfolding reading
     bad-kind k = rw (fits, k)
 
-    pub bad-argument : kindsFit ks ≡ true → argumentsFit ks xs ≡ false → Refused Argument ≡ checkedOf (reading nodes deep ks xs)
+    pub bad-argument :
+        kindsFit ks ≡ true → argumentsFit ks xs ≡ false → Refused Argument ≡ checkedOf (reading nodes deep ks xs)
     unfolding reading
     bad-argument k a = rw (fits, k, a)
 
     -- where all arguments fit, so do the kinds
-    fit-nodes : argumentsFit ks xs ≡ true → checkedOf (shaped deep (length ks) (nodeAt ks xs)) ≡ checkedOf (reading nodes deep ks xs)
+    fit-nodes :
+        argumentsFit ks xs ≡ true
+        → checkedOf (shaped deep (length ks) (nodeAt ks xs)) ≡ checkedOf (reading nodes deep ks xs)
     unfolding reading
     fit-nodes a = rw (fits, arguments-kinds ks xs (l .even) a, a)
 
     -- the scan passes a type, whose arguments all fit
-    pub scan-passed : scanType (2 * nodes) start ks xs ≡ true → checkedOf (shaped deep (length ks) (nodeAt ks xs)) ≡ checkedOf (reading nodes deep ks xs)
+    pub scan-passed :
+        scanType (2 * nodes) start ks xs ≡ true
+        → checkedOf (shaped deep (length ks) (nodeAt ks xs)) ≡ checkedOf (reading nodes deep ks xs)
     scan-passed s = let f = scanned (2 * nodes) ks xs s .1 in fit-nodes (form-fits f {nodes = nodes} (omega (arith, form-length f)) .args)
 
     -- 4, where the scan passes none
-    pub no-shape : argumentsFit ks xs ≡ true → scanType (2 * nodes) start ks xs ≡ false → Refused Shape ≡ checkedOf (reading nodes deep ks xs)
+    pub no-shape :
+        argumentsFit ks xs ≡ true → scanType (2 * nodes) start ks xs ≡ false
+        → Refused Shape ≡ checkedOf (reading nodes deep ks xs)
     no-shape a f = go (nodeAt ks xs) refl ∙ fit-nodes a
       where
-        whole : (t : DataType) → nodeAt ks xs ≡ some t → (b : Bool) → eqb (size t) (length ks) ≡ b → Refused Shape ≡ checkedOf (unless b Shape (unless (leb (depth t) deep) Depth (type t)))
+        whole :
+            (t : DataType) → nodeAt ks xs ≡ some t → (b : Bool) → eqb (size t) (length ks) ≡ b
+            → Refused Shape ≡ checkedOf (unless b Shape (unless (leb (depth t) deep) Depth (type t)))
         whole t q true n =
             let form = read-form t q (eqb-true (size t) (length ks) n) (l .even) a in
             never (sym f ∙ complete nodes form (omega (arith, form-length form)))

@@ -46,11 +46,15 @@ wide-ruled : Ruled wide
 unfolding Ruled fieldsOf count argumentFits argumentRule
 wide-ruled = (refl, fields-ruled 255 int8 int8-ruled)
 
-pub depth-limit : {nodes deep : ℕ} → size (lists 33 int8) ≤ nodes → depth (lists 32 int8) ≤ deep → deep < depth (lists 33 int8) → DepthLimit nodes deep
+pub depth-limit :
+    {nodes deep : ℕ} → size (lists 33 int8) ≤ nodes → depth (lists 32 int8) ≤ deep → deep < depth (lists 33 int8)
+    → DepthLimit nodes deep
 unfolding size lists
 depth-limit s d e = record { lists-32 = within _ _ _ (lists-ruled 32 int8 int8-ruled) (omega arith) d; lists-33 = too-deep _ _ _ (lists-ruled 33 int8 int8-ruled) s e }
 
-pub node-limit : {nodes deep : ℕ} → size (lists 1 wide) ≤ nodes → nodes < size (lists 2 wide) → depth (lists 1 wide) ≤ deep → NodeLimit nodes deep
+pub node-limit :
+    {nodes deep : ℕ} → size (lists 1 wide) ≤ nodes → nodes < size (lists 2 wide) → depth (lists 1 wide) ≤ deep
+    → NodeLimit nodes deep
 unfolding size depth lists fieldsOf
 node-limit s g d = record {
   nodes-511 = (refl, within _ _ _ wide-ruled (omega arith) (omega arith));

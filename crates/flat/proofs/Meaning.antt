@@ -11,9 +11,11 @@ use lib.Dec.{leb, ltb, eqb}
 use lib.ListN.{length, getD, drop-of-length-le}
 use Rattle.flat.specs.Kind
 use Rattle.flat.specs.Argument.{argumentFits, argumentRule}
-use Rattle.flat.specs.Tree.{DataType, leaf, list, array, struct, Fields, empty, field, size, depth, kindsOf, kindsOfs, argsOf, argsOfs, count, headKind, headArg}
+use Rattle.flat.specs.Tree.{DataType, leaf, list, array, struct, Fields, empty, field, size, depth, kindsOf}
+use Rattle.flat.specs.Tree.{kindsOfs, argsOf, argsOfs, count, headKind, headArg}
 use Rattle.flat.specs.Reader.{nodeAt}
-use Rattle.flat.specs.Reading.{Reading, refused, type, unless, lengthFits, kindsFit, argumentsFit, shaped, reading, checkedOf, Ruled, RuledFields, IsType}
+use Rattle.flat.specs.Reading.{Reading, refused, type, unless, lengthFits, kindsFit, argumentsFit, shaped}
+use Rattle.flat.specs.Reading.{reading, checkedOf, Ruled, RuledFields, IsType}
 use Rattle.flat.specs.Refusals.{FlatForm, NodesFit}
 use Rattle.flat.specs.declared.error.Error.{Error}
 use Rattle.flat.specs.declared.error.Error.the-variants.{Length, Kind, Argument, Shape, Depth}
@@ -49,18 +51,23 @@ mutual
 
   kinds-fits : (fs : Fields) → RuledFields fs → (ks : List ℕ) → kindsFit (kindsOfs fs ++ ks) ≡ kindsFit ks
   kinds-fits empty r ks = refl
-  kinds-fits (field name t fs) r ks = ap kindsFit (append-assoc (kindsOf t) (kindsOfs fs) ks) ∙ kinds-fit t (r .1) (kindsOfs fs ++ ks) ∙ kinds-fits fs (r .2) ks
+  kinds-fits (field name t fs) r ks =
+      ap kindsFit (append-assoc (kindsOf t) (kindsOfs fs) ks) ∙ kinds-fit t (r .1) (kindsOfs fs ++ ks) ∙ kinds-fits fs
+      (r .2) ks
 
 mutual
   unfolding Ruled kindsOf argsOf argumentsFit argumentFits argumentRule
 
-  arguments-fit : (t : DataType) → Ruled t → (ks xs : List ℕ) → argumentsFit (kindsOf t ++ ks) (argsOf t ++ xs) ≡ argumentsFit ks xs
+  arguments-fit :
+      (t : DataType) → Ruled t → (ks xs : List ℕ) → argumentsFit (kindsOf t ++ ks) (argsOf t ++ xs) ≡ argumentsFit ks xs
   arguments-fit (leaf k a) r ks xs = rw (r .1)
   arguments-fit (list t) r ks xs = arguments-fit t r ks xs
   arguments-fit (array w t) r ks xs = arguments-fit t r ks xs
   arguments-fit (struct fs) r ks xs = rw (r .0) (arguments-fits fs (r .1) ks xs)
 
-  arguments-fits : (fs : Fields) → RuledFields fs → (ks xs : List ℕ) → argumentsFit (kindsOfs fs ++ ks) (argsOfs fs ++ xs) ≡ argumentsFit ks xs
+  arguments-fits :
+      (fs : Fields) → RuledFields fs → (ks xs : List ℕ)
+      → argumentsFit (kindsOfs fs ++ ks) (argsOfs fs ++ xs) ≡ argumentsFit ks xs
   arguments-fits empty r ks xs = refl
   arguments-fits (field name t fs) r ks xs =
       rw (r .0)
@@ -104,7 +111,9 @@ pub own-form : (t : DataType) → Ruled t → FlatForm (kindsOf t) (argsOf t) t
 own-form t r = record { kinds = refl; args = refl; ruled = r }
 
 -- where none of 1 to 3 is given, 4 and 5 are left
-pub fit-reading : (nodes deep : ℕ) {ks xs : List ℕ} → NodesFit nodes ks xs → reading nodes deep ks xs ≡ shaped deep (length ks) (nodeAt ks xs)
+pub fit-reading :
+    (nodes deep : ℕ) {ks xs : List ℕ} → NodesFit nodes ks xs
+    → reading nodes deep ks xs ≡ shaped deep (length ks) (nodeAt ks xs)
 unfolding reading
 fit-reading nodes deep f = rw (f .lengths, f .kinds, f .args)
 
@@ -119,7 +128,9 @@ mutual
   unfolding Ruled Good kindsOf argsOf argumentsFit argumentFits argumentRule
 
   -- fitting arguments of a tree, and of what follows it
-  ruled : (t : DataType) → Good t → (ks xs : List ℕ) → argumentsFit (kindsOf t ++ ks) (argsOf t ++ xs) ≡ true → Ruled t × (argumentsFit ks xs ≡ true)
+  ruled :
+      (t : DataType) → Good t → (ks xs : List ℕ) → argumentsFit (kindsOf t ++ ks) (argsOf t ++ xs) ≡ true
+      → Ruled t × (argumentsFit ks xs ≡ true)
   ruled (leaf k a) g ks xs e = let s = both-true (argumentFits k a) (argumentsFit ks xs) e in ((g, s .0), s .1)
   ruled (list t) g ks xs e = ruled t g ks xs e
   ruled (array w t) g ks xs e = ruled t g ks xs e
@@ -127,7 +138,9 @@ mutual
       let s = both-true (argumentFits Kind.Struct (count fs)) (argumentsFit (kindsOfs fs ++ ks) (argsOfs fs ++ xs)) e in
       let r = ruled-fields fs g ks xs (s .1) in ((s .0, r .0), r .1)
 
-  ruled-fields : (fs : Fields) → Goods fs → (ks xs : List ℕ) → argumentsFit (kindsOfs fs ++ ks) (argsOfs fs ++ xs) ≡ true → RuledFields fs × (argumentsFit ks xs ≡ true)
+  ruled-fields :
+      (fs : Fields) → Goods fs → (ks xs : List ℕ) → argumentsFit (kindsOfs fs ++ ks) (argsOfs fs ++ xs) ≡ true
+      → RuledFields fs × (argumentsFit ks xs ≡ true)
   ruled-fields empty g ks xs e = (tt, e)
   ruled-fields (field name t fs) g ks xs e =
       let s = both-true (argumentFits Kind.Field name) (argumentsFit ((kindsOf t ++ kindsOfs fs) ++ ks) ((argsOf t ++ argsOfs fs) ++ xs)) e in
@@ -141,7 +154,9 @@ passed true e r t q = (refl, q)
 passed false e r t q = impossible cc
 
 -- A tree that was read from all the nodes, whose arguments fit: the arrays are its flat form.
-pub read-form : {ks xs : List ℕ} (t : DataType) → nodeAt ks xs ≡ some t → size t ≡ length ks → length ks ≡ length xs → argumentsFit ks xs ≡ true → FlatForm ks xs t
+pub read-form :
+    {ks xs : List ℕ} (t : DataType) → nodeAt ks xs ≡ some t → size t ≡ length ks → length ks ≡ length xs
+    → argumentsFit ks xs ≡ true → FlatForm ks xs t
 read-form {ks} {xs} t q n e f =
     let o : Sound ks xs (some t) = subst (λ (v : Option DataType). Sound ks xs v) q (sound ks xs) in
     let k : ks ≡ kindsOf t ++ [] = o .0 ∙ ap (λ (l : List ℕ). kindsOf t ++ l) (drop-of-length-le ks {i = size t} (omega arith)) in
@@ -158,7 +173,8 @@ pub holds-form : {nodes deep : ℕ} {ks xs : List ℕ} {t : DataType} → Holds 
 holds-form h = record { kinds = h .kinds; args = h .args; ruled = h .is-type .ruled }
 
 -- what the test of 1 says where it is passed
-pub lengths-fit : (nodes : ℕ) (ks xs : List ℕ) → lengthFits nodes ks xs ≡ true → (length ks ≡ length xs) × (length ks ≤ nodes)
+pub lengths-fit :
+    (nodes : ℕ) (ks xs : List ℕ) → lengthFits nodes ks xs ≡ true → (length ks ≡ length xs) × (length ks ≤ nodes)
 unfolding lengthFits
 lengths-fit nodes ks xs e =
     let l = both-true (eqb (length ks) (length xs) && ltb 0 (length ks)) (leb (length ks) nodes) e in
@@ -166,7 +182,9 @@ lengths-fit nodes ks xs e =
     (eqb-true (length ks) (length xs) (m .0), leb-true (length ks) nodes (l .1))
 
 module _ (nodes deep : ℕ) (ks xs : List ℕ) (t : DataType) where
-  one-type : NodesFit nodes ks xs → (p : Option DataType) → nodeAt ks xs ≡ p → shaped deep (length ks) p ≡ type t → Holds nodes deep ks xs t
+  one-type :
+      NodesFit nodes ks xs → (p : Option DataType) → nodeAt ks xs ≡ p → shaped deep (length ks) p ≡ type t
+      → Holds nodes deep ks xs t
   one-type f none q r = impossible cc
   one-type f (some u) q r =
       let l = lengths-fit nodes ks xs (f .lengths) in
@@ -209,7 +227,8 @@ pub record Passed (nodes deep : ℕ) (ks xs : List ℕ) : Type 0 where
   pub valid : Valid ks xs
   pub front : typeAt ks xs ≡ tree
 
-pub check-passed : {nodes deep : ℕ} {ks xs : List ℕ} → answer.Valid ≡ checkedOf (reading nodes deep ks xs) → Passed nodes deep ks xs
+pub check-passed :
+    {nodes deep : ℕ} {ks xs : List ℕ} → answer.Valid ≡ checkedOf (reading nodes deep ks xs) → Passed nodes deep ks xs
 check-passed {nodes} {deep} {ks} {xs} e =
     let r = checked-type (reading nodes deep ks xs) e in
     let h = holds nodes deep ks xs (r .0) (r .1) in

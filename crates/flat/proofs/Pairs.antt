@@ -23,7 +23,8 @@ module _ {A : Type 0} (refusal : Error → A) (rule : DataType → DataType → 
 -- A rule that rests on the two roots alone says of two types what it says of their roots.
 pub by-roots : {A : Type 0} (refusal : Error → A) (rule : ℕ → ℕ → ℕ → ℕ → A) (l r : Reading)
     → bothOf refusal (λ t u. rule (headKind t) (headArg t) (headKind u) (headArg u)) l r
-    ≡ bothOf refusal (λ t u. rule (headKind t) (headArg t) (headKind u) (headArg u)) (rootReading (rootOf l)) (rootReading (rootOf r))
+    ≡ bothOf refusal (λ t u. rule (headKind t) (headArg t) (headKind u) (headArg u)) (rootReading (rootOf l))
+    (rootReading (rootOf r))
 unfolding bothOf headKind headArg
 by-roots refusal rule (refused e) r = refl
 by-roots refusal rule (type t) (refused e) = refl

@@ -67,9 +67,12 @@ plain-fits k a e =
     (eqb-true a 0 (both .0), omega (arith, leb-true k Kind.UnknownIntNeg (fits .0)), fits .1)
 
 -- a leaf that follows its rule is a type
-leaf-type : (nodes deep k a : ℕ) → 1 ≤ nodes → k < Kind.List → argumentFits k a ≡ true → reading nodes deep (k ∷ []) (a ∷ []) ≡ type (leaf k a)
+leaf-type :
+    (nodes deep k a : ℕ) → 1 ≤ nodes → k < Kind.List → argumentFits k a ≡ true
+    → reading nodes deep (k ∷ []) (a ∷ []) ≡ type (leaf k a)
 unfolding kindsOf argsOf Ruled size depth
-leaf-type nodes deep k a h l f = type-passes nodes deep (leaf k a) (record { ruled = (omega arith, f); within = h; shallow = omega arith })
+leaf-type nodes deep k a h l f =
+    type-passes nodes deep (leaf k a) (record { ruled = (omega arith, f); within = h; shallow = omega arith })
 
 -- What the test of two arrays tells: they are the one leaf, with the argument 0, and that is a type.
 pub record PlainType (nodes deep : ℕ) (ks xs : List ℕ) : Type 0 where

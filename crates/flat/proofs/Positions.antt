@@ -14,10 +14,14 @@ use lib.Seq.{drop-cons, take-all}
 use borrow.Author.Tests.{le-leb, ne-eqb}
 use Rattle.flat.specs.Kind
 use Rattle.flat.specs.Tree.{DataType, list, array, struct, Fields, empty, field, size}
-use Rattle.flat.specs.Reader.{Children, no-child, under-list, under-array, fields, no-type, children, mapO, bindO, Reads, underNode, stepNode, underField, stepFields, nodeIn, fieldsIn, nodeAt, fieldsAt}
+use Rattle.flat.specs.Reader.{Children, no-child, under-list, under-array, fields, no-type, children, mapO, bindO}
+use Rattle.flat.specs.Reader.{Reads, underNode, stepNode, underField, stepFields, nodeIn, fieldsIn, nodeAt}
+use Rattle.flat.specs.Reader.{fieldsAt}
 
 -- Readers that agree on what stands under a node agree on the node.
-same-under : (p p′ : Reads DataType) (f f′ : ℕ → Reads Fields) (s : Children) (k a : ℕ) (ks xs : List ℕ) → p ks xs ≡ p′ ks xs → f a ks xs ≡ f′ a ks xs → underNode p f s k a ks xs ≡ underNode p′ f′ s k a ks xs
+same-under :
+    (p p′ : Reads DataType) (f f′ : ℕ → Reads Fields) (s : Children) (k a : ℕ) (ks xs : List ℕ) → p ks xs ≡ p′ ks xs
+    → f a ks xs ≡ f′ a ks xs → underNode p f s k a ks xs ≡ underNode p′ f′ s k a ks xs
 same-under p p′ f f′ no-child k a ks xs e g = refl
 same-under p p′ f f′ under-list k a ks xs e g = ap (mapO list) e
 same-under p p′ f f′ under-array k a ks xs e g = ap (mapO (array a)) e
@@ -25,7 +29,10 @@ same-under p p′ f f′ fields k a ks xs e g = ap (mapO struct) g
 same-under p p′ f f′ no-type k a ks xs e g = refl
 
 -- Readers that agree on what stands under a field, and on the fields after it, agree on the fields.
-same-under-field : (p p′ : Reads DataType) (f f′ : ℕ → Reads Fields) (b : Bool) (m a : ℕ) (ks xs : List ℕ) → p ks xs ≡ p′ ks xs → ((j : ℕ) → f m (drop j ks) (drop j xs) ≡ f′ m (drop j ks) (drop j xs)) → underField p f b m a ks xs ≡ underField p′ f′ b m a ks xs
+same-under-field :
+    (p p′ : Reads DataType) (f f′ : ℕ → Reads Fields) (b : Bool) (m a : ℕ) (ks xs : List ℕ) → p ks xs ≡ p′ ks xs
+    → ((j : ℕ) → f m (drop j ks) (drop j xs) ≡ f′ m (drop j ks) (drop j xs))
+    → underField p f b m a ks xs ≡ underField p′ f′ b m a ks xs
 same-under-field p p′ f f′ false m a ks xs e g = refl
 same-under-field p p′ f f′ true m a ks xs e g = rw e (go (p′ ks xs))
   where
@@ -46,7 +53,8 @@ mutual
   anyIn (suc n) (suc n′) [] xs h h′ = refl
   anyIn (suc n) (suc n′) (k ∷ ks) [] h h′ = refl
   anyIn (suc n) (suc n′) (k ∷ ks) (a ∷ xs) h h′ =
-      same-under (nodeIn n) (nodeIn n′) (fieldsIn n) (fieldsIn n′) (children k a) k a ks xs (anyIn n n′ ks xs (omega arith) (omega arith)) (anysIn n n′ a ks xs (omega arith) (omega arith))
+      same-under (nodeIn n) (nodeIn n′) (fieldsIn n) (fieldsIn n′) (children k a) k a ks xs
+      (anyIn n n′ ks xs (omega arith) (omega arith)) (anysIn n n′ a ks xs (omega arith) (omega arith))
 
   pub anysIn : (n n′ m : ℕ) (ks xs : List ℕ) → length ks ≤ n → length ks ≤ n′ → fieldsIn n m ks xs ≡ fieldsIn n′ m ks xs
   anysIn zero zero m ks xs h h′ = refl
@@ -60,7 +68,8 @@ mutual
   anysIn (suc n) (suc n′) (suc m) [] xs h h′ = refl
   anysIn (suc n) (suc n′) (suc m) (k ∷ ks) [] h h′ = refl
   anysIn (suc n) (suc n′) (suc m) (k ∷ ks) (a ∷ xs) h h′ =
-      same-under-field (nodeIn n) (nodeIn n′) (fieldsIn n) (fieldsIn n′) (eqb k Kind.Field) m a ks xs (anyIn n n′ ks xs (omega arith) (omega arith))
+      same-under-field (nodeIn n) (nodeIn n′) (fieldsIn n) (fieldsIn n′) (eqb k Kind.Field) m a ks xs
+      (anyIn n n′ ks xs (omega arith) (omega arith))
       (λ (j : ℕ). anysIn n n′ m (drop j ks) (drop j xs) (simp length-drop (omega arith)) (simp length-drop (omega arith)))
 
 -- Without the bound: what a node or a field says of the rest.
@@ -68,7 +77,8 @@ pub node-step : (ks xs : List ℕ) → nodeAt ks xs ≡ stepNode nodeAt fieldsAt
 unfolding nodeAt fieldsAt nodeIn
 node-step [] xs = refl
 node-step (k ∷ ks) [] = refl
-node-step (k ∷ ks) (a ∷ xs) = same-under (nodeIn (length ks)) nodeAt (fieldsIn (length ks)) fieldsAt (children k a) k a ks xs refl refl
+node-step (k ∷ ks) (a ∷ xs) =
+    same-under (nodeIn (length ks)) nodeAt (fieldsIn (length ks)) fieldsAt (children k a) k a ks xs refl refl
 
 pub fields-step : (m : ℕ) (ks xs : List ℕ) → fieldsAt m ks xs ≡ stepFields nodeAt fieldsAt m ks xs
 unfolding nodeAt fieldsAt nodeIn

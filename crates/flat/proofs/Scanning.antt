@@ -12,11 +12,13 @@ use lib.Seq.{drop-cons}
 use Rattle.flat.specs.Kind
 use Rattle.flat.specs.Argument.{argumentFits, argumentRule, follows}
 use Rattle.flat.specs.Reader.{children}
-use Rattle.flat.specs.Scan.{NoDeeper, start, wrapped, opened, paid, typeFits, fieldFits, after, scanType, scanFields}
+use Rattle.flat.specs.Scan.{NoDeeper, start, wrapped, opened, paid, typeFits, fieldFits, after, scanType}
+use Rattle.flat.specs.Scan.{scanFields}
 use Rattle.flat.specs.declared.scan.Scan.{Scan}
 use Rattle.flat.proofs.Truths.{both-true}
 use Rattle.flat.proofs.Positions.{children-leaf, children-list, children-array, children-struct}
-use Rattle.flat.proofs.States.{Opened, outermost, inside, opens, wrapped-owed, paid-owed, start-within, wrapped-within, opened-within, paid-within, within-more}
+use Rattle.flat.proofs.States.{Opened, outermost, inside, opens, wrapped-owed, paid-owed, start-within}
+use Rattle.flat.proofs.States.{wrapped-within, opened-within, paid-within, within-more}
 use Rattle.flat.proofs.Plain.{kind-told, plain-fits}
 
 -- a node that is no field
@@ -100,7 +102,9 @@ pub at-start :
     → AtType deep ks xs 0 r
 at-start {deep} p e =
     rw e (record {
-      stands = record { even = p .0; few = p .1; bound = p .2; here = omega arith; owed = omega arith; within = start-within deep };
+      stands =
+          record
+          { even = p .0; few = p .1; bound = p .2; here = omega arith; owed = omega arith; within = start-within deep };
       says = refl;
     })
 
@@ -112,7 +116,8 @@ on :
     → r .owed ≤ s .owed + 255
     → NoDeeper deep r
     → Standing deep ks xs (at + 1) r
-on p h o w = record { even = p .even; few = p .few; bound = p .bound; here = omega arith; owed = omega arith; within = w }
+on p h o w =
+    record { even = p .even; few = p .few; bound = p .bound; here = omega arith; owed = omega arith; within = w }
 
 module _ {deep : ℕ} {ks xs : List ℕ} {at : ℕ} {s : Scan} (p : AtType deep ks xs at s) where
   pub type-end : length ks ≤ at → false ≡ scanType deep start ks xs
@@ -162,14 +167,17 @@ module _ {deep at : ℕ} {ks xs : List ℕ} {s : Scan} {p : AtType deep ks xs at
     opened-asks = (wrapped-asks, omega (arith, few-fields, p .stands))
 
     module _ {r : Scan} (e : r ≡ opened (getD xs at 0) s) where
-      struct-step : scanType deep start ks xs ≡ (leb (r .depth) deep && scanFields deep r (drop (at + 1) ks) (drop (at + 1) xs))
+      struct-step :
+          scanType deep start ks xs ≡ (leb (r .depth) deep && scanFields deep r (drop (at + 1) ks) (drop (at + 1) xs))
       struct-step = rw e (type-step p (f .inside) ∙ after-struct (getD ks at 0) (getD xs at 0) (f .fits) _ _ _ l)
 
       pub past-struct : r .depth ≤ deep → Past p r
       past-struct d =
           let o : Opened (getD xs at 0) s r = rw e (opens (getD xs at 0) s) in
           record {
-            stands = on (p .stands) (f .inside) (omega (arith, few-fields, opened-owed o)) (opened-within (p .stands .within) o d);
+            stands =
+                on (p .stands) (f .inside) (omega (arith, few-fields, opened-owed o))
+                (opened-within (p .stands .within) o d);
             says = struct-step ∙ rw (le-leb (r .depth) deep d);
           }
 
@@ -184,7 +192,9 @@ pub record UnderOne {deep at : ℕ} {ks xs : List ℕ} {s : Scan} {p : AtType de
 
 module _ {deep at : ℕ} {ks xs : List ℕ} {s : Scan} {p : AtType deep ks xs at s} {f : NodeFits p} {r : Scan} (o : UnderOne f r) where
   one-step : scanType deep start ks xs ≡ (leb (r .depth) deep && scanType deep r (drop (at + 1) ks) (drop (at + 1) xs))
-  one-step = rw (o .state) (type-step p (f .inside) ∙ after-one (getD ks at 0) (getD xs at 0) (f .fits) _ _ _ (o .low) (o .high))
+  one-step =
+      rw (o .state)
+      (type-step p (f .inside) ∙ after-one (getD ks at 0) (getD xs at 0) (f .fits) _ _ _ (o .low) (o .high))
 
   pub past-one : r .depth ≤ deep → AtType deep ks xs (at + 1) r
   past-one d =
@@ -202,7 +212,8 @@ module _ {deep at : ℕ} {ks xs : List ℕ} {s : Scan} (p : AtFields deep ks xs 
   fields-over : at ≡ length ks → scanType deep start ks xs ≡ eqb (s .owed) 0
   unfolding scanType
   fields-over h =
-      p .says ∙ ap₂ (scanFields deep s) (drop-of-length-le ks {i = at} (omega arith)) (drop-of-length-le xs {i = at} (omega (arith, p .stands .even)))
+      p .says ∙ ap₂ (scanFields deep s) (drop-of-length-le ks {i = at} (omega arith))
+      (drop-of-length-le xs {i = at} (omega (arith, p .stands .even)))
 
   fields-step : at < length ks → scanType deep start ks xs ≡ (ltb 0 (s .owed) && fieldFits (getD ks at 0) (getD xs at 0) && scanType deep (paid s) (drop (at + 1) ks) (drop (at + 1) xs))
   unfolding scanType
@@ -227,7 +238,8 @@ module _ {deep at : ℕ} {ks xs : List ℕ} {s : Scan} {p : AtFields deep ks xs 
   pub bad-field : fieldFits (getD ks at 0) (getD xs at 0) ≡ false → false ≡ scanType deep start ks xs
   bad-field f = sym (fields-step p (d .inside) ∙ rw (lt-ltb 0 (s .owed) (d .more), f))
 
-  pub past-field : fieldFits (getD ks at 0) (getD xs at 0) ≡ true → {r : Scan} → r ≡ paid s → AtType deep ks xs (at + 1) r
+  pub past-field :
+      fieldFits (getD ks at 0) (getD xs at 0) ≡ true → {r : Scan} → r ≡ paid s → AtType deep ks xs (at + 1) r
   past-field f e =
       rw e (record {
         stands = on (p .stands) (d .inside) (omega (arith, paid-owed s)) (paid-within (p .stands .within));

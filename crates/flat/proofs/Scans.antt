@@ -66,9 +66,12 @@ pub arguments-kinds : (ks xs : List ℕ) → length ks ≡ length xs → argumen
 unfolding kindsFit argumentsFit argumentFits
 arguments-kinds [] xs e f = refl
 arguments-kinds (k ∷ ks) [] e f = absurd (omega arith)
-arguments-kinds (k ∷ ks) (a ∷ xs) e f = go (leb k Kind.Field) (follows (argumentRule k) a) (arguments-kinds ks xs (omega arith)) f
+arguments-kinds (k ∷ ks) (a ∷ xs) e f =
+    go (leb k Kind.Field) (follows (argumentRule k) a) (arguments-kinds ks xs (omega arith)) f
   where
-    go : (b c : Bool) → (argumentsFit ks xs ≡ true → kindsFit ks ≡ true) → (b && c && argumentsFit ks xs) ≡ true → (b && kindsFit ks) ≡ true
+    go :
+        (b c : Bool) → (argumentsFit ks xs ≡ true → kindsFit ks ≡ true) → (b && c && argumentsFit ks xs) ≡ true
+        → (b && kindsFit ks) ≡ true
     go true true r q = r q
     go true false r q = never q
     go false c r q = never q

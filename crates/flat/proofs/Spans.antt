@@ -20,8 +20,10 @@ use Rattle.flat.specs.declared.span.Span.{Span}
 use Rattle.flat.specs.declared.span.Span.the-variants.{Ends, TooDeep}
 use Rattle.flat.proofs.Truths.{impossible}
 use Rattle.flat.proofs.ReadBack.{View, is-leaf, is-struct, is-other, view}
-use Rattle.flat.proofs.Positions.{rest, children-leaf, children-list, children-list-bad, children-array, children-struct}
-use Rattle.flat.proofs.Walks.{from, shorter, Unary, AtNode, at-leaf, at-one, at-struct, at-node, unary-size, valid-of, type-is, type-leaf, struct-of, run-end}
+use Rattle.flat.proofs.Positions.{rest, children-leaf, children-list, children-list-bad, children-array}
+use Rattle.flat.proofs.Positions.{children-struct}
+use Rattle.flat.proofs.Walks.{from, shorter, Unary, AtNode, at-leaf, at-one, at-struct, at-node, unary-size}
+use Rattle.flat.proofs.Walks.{valid-of, type-is, type-leaf, struct-of, run-end}
 use Rattle.flat.proofs.Onward.{from-zero, from-first, onward, next-valid, next-run, next-field}
 
 -- ---- an answer
@@ -90,7 +92,8 @@ none-seen e = record { even = e; inside = omega arith; counted = sym (zero-add _
 module _ {ks xs : List ℕ} {at : ℕ} (s : Seen ks xs at) where
   pub wrappers-end : length ks ≤ at → (at ≡ wrappersOf ks xs) × (at ≤ length ks)
   unfolding wrappersOf
-  wrappers-end h = (omega (arith, s .counted, ap (λ (l : List ℕ). wrappersOf l (drop at xs)) (drop-of-length-le ks h)), s .inside)
+  wrappers-end h =
+      (omega (arith, s .counted, ap (λ (l : List ℕ). wrappersOf l (drop at xs)) (drop-of-length-le ks h)), s .inside)
 
   module _ (h : at < length ks) where
     wrappers-step : wrappersOf (drop at ks) (drop at xs) ≡ wrapping (children (getD ks at 0) (getD xs at 0)) (wrappersOf (drop (at + 1) ks) (drop (at + 1) xs))
@@ -100,7 +103,9 @@ module _ {ks xs : List ℕ} {at : ℕ} (s : Seen ks xs at) where
     stop : wrappersOf (drop at ks) (drop at xs) ≡ 0 → (at ≡ wrappersOf ks xs) × (at ≤ length ks)
     stop z = (omega (arith, s .counted), s .inside)
 
-    on : wrappersOf (drop at ks) (drop at xs) ≡ suc (wrappersOf (drop (at + 1) ks) (drop (at + 1) xs)) → Seen ks xs (at + 1)
+    on :
+        wrappersOf (drop at ks) (drop at xs) ≡ suc (wrappersOf (drop (at + 1) ks) (drop (at + 1) xs))
+        → Seen ks xs (at + 1)
     on z = record { even = s .even; inside = omega arith; counted = omega (arith, s .counted) }
 
     pub list-seen : getD ks at 0 ≡ Kind.List → getD xs at 0 ≡ 0 → Seen ks xs (at + 1)
@@ -112,10 +117,14 @@ module _ {ks xs : List ℕ} {at : ℕ} (s : Seen ks xs at) where
     pub bad-list : getD ks at 0 ≡ Kind.List → (getD xs at 0 ≡ 0 → ⊥) → (at ≡ wrappersOf ks xs) × (at ≤ length ks)
     bad-list k a = stop (wrappers-step ∙ rw (children-list-bad _ _ k a))
 
-    pub no-wrapper : (getD ks at 0 ≡ Kind.List → ⊥) → (getD ks at 0 ≡ Kind.Array → ⊥) → (at ≡ wrappersOf ks xs) × (at ≤ length ks)
-    no-wrapper l r = stop (wrappers-step ∙ go (children (getD ks at 0) (getD xs at 0)) (view (getD ks at 0) (getD xs at 0)) l r)
+    pub no-wrapper :
+        (getD ks at 0 ≡ Kind.List → ⊥) → (getD ks at 0 ≡ Kind.Array → ⊥) → (at ≡ wrappersOf ks xs) × (at ≤ length ks)
+    no-wrapper l r =
+        stop (wrappers-step ∙ go (children (getD ks at 0) (getD xs at 0)) (view (getD ks at 0) (getD xs at 0)) l r)
       where
-        go : {j b : ℕ} (c : Children) → View j b c → (j ≡ Kind.List → ⊥) → (j ≡ Kind.Array → ⊥) → wrapping c (wrappersOf (drop (at + 1) ks) (drop (at + 1) xs)) ≡ 0
+        go :
+            {j b : ℕ} (c : Children) → View j b c → (j ≡ Kind.List → ⊥) → (j ≡ Kind.Array → ⊥)
+            → wrapping c (wrappersOf (drop (at + 1) ks) (drop (at + 1) xs)) ≡ 0
         go no-child (is-leaf h) l r = refl
         go under-list View.is-list l r = absurd (l refl)
         go under-array View.is-array l r = absurd (r refl)
@@ -131,7 +140,9 @@ pub record Lowest (ks xs : List ℕ) (t : DataType) (n : ℕ) : Type 0 where
   pub levels : depth t ≡ n + depth (typeAt (from n ks) (from n xs))
   pub last : Kind.List ≤ getD ks n 0 → getD ks n 0 ≡ Kind.Struct
 
-no-more : {ks xs : List ℕ} {t : DataType} → FrontType ks xs t → (Kind.List ≤ getD ks 0 0 → getD ks 0 0 ≡ Kind.Struct) → Lowest ks xs t 0
+no-more :
+    {ks xs : List ℕ} {t : DataType} → FrontType ks xs t → (Kind.List ≤ getD ks 0 0 → getD ks 0 0 ≡ Kind.Struct)
+    → Lowest ks xs t 0
 no-more {ks} {xs} {t} n h =
     let e = type-is ks xs t (n .read) in
     record {
@@ -147,7 +158,9 @@ unfolding depth
 unary-depth Unary.is-list t = refl
 unary-depth Unary.is-array t = refl
 
-one-more : {k a n : ℕ} {f : DataType → DataType} {ks xs : List ℕ} {u : DataType} → Unary k a f → Lowest ks xs u n → Lowest (k ∷ ks) (a ∷ xs) (f u) (suc n)
+one-more :
+    {k a n : ℕ} {f : DataType → DataType} {ks xs : List ℕ} {u : DataType} → Unary k a f → Lowest ks xs u n
+    → Lowest (k ∷ ks) (a ∷ xs) (f u) (suc n)
 one-more {k} {a} {n} {f} {ks} {xs} {u} w b =
     record {
       inside = omega arith;
@@ -166,11 +179,16 @@ lowest [] xs t n = absurd (omega arith)
 lowest (k ∷ ks) [] t n = absurd (omega arith)
 lowest (k ∷ ks) (a ∷ xs) t n = go t (at-node (k ∷ ks) (a ∷ xs) t n) n (lowest ks xs)
   where
-    unary : {j b : ℕ} {f : DataType → DataType} → Unary j b f → wrapping (children j b) (wrappersOf ks xs) ≡ suc (wrappersOf ks xs)
+    unary :
+        {j b : ℕ} {f : DataType → DataType} → Unary j b f
+        → wrapping (children j b) (wrappersOf ks xs) ≡ suc (wrappersOf ks xs)
     unary Unary.is-list = refl
     unary Unary.is-array = refl
 
-    go : (t : DataType) → AtNode (k ∷ ks) (a ∷ xs) t → FrontType (k ∷ ks) (a ∷ xs) t → ((u : DataType) → FrontType ks xs u → Lowest ks xs u (wrappersOf ks xs)) → Lowest (k ∷ ks) (a ∷ xs) t (wrapping (children k a) (wrappersOf ks xs))
+    go :
+        (t : DataType) → AtNode (k ∷ ks) (a ∷ xs) t → FrontType (k ∷ ks) (a ∷ xs) t
+        → ((u : DataType) → FrontType ks xs u → Lowest ks xs u (wrappersOf ks xs))
+        → Lowest (k ∷ ks) (a ∷ xs) t (wrapping (children k a) (wrappersOf ks xs))
     go t (at-leaf h) n r = rw (children-leaf k a h) (no-more n (λ g. absurd (omega arith)))
     go t (at-one {f} {u} w m) n r = rw (unary w) (one-more w (r u (rw (rest, rest) at m)))
     go t (at-struct e m) n r = rw (children-struct k a e) (no-more n (λ g. e))
@@ -187,7 +205,9 @@ pub record AtBottom (t levels : ℕ) (ks xs : List ℕ) (n : ℕ) : Type 0 where
   pub valid : Valid ks xs
   pub lowest : Lowest ks xs (typeAt ks xs) n
 
-pub at-bottom : {t levels : ℕ} {ks xs : List ℕ} {n : ℕ} → (length ks ≡ t) × Valid ks xs → n ≡ wrappersOf ks xs → AtBottom t levels ks xs n
+pub at-bottom :
+    {t levels : ℕ} {ks xs : List ℕ} {n : ℕ} → (length ks ≡ t) × Valid ks xs → n ≡ wrappersOf ks xs
+    → AtBottom t levels ks xs n
 at-bottom {ks = ks} {xs} p e = record { nodes = p .0; valid = p .1; lowest = subst (Lowest ks xs (typeAt ks xs)) (sym e) (lowest ks xs (typeAt ks xs) (p .1)) }
 
 module _ {t levels : ℕ} {ks xs : List ℕ} {n : ℕ} (b : AtBottom t levels ks xs n) where
@@ -198,7 +218,8 @@ module _ {t levels : ℕ} {ks xs : List ℕ} {n : ℕ} (b : AtBottom t levels ks
   unfolding size depth
   node-leaf h k =
       let e = type-leaf (from n ks) (from n xs) (b .lowest .stands) (rw (from-first n ks) k) in
-      type-ends levels (typeAt ks xs) (n + 1) (omega (arith, b .lowest .nodes, ap size e)) (omega (arith, b .lowest .levels, ap depth e))
+      type-ends levels (typeAt ks xs) (n + 1) (omega (arith, b .lowest .nodes, ap size e))
+      (omega (arith, b .lowest .levels, ap depth e))
 
   -- a Struct
   module _ (k : Kind.List ≤ getD ks n 0) where
@@ -230,7 +251,9 @@ module _ {t levels : ℕ} {ks xs : List ℕ} {n : ℕ} {b : AtBottom t levels ks
     fields-inside = omega (arith, fields-are .0, over b (a .struct) .0, b .valid .within)
 
     pub node-fields : Ends (n + 1 + m) ≡ spanWithin levels (typeAt ks xs)
-    node-fields = type-ends levels (typeAt ks xs) (n + 1 + m) (omega (arith, fields-are .0, over b (a .struct) .0)) (omega (arith, fields-are .1, over b (a .struct) .1, a .shallow))
+    node-fields =
+        type-ends levels (typeAt ks xs) (n + 1 + m) (omega (arith, fields-are .0, over b (a .struct) .0))
+        (omega (arith, fields-are .1, over b (a .struct) .1, a .shallow))
 
   pub node-deeper : r ≡ TooDeep → TooDeep ≡ spanWithin levels (typeAt ks xs)
   node-deeper e =
@@ -275,7 +298,8 @@ module _ {t levels m : ℕ} {ks xs : List ℕ} {at left : ℕ} (a : Along t leve
   unfolding size depth
   fields-done z =
       let e = run-end left (from at ks) (from at xs) z in
-      fields-end levels (runAt m ks xs) at (omega (arith, a .sized, ap sizes e)) (omega (arith, a .deepest, ap depths e))
+      fields-end levels (runAt m ks xs) at (omega (arith, a .sized, ap sizes e))
+      (omega (arith, a .deepest, ap depths e))
 
   module _ (p : left ≡ 0 → ⊥) where
     -- what the walk of the next field's type asks
@@ -305,7 +329,8 @@ module _ {t levels m : ℕ} {ks xs : List ℕ} {at left : ℕ} {a : Along t leve
   pub field-deep : r ≡ TooDeep → TooDeep ≡ spansWithin levels (runAt m ks xs)
   field-deep e =
       let d = type-deeper (levels - 2) (fieldType ks xs at) (sym e ∙ f .says) in
-      fields-deep levels (runAt m ks xs) (omega (arith, f .room, all-levels a (f .more) (size (fieldType ks xs at)) refl))
+      fields-deep levels (runAt m ks xs)
+      (omega (arith, f .room, all-levels a (f .more) (size (fieldType ks xs at)) refl))
 
   -- a field is done
   pub field-done : {n : ℕ} → r ≡ Ends n → Along t levels m ks xs (at + 1 + n) (left - 1)

@@ -18,10 +18,14 @@ loop-holds : tie.Need-loop-holds Inv-loop μ-loop
 loop-holds c = all-arguments (c .before .before .pre)
 
 returns : tie.Need-returns Inv-loop μ-loop
-returns c = arguments-stop (c .before .before .before .before .before .loop .inv) (omega arith) (answered-no (c .before .argument-fits .ensures) (c .if1 .taken))
+returns c =
+    arguments-stop (c .before .before .before .before .before .loop .inv) (omega arith)
+    (answered-no (c .before .argument-fits .ensures) (c .if1 .taken))
 
 loop-again : tie.Need-loop-again Inv-loop μ-loop
-loop-again c = arguments-on (c .before .before .before .before .before .loop .inv) (omega arith) (answered-yes (c .before .argument-fits .ensures) (c .if1 .left))
+loop-again c =
+    arguments-on (c .before .before .before .before .before .loop .inv) (omega arith)
+    (answered-yes (c .before .argument-fits .ensures) (c .if1 .left))
 
 returns-2 : tie.Need-returns-2 Inv-loop μ-loop
 returns-2 c = arguments-end (c .before .loop .inv) (c .loop-test .left)

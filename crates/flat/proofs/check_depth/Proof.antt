@@ -16,10 +16,14 @@ node-span-requires : tie.Need-node-span-requires
 node-span-requires c κs = form-stands (form c .proof) .0
 
 returns : tie.Need-returns
-returns c = one-type _ (form (c .before .before .before) .proof) _ (sym (c .enum-told .given .1) ∙ c .before .before .node-span .ensures)
+returns c =
+    one-type _ (form (c .before .before .before) .proof) _
+    (sym (c .enum-told .given .1) ∙ c .before .before .node-span .ensures)
 
 returns-2 : tie.Need-returns-2
-returns-2 c = too-deep _ (form (c .before .before .before) .proof) (sym (c .enum-told2 .given .1) ∙ c .before .before .node-span .ensures)
+returns-2 c =
+    too-deep _ (form (c .before .before .before) .proof)
+    (sym (c .enum-told2 .given .1) ∙ c .before .before .node-span .ensures)
 
 pub check-depth-spec : {M : Type 1} → statement M
 check-depth-spec =

@@ -25,23 +25,29 @@ check-depth-requires : tie.Need-check-depth-requires
 check-depth-requires c κs = sym (c .before .passes .ensures) ∙ c .if4 .taken
 
 returns-4 : tie.Need-returns-4
-returns-4 c = c .check-depth .ensures ∙ scan-passed _ _ (lengths (c .before .before .before .before)) (omega arith) (sym (c .before .before .passes .ensures) ∙ c .before .if4 .taken)
+returns-4 c =
+    c .check-depth .ensures ∙ scan-passed _ _ (lengths (c .before .before .before .before)) (omega arith)
+    (sym (c .before .before .passes .ensures) ∙ c .before .if4 .taken)
 
 -- where the scan passed none
 abbrev lengths-of : tie.After-arguments-fit → tie.Else2
 lengths-of c = c .before .before .before .before
 
 returns-5 : tie.Need-returns-5
-returns-5 c = bad-kind _ _ (lengths (lengths-of (c .before .before .before))) (omega arith) (answered-no (c .before .kinds-fit .ensures) (c .if6 .taken))
+returns-5 c =
+    bad-kind _ _ (lengths (lengths-of (c .before .before .before))) (omega arith)
+    (answered-no (c .before .kinds-fit .ensures) (c .if6 .taken))
 
 returns-6 : tie.Need-returns-6
 returns-6 c =
-    bad-argument _ _ (lengths (lengths-of (c .before .before .before))) (omega arith) (answered-yes (c .before .kinds-fit .ensures) (c .if6 .left))
+    bad-argument _ _ (lengths (lengths-of (c .before .before .before))) (omega arith)
+    (answered-yes (c .before .kinds-fit .ensures) (c .if6 .left))
     (answered-no (c .before .before .before .arguments-fit .ensures) (c .before .before .if5 .taken))
 
 returns-7 : tie.Need-returns-7
 returns-7 c =
-    no-shape _ _ (lengths (lengths-of (c .before))) (omega arith) (answered-yes (c .before .arguments-fit .ensures) (c .if5 .left))
+    no-shape _ _ (lengths (lengths-of (c .before))) (omega arith)
+    (answered-yes (c .before .arguments-fit .ensures) (c .if5 .left))
     (sym (c .before .before .before .passes .ensures) ∙ c .before .before .if4 .left)
 
 pub examine-spec : {M : Type 1} → statement M

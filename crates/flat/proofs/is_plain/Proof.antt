@@ -16,4 +16,5 @@ returns-3 : tie.Need-returns-3
 returns-3 c = c .is-plain .ensures ∙ leaf-told _ _ (omega arith) (omega arith)
 
 pub is-plain-spec : {M : Type 1} → statement M
-is-plain-spec = tie.close (tie.spec returns returns-2 (λ c. search needs) (λ c. search needs) (λ c κs. search needs) returns-3)
+is-plain-spec =
+    tie.close (tie.spec returns returns-2 (λ c. search needs) (λ c. search needs) (λ c κs. search needs) returns-3)

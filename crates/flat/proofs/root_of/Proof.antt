@@ -35,7 +35,8 @@ returns-2 : tie.Need-returns-2
 returns-2 c = root-read (examined (c .before .before) .proof)
 
 returns-3 : tie.Need-returns-3
-returns-3 c = root-refused (reading _ _ _ _) (sym (c .before .e .given .1) ∙ c .before .before .before .examine .ensures)
+returns-3 c =
+    root-refused (reading _ _ _ _) (sym (c .before .e .given .1) ∙ c .before .before .before .examine .ensures)
 
 pub root-of-spec : {M : Type 1} → statement M
 root-of-spec =

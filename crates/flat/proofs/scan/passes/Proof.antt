@@ -6,8 +6,10 @@ use native.Mathlib.Omega.{arith}
 use borrow.Author.Needs.{needs}
 use lib.ListN.{length}
 use Rattle.flat.proofs.Truths.{answered-no, answered-yes}
-use Rattle.flat.proofs.Scanning.{AtType, at-start, type-end, bad-type, NodeFits, past-leaf, UnderOne, wrapped-asks, past-one, deep-one}
-use Rattle.flat.proofs.Scanning.{opened-asks, past-struct, deep-struct, Past, none-owed, field-missing, FieldDue, bad-field, past-field}
+use Rattle.flat.proofs.Scanning.{AtType, at-start, type-end, bad-type, NodeFits, past-leaf, UnderOne}
+use Rattle.flat.proofs.Scanning.{wrapped-asks, past-one, deep-one}
+use Rattle.flat.proofs.Scanning.{opened-asks, past-struct, deep-struct, Past, none-owed, field-missing, FieldDue}
+use Rattle.flat.proofs.Scanning.{bad-field, past-field}
 use Rattle.flat.proofs.scan.passes.Statement.{statement}
 use Rattle.flat.proofs.scan.passes.Tie as tie
 
@@ -21,7 +23,9 @@ loop-holds : tie.Need-loop-holds Inv-loop μ-loop
 loop-holds c = at-start (c .before .before .before .pre) (c .start .ensures)
 
 returns : tie.Need-returns Inv-loop μ-loop
-returns c = bad-type (c .before .before .before .before .before .loop .inv) (omega arith) (answered-no (c .before .type-fits .ensures) (c .if1 .taken))
+returns c =
+    bad-type (c .before .before .before .before .before .loop .inv) (omega arith)
+    (answered-no (c .before .type-fits .ensures) (c .if1 .taken))
 
 -- the node fits
 node : (c : tie.Else1 Inv-loop μ-loop) → NodeFits (c .before .before .before .before .before .loop .inv)
@@ -44,10 +48,13 @@ opened-requires : tie.Need-opened-requires Inv-loop μ-loop
 opened-requires c κs = opened-asks (node (c .before .before)) (c .if3 .left)
 
 returns-3 : tie.Need-returns-3 Inv-loop μ-loop
-returns-3 c = deep-struct (node (c .before .before .before .before .before)) (omega arith) (c .before .before .opened .ensures) (c .if5 .taken)
+returns-3 c =
+    deep-struct (node (c .before .before .before .before .before)) (omega arith) (c .before .before .opened .ensures)
+    (c .if5 .taken)
 
 -- past a leaf, or under a Struct
-past : (j : tie.Joined2 Inv-loop μ-loop) → Past (j .before .before .before .before .before .before .loop .inv) (j .if2 .s)
+past :
+    (j : tie.Joined2 Inv-loop μ-loop) → Past (j .before .before .before .before .before .before .loop .inv) (j .if2 .s)
 past j =
     ⊎-elim (λ w. rw (w .1) (past-leaf (node (j .before)) (w .0 .taken)))
     (λ w. rw (w .5) (past-struct (node (j .before)) (w .1 .left) (w .2 .ensures) (w .4 .left)))
@@ -64,13 +71,16 @@ due : (c : tie.Else7 Inv-loop μ-loop) → FieldDue (past (c .before .before .be
 due c = record { more = omega (arith, c .before .if6 .left); inside = omega arith }
 
 returns-6 : tie.Need-returns-6 Inv-loop μ-loop
-returns-6 c = bad-field (due (c .before .before .before .before)) (answered-no (c .before .field-fits .ensures) (c .if8 .taken))
+returns-6 c =
+    bad-field (due (c .before .before .before .before)) (answered-no (c .before .field-fits .ensures) (c .if8 .taken))
 
 paid-requires : tie.Need-paid-requires Inv-loop μ-loop
 paid-requires c κs = due (c .before .before .before .before) .more
 
 loop-again-2 : tie.Need-loop-again-2 Inv-loop μ-loop
-loop-again-2 c = past-field (due (c .before .before .before .before .before)) (answered-yes (c .before .before .field-fits .ensures) (c .before .if8 .left)) (c .paid .ensures)
+loop-again-2 c =
+    past-field (due (c .before .before .before .before .before))
+    (answered-yes (c .before .before .field-fits .ensures) (c .before .if8 .left)) (c .paid .ensures)
 
 returns-7 : tie.Need-returns-7 Inv-loop μ-loop
 returns-7 c = type-end (c .before .loop .inv) (c .loop-test .left)

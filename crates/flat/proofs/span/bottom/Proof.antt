@@ -17,10 +17,14 @@ loop-holds : tie.Need-loop-holds Inv-loop μ-loop
 loop-holds c = none-seen (c .pre)
 
 returns : tie.Need-returns Inv-loop μ-loop
-returns c = bad-list (c .before .before .before .before .before .loop .inv) (omega arith) (c .before .before .match .keys1) (c .if1 .taken)
+returns c =
+    bad-list (c .before .before .before .before .before .loop .inv) (omega arith) (c .before .before .match .keys1)
+    (c .if1 .taken)
 
 loop-again : tie.Need-loop-again Inv-loop μ-loop
-loop-again c = list-seen (c .before .before .before .before .before .loop .inv) (omega arith) (c .before .before .match .keys1) (c .if1 .left)
+loop-again c =
+    list-seen (c .before .before .before .before .before .loop .inv) (omega arith) (c .before .before .match .keys1)
+    (c .if1 .left)
 
 loop-again-2 : tie.Need-loop-again-2 Inv-loop μ-loop
 loop-again-2 c = array-seen (c .before .before .before .loop .inv) (omega arith) (c .match .keys2)
