@@ -19,16 +19,16 @@ use Rattle.dtype_cast.specs.declared.walk.Cast.the-variants.{Yes, No, No
 use Rattle.dtype_cast.proofs.Scans.{all-yes}
 
 -- the verdict of an answer of the walk
-abbrev pub told : Cast → Verdict
-told (Yes n m) = Verdict.Yes
-told No = Verdict.No
-told NoVerdict = Verdict.NoVerdict
+abbrev pub castVerdict : Cast → Verdict
+castVerdict (Yes n m) = Verdict.Yes
+castVerdict No = Verdict.No
+castVerdict NoVerdict = Verdict.NoVerdict
 
-pub walked : {c : Cast} (t u : DataType) → c ≡ castAnswer t u → told c ≡ verdict (canCastTo t u)
+pub walked : {c : Cast} (t u : DataType) → c ≡ castAnswer t u → castVerdict c ≡ verdict (canCastTo t u)
 unfolding castAnswer
-walked t u e = ap told e ∙ go (canCastTo t u)
+walked t u e = ap castVerdict e ∙ go (canCastTo t u)
   where
-    go : (o : Option Bool) → told (castWith o (size t) (size u)) ≡ verdict o
+    go : (o : Option Bool) → castVerdict (castWith o (size t) (size u)) ≡ verdict o
     go none = refl
     go (some false) = refl
     go (some true) = refl
@@ -38,8 +38,10 @@ pub scanned : {ks xs ls ys : List ℕ} {r : Bool} → Valid ks xs → Valid ls y
 scanned v w e f = rw (all-yes v w (sym e ∙ f))
 
 -- The verdict on the types at the front is that of a call on what the arrays were read from, flat or encoded.
-pub checked-verdict : {nodes deep : ℕ} {ks xs ls ys : List ℕ} (from : Passed nodes deep ks xs) (to : Passed nodes deep ls ys)
+pub checked-verdict : {nodes deep : ℕ} {ks xs ls ys : List ℕ}
+    (from : Passed nodes deep ks xs) (to : Passed nodes deep ls ys)
     → {left right : Reading} → left ≡ type (from .tree) → right ≡ type (to .tree)
     → {v : Verdict} → v ≡ verdict (canCastTo (typeAt ks xs) (typeAt ls ys)) → v ≡ castOf left right
 checked-verdict from to {left} {right} p q e =
-    e ∙ ap₂ (λ t u. verdict (canCastTo t u)) (from .front) (to .front) ∙ sym (both-types Verdict.Refused (λ t u. verdict (canCastTo t u)) left right p q)
+    e ∙ ap₂ (λ t u. verdict (canCastTo t u)) (from .front) (to .front)
+    ∙ sym (both-types Verdict.Refused (λ t u. verdict (canCastTo t u)) left right p q)

@@ -13,6 +13,7 @@ use flat::Flat;
 use flat::error::Error;
 use walk::Cast;
 
+// What `can_cast_to` answers: whether the cast makes sense, or that the source is not sure.
 pub enum Verdict {
     No,
     Yes,
@@ -21,6 +22,7 @@ pub enum Verdict {
 }
 
 impl Verdict {
+    // Document 01's number.
     pub fn number(self) -> u64
         ensures { λ r. ⌜ r ≡ verdictNumber self ⌝ }
     {
@@ -32,6 +34,7 @@ impl Verdict {
         }
     }
 
+    // The value beside the number: 0 no, 1 yes, 2 no verdict.
     pub fn value(self) -> u64
         ensures { λ r. ⌜ r ≡ verdictValue self ⌝ }
     {
@@ -68,7 +71,7 @@ pub fn checked_cast(
     }
 }
 
-// Whether the cast makes sense; NoVerdict where the source is not sure.
+// Whether the cast makes sense: each type is checked once, then both have a verdict.
 pub fn can_cast_to(
     from_kinds: &[u8],
     from_args: &[u64],

@@ -31,7 +31,7 @@ fn nodes(kinds: &[u8], args: &[u64]) -> usize
     }
 }
 
-// Under one node more on either side.
+// An answer under one node more on either side.
 fn under(c: Cast) -> Cast
     requires { ⌜ Within (2 ^ 63) c ⌝ }
     ensures { λ r. ⌜ r ≡ castAfter 1 1 c ⌝ }

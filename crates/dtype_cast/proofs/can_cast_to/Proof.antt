@@ -1,4 +1,5 @@
--- `dtype_cast::can_cast_to` meets its contract: the check of the one type, the check of the other, then the verdict on both. Assumes nothing.
+-- `dtype_cast::can_cast_to` meets its contract: the check of the one type, that of the other, then the verdict on both.
+-- Assumes nothing.
 use mathlib.Core.Path.{sym, _∙_}
 use borrow.Author.Needs.{needs}
 use Rattle.flat.specs.Reading.{reading}
@@ -28,12 +29,14 @@ returns-2 c =
     let two = c .before in
     let one = two .before .before .before in
     let from = check-passed (sym (one .enum-told .given .1) ∙ one .before .before .check .ensures) in
-    sym (right-refused _ _ _ _ (from .reads) (checked-refused (reading _ _ _ _) _ (sym (two .e .given .1) ∙ two .before .before .check2 .ensures)))
+    let to = checked-refused (reading _ _ _ _) _ (sym (two .e .given .1) ∙ two .before .before .check2 .ensures) in
+    sym (right-refused _ _ _ _ (from .reads) to)
 
 returns-3 : tie.Need-returns-3
 returns-3 c =
     let one = c .before in
-    sym (left-refused _ _ _ _ (checked-refused (reading _ _ _ _) _ (sym (one .e2 .given .1) ∙ one .before .before .check .ensures)))
+    let from = checked-refused (reading _ _ _ _) _ (sym (one .e2 .given .1) ∙ one .before .before .check .ensures) in
+    sym (left-refused _ _ _ _ from)
 
 pub can-cast-to-spec : {M : Type 1} → statement M
 can-cast-to-spec =

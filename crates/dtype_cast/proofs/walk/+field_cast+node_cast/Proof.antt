@@ -1,6 +1,20 @@
--- The walk of `can_cast_to`: `node_cast` and `field_cast` call each other, and the number of nodes left falls. The laws are in proofs/Pairs.antt and
--- proofs/Steps.antt. Assumes nothing.
-use mathlib.Core.Path.{sym, _∙_}
+-- The walk of `can_cast_to`: `node_cast` and `field_cast` call each other, and the number of nodes left falls. Assumes
+-- nothing.
+--
+-- How this proof is made. What is known at a place of the code is one record over lists (proofs/Pairs.antt for two
+-- nodes, proofs/Steps.antt for two runs of fields). A view below makes it from the generated record of that place, and
+-- only views look far back along `.before`; a later view starts from an earlier one. Each answer is then one law, of
+-- the view at its place and of what was tested or called since.
+--
+--   node_cast     roots       the roots have told                              Roots
+--                 same-kind   they leave it open, and are of one kind          SameKind
+--                 structs     two Structs                                      TwoStructs
+--                 as-many     two Structs with as many fields, one at least    AsMany
+--                 inners      two Lists or two Arrays                          TwoInner
+--   field_cast    ahead       in the loop, a field is left                     FieldAhead
+--                 field-yes   the types of that field have yes                 FieldYes
+use mathlib.Core.Path.{_≡_, sym, _∙_}
+use mathlib.Core.List.{List}
 use native.Mathlib.Omega.{arith}
 use denote.Ref.{now}
 use borrow.Author.Needs.{needs}
@@ -8,165 +22,239 @@ use Prim.Native.Nat.{ℕ, _<_}
 use lib.ListN.{length}
 use borrow.Fn.Kinds.{In}
 use borrow.Fn.PlainCycle.{Measures, is, falls, and}
-use Rattle.flat.proofs.Walks.{shorter, one-valid, struct-valid}
-use Rattle.dtype_cast.proofs.Pairs.{roots-yes, roots-no, other-roots, two-leaves, one-valid-right, one-within, other-width, one-cast, no-field, other-count, run-right, struct-within, struct-cast}
-use Rattle.dtype_cast.proofs.Steps.{Along, start, valid-one, valid-other, fields-no, fields-unsure, ends, field-done, fields-done}
-use Rattle.dtype_cast.proofs.walk.node_cast.Reads as node-cast
-use Rattle.dtype_cast.proofs.walk.node_cast.Kinds as node-cast-kinds
-use Rattle.dtype_cast.proofs.walk.+field_cast+node_cast.Lts-node_cast as node-cast-lts
+use Rattle.dtype_cast.specs.declared.roots.Early.{Early}
+use Rattle.dtype_cast.proofs.Pairs.{Roots, SameKind, TwoStructs, AsMany, TwoInner}
+use Rattle.dtype_cast.proofs.Pairs.{roots-yes, roots-no, other-kinds, two-leaves}
+use Rattle.dtype_cast.proofs.Pairs.{no-field, other-count, fields-call, fields-within, fields-cast}
+use Rattle.dtype_cast.proofs.Pairs.{other-width, inner-call, inner-within, inner-cast}
+use Rattle.dtype_cast.proofs.Steps.{FieldsAlong, FieldAhead, FieldYes, start, next-call}
+use Rattle.dtype_cast.proofs.Steps.{field-no, field-unsure, field-ends, field-done, fields-done}
 use Rattle.dtype_cast.proofs.walk.field_cast.Reads as field-cast
 use Rattle.dtype_cast.proofs.walk.field_cast.Kinds as field-cast-kinds
 use Rattle.dtype_cast.proofs.walk.+field_cast+node_cast.Lts-field_cast as field-cast-lts
+use Rattle.dtype_cast.proofs.walk.node_cast.Reads as node-cast
+use Rattle.dtype_cast.proofs.walk.node_cast.Kinds as node-cast-kinds
+use Rattle.dtype_cast.proofs.walk.+field_cast+node_cast.Lts-node_cast as node-cast-lts
+use Rattle.dtype_cast.proofs.roots.before_nested.Reads as before-nested-reads
 use Rattle.dtype_cast.proofs.walk.nodes.Reads as nodes-reads
 use Rattle.dtype_cast.proofs.walk.under.Reads as under-reads
-use Rattle.dtype_cast.proofs.roots.before_nested.Reads as before-nested-reads
 use Rattle.dtype_cast.proofs.walk.+field_cast+node_cast.{statement}
 use Rattle.dtype_cast.proofs.walk.+field_cast+node_cast.Tie.{close}
-
-abbrev μ-node-cast : Measures 4 node-cast-kinds.ps ℕ
-μ-node-cast κs a = length (a .0 .now)
 
 abbrev μ-field-cast : Measures 4 field-cast-kinds.ps ℕ
 μ-field-cast κs a = length (a .0 .now)
 
-abbrev node-cast-at : ℕ → In 4 node-cast-kinds.ps
-node-cast-at t = and 4 node-cast-kinds.ps (is 4 node-cast-kinds.ps μ-node-cast t) node-cast.Pre
+abbrev μ-node-cast : Measures 4 node-cast-kinds.ps ℕ
+μ-node-cast κs a = length (a .0 .now)
 
-abbrev node-cast-below : ℕ → In 4 node-cast-kinds.ps
-node-cast-below t = and 4 node-cast-kinds.ps (falls 4 node-cast-kinds.ps _<_ μ-node-cast t) node-cast.Pre
+-- the loop of `field_cast`
+abbrev Inv-loop : field-cast-lts.InvT-loop
+Inv-loop from-kinds from-args to-kinds to-args count i₀ j₀ left₀ i j left =
+    FieldsAlong count from-kinds from-args to-kinds to-args i j left
 
-abbrev field-cast-at : ℕ → In 4 field-cast-kinds.ps
-field-cast-at t = and 4 field-cast-kinds.ps (is 4 field-cast-kinds.ps μ-field-cast t) field-cast.Pre
+abbrev μ-loop : field-cast-lts.MeasureT-loop
+μ-loop from-kinds from-args to-kinds to-args count i₀ j₀ left₀ i j left = left
 
-abbrev field-cast-below : ℕ → In 4 field-cast-kinds.ps
-field-cast-below t = and 4 field-cast-kinds.ps (falls 4 field-cast-kinds.ps _<_ μ-field-cast t) field-cast.Pre
+module _ (t : ℕ) where
+  abbrev field-cast-at : In 4 field-cast-kinds.ps
+  field-cast-at = and 4 field-cast-kinds.ps (is 4 field-cast-kinds.ps μ-field-cast t) field-cast.Pre
 
-abbrev field-cast-Inv-loop : field-cast-lts.InvT-loop
-field-cast-Inv-loop from-kinds from-args to-kinds to-args count i₀ j₀ left₀ i j left = Along count from-kinds from-args to-kinds to-args i j left
+  abbrev field-cast-below : In 4 field-cast-kinds.ps
+  field-cast-below = and 4 field-cast-kinds.ps (falls 4 field-cast-kinds.ps _<_ μ-field-cast t) field-cast.Pre
 
-abbrev field-cast-μ-loop : field-cast-lts.MeasureT-loop
-field-cast-μ-loop from-kinds from-args to-kinds to-args count i₀ j₀ left₀ i j left = left
+  abbrev node-cast-at : In 4 node-cast-kinds.ps
+  node-cast-at = and 4 node-cast-kinds.ps (is 4 node-cast-kinds.ps μ-node-cast t) node-cast.Pre
 
-abbrev node-cast-claims : ℕ → node-cast-lts.Claims
-node-cast-claims t = (before-nested-reads.Asked, before-nested-reads.Learnt, nodes-reads.Asked, nodes-reads.Learnt, field-cast-below t, field-cast.Post, under-reads.Asked, under-reads.Learnt, node-cast-below t, node-cast.Post)
+  abbrev node-cast-below : In 4 node-cast-kinds.ps
+  node-cast-below = and 4 node-cast-kinds.ps (falls 4 node-cast-kinds.ps _<_ μ-node-cast t) node-cast.Pre
 
-abbrev field-cast-claims : ℕ → field-cast-lts.Claims
-field-cast-claims t = (node-cast-below t, node-cast.Post)
+  abbrev field-cast-claims : field-cast-lts.Claims
+  field-cast-claims = (node-cast-below, node-cast.Post)
 
-node-cast-returns : (t : ℕ) → node-cast-lts.Need-returns (node-cast-claims t) (node-cast-at t) node-cast.Post
-node-cast-returns t c =
-    let s = c .before .before .before .before .before .before .before .before .before .before .before .before in
-    other-roots (now (s .args .from-kinds)) (now (s .args .from-args)) (s .pre .1 .0) (now (s .args .to-kinds)) (now (s .args .to-args)) (s .pre .1 .1) (sym (c .before .enum-told3 .given .1) ∙ c .before .before .before .before-nested .ensures) (c .if1 .taken)
+  abbrev node-cast-claims : node-cast-lts.Claims
+  node-cast-claims = (
+    before-nested-reads.Asked,
+    before-nested-reads.Learnt,
+    nodes-reads.Asked,
+    nodes-reads.Learnt,
+    field-cast-below,
+    field-cast.Post,
+    under-reads.Asked,
+    under-reads.Learnt,
+    node-cast-below,
+    node-cast.Post,
+  )
 
-node-cast-returns-2 : (t : ℕ) → node-cast-lts.Need-returns-2 (node-cast-claims t) (node-cast-at t) node-cast.Post
-node-cast-returns-2 t c =
-    let s = c .before .before .before .before .before .before .before .before .before .before .before .before .before .before .before .before .before .before .before in
-    no-field (now (s .args .from-kinds)) (now (s .args .from-args)) (s .pre .1 .0) (now (s .args .to-kinds)) (now (s .args .to-args)) (s .pre .1 .1) (sym (c .before .before .before .before .before .before .before .before .enum-told3 .given .1) ∙ c .before .before .before .before .before .before .before .before .before .before .before-nested .ensures) (c .before .before .before .before .before .before .before .if1 .left) (c .before .before .match2 .keys1) (c .before .if2 .taken) _ (c .nodes2 .ensures)
+  -- ---- node_cast: the views
+  abbrev Entered : Type 0
+  Entered = node-cast-lts.Start node-cast-claims node-cast-at node-cast.Post
 
-node-cast-returns-3 : (t : ℕ) → node-cast-lts.Need-returns-3 (node-cast-claims t) (node-cast-at t) node-cast.Post
-node-cast-returns-3 t c =
-    let s = c .before .before .before .before .before .before .before .before .before .before .before .before .before .before .before .before .before .before .before in
-    other-count (now (s .args .from-kinds)) (now (s .args .from-args)) (s .pre .1 .0) (now (s .args .to-kinds)) (now (s .args .to-args)) (s .pre .1 .1) (sym (c .before .before .before .before .before .before .before .before .enum-told3 .given .1) ∙ c .before .before .before .before .before .before .before .before .before .before .before-nested .ensures) (c .before .before .before .before .before .before .before .if1 .left) (c .before .before .match2 .keys1) (c .before .if2 .left) (c .if3 .taken)
+  -- known of the arrays of a call
+  abbrev at-entry : (List ℕ → List ℕ → List ℕ → List ℕ → Type 0) → Entered → Type 0
+  at-entry known s =
+      known (now (s .args .from-kinds)) (now (s .args .from-args)) (now (s .args .to-kinds)) (now (s .args .to-args))
 
-node-cast-field-cast-requires : (t : ℕ) → node-cast-lts.Need-field-cast-requires (node-cast-claims t) (node-cast-at t) node-cast.Post
-node-cast-field-cast-requires t c κs =
-    let s = c .before .before .before .before .before .before .before .before .before .before .before .before .before .before .before .before .before .before .before in
-    (shorter (now (s .args .from-kinds)) 0 t (s .pre .0) (omega (arith, s .pre .1 .0)), (struct-valid (now (s .args .from-kinds)) (now (s .args .from-args)) (s .pre .1 .0) (c .before .before .match2 .keys1), run-right (now (s .args .from-kinds)) (now (s .args .from-args)) (s .pre .1 .0) (now (s .args .to-kinds)) (now (s .args .to-args)) (s .pre .1 .1) (sym (c .before .before .before .before .before .before .before .before .enum-told3 .given .1) ∙ c .before .before .before .before .before .before .before .before .before .before .before-nested .ensures) (c .before .before .before .before .before .before .before .if1 .left) (c .before .before .match2 .keys1) (c .before .if2 .left) (c .if3 .left)))
+  abbrev Told : Type 0
+  Told = node-cast-lts.After-before-nested node-cast-claims node-cast-at node-cast.Post
 
-node-cast-under-requires : (t : ℕ) → node-cast-lts.Need-under-requires (node-cast-claims t) (node-cast-at t) node-cast.Post
-node-cast-under-requires t c κs =
-    let s = c .before .before .before .before .before .before .before .before .before .before .before .before .before .before .before .before .before .before .before .before in
-    struct-within (now (s .args .from-kinds)) (now (s .args .from-args)) (s .pre .1 .0) (now (s .args .to-kinds)) (now (s .args .to-args)) (s .pre .1 .1) (sym (c .before .before .before .before .before .before .before .before .before .enum-told3 .given .1) ∙ c .before .before .before .before .before .before .before .before .before .before .before .before-nested .ensures) (c .before .before .before .before .before .before .before .before .if1 .left) (c .before .before .before .match2 .keys1) (c .before .before .if2 .left) (c .before .if3 .left) _ (omega (arith, s .good)) (omega (arith, s .good)) _ (c .field-cast .ensures)
+  abbrev entered : Told → Entered
+  entered c = c .before .before .before .before .before .before .before .before .before
 
-node-cast-returns-4 : (t : ℕ) → node-cast-lts.Need-returns-4 (node-cast-claims t) (node-cast-at t) node-cast.Post
-node-cast-returns-4 t c =
-    let s = c .before .before .before .before .before .before .before .before .before .before .before .before .before .before .before .before .before .before .before in
-    other-width (now (s .args .from-kinds)) (now (s .args .from-args)) (s .pre .1 .0) (now (s .args .to-kinds)) (now (s .args .to-args)) (s .pre .1 .1) (sym (c .before .before .before .before .before .before .before .before .enum-told3 .given .1) ∙ c .before .before .before .before .before .before .before .before .before .before .before-nested .ensures) (c .before .before .before .before .before .before .before .if1 .left) (omega (arith, c .before .if4 .left)) (c .before .before .match2 .rest .1) (λ e. omega (arith, e, c .if5 .taken))
+  roots : (c : Told) {e : Early} → c .before-nested .result ≡ e → at-entry (Roots t e) (entered c)
+  roots c q =
+      let s = entered c in
+      record {
+        called = record { measure = s .pre .0; short = omega (arith, s .good); short-right = omega (arith, s .good) };
+        left = s .pre .1 .0;
+        right = s .pre .1 .1;
+        says = sym q ∙ c .before-nested .ensures;
+      }
 
-node-cast-node-cast-requires : (t : ℕ) → node-cast-lts.Need-node-cast-requires (node-cast-claims t) (node-cast-at t) node-cast.Post
-node-cast-node-cast-requires t c κs =
-    let s = c .before .before .before .before .before .before .before .before .before .before .before .before .before .before .before .before .before .before .before in
-    (shorter (now (s .args .from-kinds)) 0 t (s .pre .0) (omega (arith, s .pre .1 .0)), (one-valid (now (s .args .from-kinds)) (now (s .args .from-args)) (s .pre .1 .0) (omega (arith, c .before .if4 .left)) (c .before .before .match2 .rest .1), one-valid-right (now (s .args .from-kinds)) (now (s .args .from-args)) (s .pre .1 .0) (now (s .args .to-kinds)) (now (s .args .to-args)) (s .pre .1 .1) (sym (c .before .before .before .before .before .before .before .before .enum-told3 .given .1) ∙ c .before .before .before .before .before .before .before .before .before .before .before-nested .ensures) (c .before .before .before .before .before .before .before .if1 .left) (omega (arith, c .before .if4 .left)) (c .before .before .match2 .rest .1)))
+  abbrev Alike : Type 0
+  Alike = node-cast-lts.After-ys node-cast-claims node-cast-at node-cast.Post
 
-node-cast-under-requires-2 : (t : ℕ) → node-cast-lts.Need-under-requires-2 (node-cast-claims t) (node-cast-at t) node-cast.Post
-node-cast-under-requires-2 t c κs =
-    let s = c .before .before .before .before .before .before .before .before .before .before .before .before .before .before .before .before .before .before .before .before in
-    one-within (now (s .args .from-kinds)) (now (s .args .from-args)) (s .pre .1 .0) (now (s .args .to-kinds)) (now (s .args .to-args)) (s .pre .1 .1) (sym (c .before .before .before .before .before .before .before .before .before .enum-told3 .given .1) ∙ c .before .before .before .before .before .before .before .before .before .before .before .before-nested .ensures) (c .before .before .before .before .before .before .before .before .if1 .left) (omega (arith, c .before .before .if4 .left)) (c .before .before .before .match2 .rest .1) _ (omega (arith, s .good)) (omega (arith, s .good)) _ (c .node-cast .ensures)
+  abbrev told : Alike → Told
+  told c = c .before .before .before .before .before .before .before
 
-node-cast-returns-5 : (t : ℕ) → node-cast-lts.Need-returns-5 (node-cast-claims t) (node-cast-at t) node-cast.Post
-node-cast-returns-5 t c =
-    let s = c .before .before .before .before .before .before .before .before .before .before .before .before in
-    roots-yes (now (s .args .from-kinds)) (now (s .args .from-args)) (s .pre .1 .0) (now (s .args .to-kinds)) (now (s .args .to-args)) (s .pre .1 .1) (sym (c .before .enum-told .given .1) ∙ c .before .before .before .before-nested .ensures) _ (c .nodes .ensures)
+  same-kind : (c : Alike) → at-entry (SameKind t) (entered (told c))
+  same-kind c =
+      let e = c .before .before .before .before in
+      record { roots = roots (told c) (e .before .enum-told3 .given .1); same-kind = e .if1 .left }
 
-node-cast-returns-6 : (t : ℕ) → node-cast-lts.Need-returns-6 (node-cast-claims t) (node-cast-at t) node-cast.Post
-node-cast-returns-6 t c =
-    let s = c .before .before .before .before .before .before .before .before .before .before .before in
-    roots-no (now (s .args .from-kinds)) (now (s .args .from-args)) (s .pre .1 .0) (now (s .args .to-kinds)) (now (s .args .to-args)) (s .pre .1 .1) (sym (c .enum-told2 .given .1) ∙ c .before .before .before-nested .ensures)
+  structs : (c : node-cast-lts.At-match2-keys1 node-cast-claims node-cast-at node-cast.Post)
+      → at-entry (TwoStructs t) (entered (told (c .before)))
+  structs c = record { kinds = same-kind (c .before); is-struct = c .match2 .keys1 }
 
-node-cast-returns-7 : (t : ℕ) → node-cast-lts.Need-returns-7 (node-cast-claims t) (node-cast-at t) node-cast.Post
-node-cast-returns-7 t c =
-    let s = c .before .before .before .before .before .before .before .before .before .before .before .before .before .before .before .before .before .before .before .before .before in
-    c .under .ensures ∙ struct-cast (now (s .args .from-kinds)) (now (s .args .from-args)) (s .pre .1 .0) (now (s .args .to-kinds)) (now (s .args .to-args)) (s .pre .1 .1) (sym (c .before .before .before .before .before .before .before .before .before .before .enum-told3 .given .1) ∙ c .before .before .before .before .before .before .before .before .before .before .before .before .before-nested .ensures) (c .before .before .before .before .before .before .before .before .before .if1 .left) (c .before .before .before .before .match2 .keys1) (c .before .before .before .if2 .left) (c .before .before .if3 .left) _ (c .before .field-cast .ensures)
+  as-many : (c : node-cast-lts.Else3 node-cast-claims node-cast-at node-cast.Post)
+      → at-entry (AsMany t) (entered (told (c .before .before .before)))
+  as-many c =
+      let f = c .before in
+      record { structs = structs (f .before); some-field = f .if2 .left; same-count = c .if3 .left }
 
-node-cast-returns-8 : (t : ℕ) → node-cast-lts.Need-returns-8 (node-cast-claims t) (node-cast-at t) node-cast.Post
-node-cast-returns-8 t c =
-    let s = c .before .before .before .before .before .before .before .before .before .before .before .before .before .before .before .before .before .before in
-    two-leaves (now (s .args .from-kinds)) (now (s .args .from-args)) (s .pre .1 .0) (now (s .args .to-kinds)) (now (s .args .to-args)) (s .pre .1 .1) (sym (c .before .before .before .before .before .before .before .enum-told3 .given .1) ∙ c .before .before .before .before .before .before .before .before .before .before-nested .ensures) (c .if4 .taken)
+  inners : (c : node-cast-lts.Else4 node-cast-claims node-cast-at node-cast.Post)
+      → at-entry (TwoInner t) (entered (told (c .before .before)))
+  inners c =
+      let m = c .before in
+      record { kinds = same-kind (m .before); nested = omega (arith, c .if4 .left); no-struct = m .match2 .rest .1 }
 
-node-cast-returns-9 : (t : ℕ) → node-cast-lts.Need-returns-9 (node-cast-claims t) (node-cast-at t) node-cast.Post
-node-cast-returns-9 t c =
-    let s = c .before .before .before .before .before .before .before .before .before .before .before .before .before .before .before .before .before .before .before .before .before in
-    c .under2 .ensures ∙ one-cast (now (s .args .from-kinds)) (now (s .args .from-args)) (s .pre .1 .0) (now (s .args .to-kinds)) (now (s .args .to-args)) (s .pre .1 .1) (sym (c .before .before .before .before .before .before .before .before .before .before .enum-told3 .given .1) ∙ c .before .before .before .before .before .before .before .before .before .before .before .before .before-nested .ensures) (c .before .before .before .before .before .before .before .before .before .if1 .left) (omega (arith, c .before .before .before .if4 .left)) (c .before .before .before .before .match2 .rest .1) (c .before .before .if5 .left) _ (c .before .node-cast .ensures)
+  -- ---- node_cast: the answers
+  node-cast-returns : node-cast-lts.Need-returns node-cast-claims node-cast-at node-cast.Post
+  node-cast-returns c =
+      let o = c .before in
+      other-kinds (roots (o .before .before) (o .enum-told3 .given .1)) (c .if1 .taken)
 
-field-cast-loop-holds : (t : ℕ) → field-cast-lts.Need-loop-holds (field-cast-claims t) (field-cast-at t) field-cast.Post field-cast-Inv-loop field-cast-μ-loop
-field-cast-loop-holds t c =
-    let s = c .before .before .before .before in
-    start (s .args .count) (now (s .args .from-kinds)) (now (s .args .from-args)) (now (s .args .to-kinds)) (now (s .args .to-args)) (s .pre .1 .0) (s .pre .1 .1)
+  node-cast-returns-2 : node-cast-lts.Need-returns-2 node-cast-claims node-cast-at node-cast.Post
+  node-cast-returns-2 c = no-field (structs (c .before .before)) (c .before .if2 .taken) (c .nodes2 .ensures)
 
-field-cast-node-cast-requires : (t : ℕ) → field-cast-lts.Need-node-cast-requires (field-cast-claims t) (field-cast-at t) field-cast.Post field-cast-Inv-loop field-cast-μ-loop
-field-cast-node-cast-requires t c κs =
-    let s = c .before .before .before .before .before .before .before .before .before .before in
-    let l = c .before .before .before .before .before in
-    (shorter (now (s .args .from-kinds)) (l .loop .i) t (s .pre .0) (omega (arith, l .loop .inv .within, c .before .before .before .before .loop-test .taken)), (valid-one (s .args .count) (now (s .args .from-kinds)) (now (s .args .from-args)) (now (s .args .to-kinds)) (now (s .args .to-args)) (l .loop .i) (l .loop .j) (l .loop .left) (l .loop .inv) (omega (arith, c .before .before .before .before .loop-test .taken)), valid-other (s .args .count) (now (s .args .from-kinds)) (now (s .args .from-args)) (now (s .args .to-kinds)) (now (s .args .to-args)) (l .loop .i) (l .loop .j) (l .loop .left) (l .loop .inv) (omega (arith, c .before .before .before .before .loop-test .taken))))
+  node-cast-returns-3 : node-cast-lts.Need-returns-3 node-cast-claims node-cast-at node-cast.Post
+  node-cast-returns-3 c = other-count (structs (c .before .before)) (c .before .if2 .left) (c .if3 .taken)
 
-field-cast-add-i : (t : ℕ) → field-cast-lts.Need-add-i (field-cast-claims t) (field-cast-at t) field-cast.Post field-cast-Inv-loop field-cast-μ-loop
-field-cast-add-i t c =
-    let s = c .before .before .before .before .before .before .before .before .before .before .before .before .before .before in
-    let l = c .before .before .before .before .before .before .before .before .before in
-    let n = c .before .n .given in
-    omega (arith, s .good, ends (s .args .count) (now (s .args .from-kinds)) (now (s .args .from-args)) (now (s .args .to-kinds)) (now (s .args .to-args)) (l .loop .i) (l .loop .j) (l .loop .left) (l .loop .inv) (omega (arith, c .before .before .before .before .before .before .before .before .loop-test .taken)) (n .0 .0) (n .0 .1 .0) (sym (n .1) ∙ c .before .before .before .node-cast .ensures) .0)
+  node-cast-field-cast-requires : node-cast-lts.Need-field-cast-requires node-cast-claims node-cast-at node-cast.Post
+  node-cast-field-cast-requires c κs = fields-call (as-many c)
 
-field-cast-add-j : (t : ℕ) → field-cast-lts.Need-add-j (field-cast-claims t) (field-cast-at t) field-cast.Post field-cast-Inv-loop field-cast-μ-loop
-field-cast-add-j t c =
-    let s = c .before .before .before .before .before .before .before .before .before .before .before .before .before .before in
-    let l = c .before .before .before .before .before .before .before .before .before in
-    let n = c .before .n .given in
-    omega (arith, s .good, ends (s .args .count) (now (s .args .from-kinds)) (now (s .args .from-args)) (now (s .args .to-kinds)) (now (s .args .to-args)) (l .loop .i) (l .loop .j) (l .loop .left) (l .loop .inv) (omega (arith, c .before .before .before .before .before .before .before .before .loop-test .taken)) (n .0 .0) (n .0 .1 .0) (sym (n .1) ∙ c .before .before .before .node-cast .ensures) .1)
+  node-cast-under-requires : node-cast-lts.Need-under-requires node-cast-claims node-cast-at node-cast.Post
+  node-cast-under-requires c κs = fields-within (as-many (c .before)) (c .field-cast .ensures)
 
-field-cast-loop-again : (t : ℕ) → field-cast-lts.Need-loop-again (field-cast-claims t) (field-cast-at t) field-cast.Post field-cast-Inv-loop field-cast-μ-loop
-field-cast-loop-again t c =
-    let s = c .before .before .before .before .before .before .before .before .before .before .before .before .before .before in
-    let l = c .before .before .before .before .before .before .before .before .before in
-    let n = c .before .n .given in
-    field-done (s .args .count) (now (s .args .from-kinds)) (now (s .args .from-args)) (now (s .args .to-kinds)) (now (s .args .to-args)) (l .loop .i) (l .loop .j) (l .loop .left) (l .loop .inv) (omega (arith, c .before .before .before .before .before .before .before .before .loop-test .taken)) (n .0 .0) (n .0 .1 .0) (sym (n .1) ∙ c .before .before .before .node-cast .ensures)
+  node-cast-returns-4 : node-cast-lts.Need-returns-4 node-cast-claims node-cast-at node-cast.Post
+  node-cast-returns-4 c = other-width (inners (c .before)) (λ e. omega (arith, e, c .if5 .taken))
 
-field-cast-returns : (t : ℕ) → field-cast-lts.Need-returns (field-cast-claims t) (field-cast-at t) field-cast.Post field-cast-Inv-loop field-cast-μ-loop
-field-cast-returns t c =
-    let s = c .before .before .before .before .before .before .before .before .before .before .before .before .before in
-    let l = c .before .before .before .before .before .before .before .before in
-    fields-no (s .args .count) (now (s .args .from-kinds)) (now (s .args .from-args)) (now (s .args .to-kinds)) (now (s .args .to-args)) (l .loop .i) (l .loop .j) (l .loop .left) (l .loop .inv) (omega (arith, c .before .before .before .before .before .before .before .loop-test .taken)) (sym (c .enum-told .given .1) ∙ c .before .before .node-cast .ensures)
+  node-cast-node-cast-requires : node-cast-lts.Need-node-cast-requires node-cast-claims node-cast-at node-cast.Post
+  node-cast-node-cast-requires c κs = inner-call (inners (c .before))
 
-field-cast-returns-2 : (t : ℕ) → field-cast-lts.Need-returns-2 (field-cast-claims t) (field-cast-at t) field-cast.Post field-cast-Inv-loop field-cast-μ-loop
-field-cast-returns-2 t c =
-    let s = c .before .before .before .before .before .before .before .before .before .before .before .before .before in
-    let l = c .before .before .before .before .before .before .before .before in
-    fields-unsure (s .args .count) (now (s .args .from-kinds)) (now (s .args .from-args)) (now (s .args .to-kinds)) (now (s .args .to-args)) (l .loop .i) (l .loop .j) (l .loop .left) (l .loop .inv) (omega (arith, c .before .before .before .before .before .before .before .loop-test .taken)) (sym (c .enum-told2 .given .1) ∙ c .before .before .node-cast .ensures)
+  node-cast-under-requires-2 : node-cast-lts.Need-under-requires-2 node-cast-claims node-cast-at node-cast.Post
+  node-cast-under-requires-2 c κs = inner-within (inners (c .before .before)) (c .node-cast .ensures)
 
-field-cast-returns-3 : (t : ℕ) → field-cast-lts.Need-returns-3 (field-cast-claims t) (field-cast-at t) field-cast.Post field-cast-Inv-loop field-cast-μ-loop
-field-cast-returns-3 t c =
-    let s = c .before .before .before .before .before .before in
-    let l = c .before in
-    fields-done (s .args .count) (now (s .args .from-kinds)) (now (s .args .from-args)) (now (s .args .to-kinds)) (now (s .args .to-args)) (l .loop .i) (l .loop .j) (l .loop .left) (l .loop .inv) (omega arith)
+  node-cast-returns-5 : node-cast-lts.Need-returns-5 node-cast-claims node-cast-at node-cast.Post
+  node-cast-returns-5 c =
+      let o = c .before in
+      roots-yes (roots (o .before .before) (o .enum-told .given .1)) (c .nodes .ensures)
+
+  node-cast-returns-6 : node-cast-lts.Need-returns-6 node-cast-claims node-cast-at node-cast.Post
+  node-cast-returns-6 c = roots-no (roots (c .before .before) (c .enum-told2 .given .1))
+
+  node-cast-returns-7 : node-cast-lts.Need-returns-7 node-cast-claims node-cast-at node-cast.Post
+  node-cast-returns-7 c = c .under .ensures ∙ fields-cast (as-many (c .before .before)) (c .before .field-cast .ensures)
+
+  node-cast-returns-8 : node-cast-lts.Need-returns-8 node-cast-claims node-cast-at node-cast.Post
+  node-cast-returns-8 c = two-leaves (same-kind (c .before .before)) (c .if4 .taken)
+
+  node-cast-returns-9 : node-cast-lts.Need-returns-9 node-cast-claims node-cast-at node-cast.Post
+  node-cast-returns-9 c =
+      let w = c .before .before in
+      c .under2 .ensures ∙ inner-cast (inners (w .before)) (c .before .node-cast .ensures) (w .if5 .left)
+
+  -- ---- field_cast: the views
+  abbrev In-loop : Type 0
+  In-loop = field-cast-lts.In-loop field-cast-claims field-cast-at field-cast.Post Inv-loop μ-loop
+
+  abbrev loop-entered : In-loop → field-cast-lts.Start field-cast-claims field-cast-at field-cast.Post Inv-loop μ-loop
+  loop-entered c = c .before .before .before .before .before .before
+
+  -- known of the arrays of a call, and of the loop's numbers
+  abbrev in-loop : (ℕ → List ℕ → List ℕ → List ℕ → List ℕ → ℕ → ℕ → ℕ → Type 0) → In-loop → Type 0
+  in-loop known c =
+      let a = loop-entered c .args in
+      let l = c .before .loop in
+      known (a .count) (now (a .from-kinds)) (now (a .from-args)) (now (a .to-kinds)) (now (a .to-args))
+      (l .i) (l .j) (l .left)
+
+  ahead : (c : In-loop) → in-loop (FieldAhead t) c
+  ahead c =
+      let s = loop-entered c in
+      record {
+        called = record { measure = s .pre .0; short = omega (arith, s .good); short-right = omega (arith, s .good) };
+        along = c .before .loop .inv;
+        more = omega (arith, c .loop-test .taken);
+      }
+
+  abbrev Field-told : Type 0
+  Field-told = field-cast-lts.After-node-cast field-cast-claims field-cast-at field-cast.Post Inv-loop μ-loop
+
+  abbrev told-in : Field-told → In-loop
+  told-in c = c .before .before .before .before .before
+
+  abbrev Field-yes : Type 0
+  Field-yes = field-cast-lts.After-known-told field-cast-claims field-cast-at field-cast.Post Inv-loop μ-loop
+
+  abbrev field-told : Field-yes → Field-told
+  field-told c = c .before .before .before
+
+  field-yes : (c : Field-yes)
+      → let n = c .before .n .given .0 in
+      in-loop (λ m ks xs ls ys i j left. FieldYes t m ks xs ls ys i j left (n .0) (n .1 .0)) (told-in (field-told c))
+  field-yes c =
+      let f = field-told c in
+      record { ahead = ahead (told-in f); yes = sym (c .before .n .given .1) ∙ f .node-cast .ensures }
+
+  -- ---- field_cast: the answers
+  field-cast-loop-holds : field-cast-lts.Need-loop-holds field-cast-claims field-cast-at field-cast.Post Inv-loop μ-loop
+  field-cast-loop-holds c = let s = c .before .before .before .before in start (s .pre .1 .0) (s .pre .1 .1)
+
+  field-cast-node-cast-requires :
+      field-cast-lts.Need-node-cast-requires field-cast-claims field-cast-at field-cast.Post Inv-loop μ-loop
+  field-cast-node-cast-requires c κs = next-call (ahead (c .before .before .before .before))
+
+  field-cast-add-i : field-cast-lts.Need-add-i field-cast-claims field-cast-at field-cast.Post Inv-loop μ-loop
+  field-cast-add-i c = omega (arith, field-ends (field-yes c) .0)
+
+  field-cast-add-j : field-cast-lts.Need-add-j field-cast-claims field-cast-at field-cast.Post Inv-loop μ-loop
+  field-cast-add-j c = omega (arith, field-ends (field-yes c) .1)
+
+  field-cast-loop-again : field-cast-lts.Need-loop-again field-cast-claims field-cast-at field-cast.Post Inv-loop μ-loop
+  field-cast-loop-again c = field-done (field-yes c)
+
+  field-cast-returns : field-cast-lts.Need-returns field-cast-claims field-cast-at field-cast.Post Inv-loop μ-loop
+  field-cast-returns c =
+      let f = c .before .before in
+      field-no (ahead (told-in f)) (sym (c .enum-told .given .1) ∙ f .node-cast .ensures)
+
+  field-cast-returns-2 : field-cast-lts.Need-returns-2 field-cast-claims field-cast-at field-cast.Post Inv-loop μ-loop
+  field-cast-returns-2 c =
+      let f = c .before .before in
+      field-unsure (ahead (told-in f)) (sym (c .enum-told2 .given .1) ∙ f .node-cast .ensures)
+
+  field-cast-returns-3 : field-cast-lts.Need-returns-3 field-cast-claims field-cast-at field-cast.Post Inv-loop μ-loop
+  field-cast-returns-3 c = fields-done (c .before .loop .inv) (omega arith)
 
 pub +field-cast+node-cast-spec : {M : Type 1} → statement M
 +field-cast+node-cast-spec =
@@ -174,10 +262,13 @@ pub +field-cast+node-cast-spec : {M : Type 1} → statement M
     (field-cast-claims t)
     (field-cast-at t)
     field-cast.Post
-    field-cast-Inv-loop
-    field-cast-μ-loop
+    Inv-loop
+    μ-loop
     (field-cast-loop-holds t)
-    (λ c. search needs) (λ c. search needs) (λ c. search needs) (λ c. search needs) (λ c. search needs) (λ c. search needs) (λ c. search needs) (λ c. search needs) (λ c. search needs) (λ c. search needs) (λ c. search needs) (λ c. search needs) (λ c. search needs) (λ c. search needs) (λ c. search needs) (λ c. search needs)
+    (λ c. search needs) (λ c. search needs) (λ c. search needs) (λ c. search needs) (λ c. search needs)
+    (λ c. search needs) (λ c. search needs) (λ c. search needs) (λ c. search needs) (λ c. search needs)
+    (λ c. search needs) (λ c. search needs) (λ c. search needs) (λ c. search needs) (λ c. search needs)
+    (λ c. search needs)
     (field-cast-node-cast-requires t)
     (λ c. search needs)
     (field-cast-add-i t)
@@ -193,9 +284,12 @@ pub +field-cast+node-cast-spec : {M : Type 1} → statement M
     (node-cast-claims t)
     (node-cast-at t)
     node-cast.Post
-    (λ c. search needs) (λ c. search needs) (λ c. search needs) (λ c. search needs) (λ c κs. search needs) (λ c. search needs) (λ c κs. search needs) (λ c. search needs) (λ c. search needs)
+    (λ c. search needs) (λ c. search needs) (λ c. search needs) (λ c. search needs) (λ c κs. search needs)
+    (λ c. search needs) (λ c κs. search needs) (λ c. search needs) (λ c. search needs)
     (node-cast-returns t)
-    (λ c. search needs) (λ c. search needs) (λ c. search needs) (λ c. search needs) (λ c. search needs) (λ c. search needs) (λ c. search needs) (λ c. search needs) (λ c. search needs) (λ c. search needs) (λ c. search needs) (λ c. search needs) (λ c κs. search needs)
+    (λ c. search needs) (λ c. search needs) (λ c. search needs) (λ c. search needs) (λ c. search needs)
+    (λ c. search needs) (λ c. search needs) (λ c. search needs) (λ c. search needs) (λ c. search needs)
+    (λ c. search needs) (λ c. search needs) (λ c κs. search needs)
     (node-cast-returns-2 t)
     (node-cast-returns-3 t)
     (node-cast-field-cast-requires t)
