@@ -61,8 +61,18 @@ fn ask_flat(
       ⌜ r ≡ verdict (askedOf question left right) ⌝ }
 {
     match question {
-        Question::Equal => decided(nodes::starts_with(left_kinds, left_args, right_kinds, right_args)),
-        Question::Contains => decided(nodes::occurs(left_kinds, left_args, right_kinds, right_args)),
+        Question::Equal => decided(nodes::starts_with(
+            left_kinds,
+            left_args,
+            right_kinds,
+            right_args,
+        )),
+        Question::Contains => decided(nodes::occurs(
+            left_kinds,
+            left_args,
+            right_kinds,
+            right_args,
+        )),
         Question::Cast => checked_cast(left_kinds, left_args, right_kinds, right_args),
     }
 }
