@@ -1,4 +1,4 @@
--- Laws that several proofs of `encoding` cite, what an answer tells, and the round trips.
+-- Laws that several proofs of `encoded` cite, what an answer tells, and the round trips.
 pub mod Laws
 pub mod Answers
 pub mod Plain

@@ -22,7 +22,9 @@ pub settles : (s : Scan) → Settled s (settled s)
 unfolding settled
 settles s = go (ltb (s .owed) (s .outer)) refl
   where
-    go : (b : Bool) → ltb (s .owed) (s .outer) ≡ b → Settled s (cond b (record { owed = s .owed; outer = s .owed; base = s .base; depth = s .base }) s)
+    go :
+        (b : Bool) → ltb (s .owed) (s .outer) ≡ b
+        → Settled s (cond b (record { owed = s .owed; outer = s .owed; base = s .base; depth = s .base }) s)
     go true e =
         let h = ltb-true (s .owed) (s .outer) e in
         record { owed = refl; base = refl; outer = omega arith; inner = omega arith; stays = λ g. absurd (omega arith); back = λ g. refl }
@@ -53,12 +55,14 @@ opens m s = go (eqb (s .owed) 0) refl
     go true e = outermost (eqb-true (s .owed) 0 e)
     go false e = inside
 
--- the same in the code's terms, from the settled state r
+-- the state under a Struct in the code's terms, from the settled state r
 module _ (m : ℕ) (s r : Scan) (e : r ≡ settled s) where
-  settled-owed : r .owed ≡ s .owed
+  pub settled-owed : r .owed ≡ s .owed
   settled-owed = rw e (settles s .owed)
 
-  pub first-opened : r .owed ≡ 0 → _≡_ {A = Scan} (record { owed = m; outer = m; base = r .depth + 2; depth = r .depth + 2 }) (opened m s)
+  pub first-opened :
+      r .owed ≡ 0
+      → _≡_ {A = Scan} (record { owed = m; outer = m; base = r .depth + 2; depth = r .depth + 2 }) (opened m s)
   unfolding opened
   first-opened z = rw (eq-eqb (s .owed) 0 (sym settled-owed ∙ z), e, add-two)
 
