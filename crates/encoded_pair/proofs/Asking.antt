@@ -1,29 +1,31 @@
 -- What two types and a question come to: of arrays that were checked, of bytes that were opened, and as the answer of each call. Assumes nothing.
-use mathlib.Core.Path.{_≡_, refl, sym, ap, _∙_}
-use mathlib.Core.Bool.{Bool, true, false, _&&_}
+use mathlib.Core.Path.{_≡_, refl, sym, ap, ap₂, _∙_}
+use mathlib.Core.Bool.{Bool, true, false, _&&_, cond}
 use mathlib.Core.List.{List}
 use mathlib.Core.Option.{some}
 use Prim.Native.Nat.{ℕ, _+_, _-_, _≤_}
+use native.Mathlib.Nat.{le-of-mul-le-mul-left}
 use native.Mathlib.Omega.{arith}
 use borrow.Author.Tests.{leb-true}
 use lib.Dec.{leb}
 use lib.ListN.{length, getD, take, drop}
-use Rattle.flat.specs.Tree.{DataType}
+use Rattle.flat.specs.Tree.{DataType, size}
 use Rattle.flat.specs.Walk.{typeAt}
-use Rattle.flat.specs.Reading.{Reading, refused, type, reading, checkedOf}
+use Rattle.flat.specs.Reading.{Reading, refused, type, checkedOf}
+use Rattle.flat.specs.Output.{writtenOf}
 use Rattle.flat.specs.Both.{bothOf}
 use Rattle.flat.specs.declared.Checked.{Checked}
 use Rattle.flat.specs.declared.Written.{Written}
 use Rattle.flat.specs.declared.error.Error.{Error}
-use Rattle.flat.proofs.Truths.{both-true}
+use Rattle.flat.proofs.Truths.{impossible, both-true}
 use Rattle.flat.proofs.Meaning.{Passed, check-passed}
 use Rattle.flat.proofs.Pairs.{left-refused, right-refused, both-types}
-use Rattle.encoded.specs.Encoding.{kindsIn, argsIn, decoding}
-use Rattle.encoded.specs.Answer.{Opens}
+use Rattle.encoded.specs.Encoding.{encodedSize, countIn, kindsIn, argsIn, sizeFits, decoding}
+use Rattle.encoded.specs.Answer.{nodesIn, Opens}
 use Rattle.encoded.proofs.Laws.{size-parts}
-use Rattle.encoded.proofs.Answers.{decoded-holds}
-use Rattle.encoded.proofs.Plain.{PlainBytes, plain-bytes}
-use Rattle.encoded.proofs.Opening.{Opened, opened, unopened}
+use Rattle.encoded.proofs.Answers.{sized, decoded-holds}
+use Rattle.encoded.proofs.Plain.{PlainBytes}
+use Rattle.encoded.proofs.Opening.{opened, unopened}
 use Rattle.dtype.specs.Equality.{equal}
 use Rattle.dtype.specs.Answer.{yesNo, answersOf}
 use Rattle.dtype.specs.declared.answer.Answer.{Answer}
@@ -34,13 +36,15 @@ use Rattle.dtype_cast.specs.Scan.{nodeYes}
 use Rattle.dtype_cast.specs.Verdict.{verdict, castOf}
 use Rattle.dtype_cast.specs.declared.Verdict.{Verdict}
 use Rattle.dtype_cast.proofs.Scans.{leaves-yes}
-use Rattle.encoded_pair.specs.Asked.{askedOf, pairVerdict, answerIn, toItself, BothChecked, AsksIn}
+use Rattle.encoded_pair.specs.Asked.{askedOf, pairVerdict, answerIn, toItself}
+use Rattle.encoded_pair.specs.Lent.{BothChecked, RoomForBoth, pairOf, OpensBoth}
 use Rattle.encoded_pair.specs.declared.Question.{Question}
+use Rattle.encoded_pair.specs.declared.Pair.{Pair}
 
 -- ---- what a question says, as the answer of its call
 module _ (question : Question) (p : DataType → DataType → Bool) (h : (t u : DataType) → askedOf question t u ≡ some (p t u)) where
   answers-as : (l r : Reading) → answerIn (pairVerdict question l r) ≡ answersOf p l r
-  unfolding bothOf
+  unfolding pairVerdict bothOf
   answers-as (refused e) r = refl
   answers-as (type t) (refused e) = refl
   answers-as (type t) (type u) = rw (h t u) (yes-no (p t u))
@@ -55,7 +59,7 @@ answers-equal = answers-as Question.Equal equal (λ t u. refl)
 pub answers-contains : (l r : Reading) → answerIn (pairVerdict Question.Contains l r) ≡ answersOf containsDtypeRecursive l r
 answers-contains = answers-as Question.Contains containsDtypeRecursive (λ t u. refl)
 
--- ---- of two flat types that were checked
+-- ---- two flat types that were checked
 module _ {nodes deep : ℕ} {ks xs ls ys : List ℕ} (h : BothChecked nodes deep ks xs ls ys) where
   pub left-passed : Passed nodes deep ks xs
   left-passed = check-passed (h .left)
@@ -75,58 +79,102 @@ module _ {nodes deep : ℕ} {ks xs ls ys : List ℕ} (h : BothChecked nodes deep
       → v ≡ verdict (some (containsDtypeRecursive (typeAt ks xs) (typeAt ls ys)))
   asks-contains e f = rw (left-passed .front, right-passed .front, ← occurs-contains (left-passed .form) (right-passed .form), ← e) f
 
--- ---- of two encoded types
+-- ---- two encoded types
 
--- s and t were opened: xs and ys are the arrays for their arguments before that, xs′ and ys′ after it, and a and b the answers.
+-- Both were opened, with the answers a and b.
 pub record BothOpen (w nodes deep : ℕ) (s t xs ys xs′ ys′ : List ℕ) (a b : Written) : Type 0 where
   pub left : Opens w nodes deep s xs xs′ a
   pub right : Opens w nodes deep t ys ys′ b
 
--- They are types of n and m nodes: their kinds stand in s and t, their arguments at the front of xs′ and ys′.
+module _ {w nodes deep : ℕ} {s t xs ys xs′ ys′ : List ℕ} {a b : Written} (o : BothOpen w nodes deep s t xs ys xs′ ys′ a b) where
+  comes-to : {p : Pair} → pairOf (decoding w nodes deep s) (decoding w nodes deep t) ≡ p
+      → OpensBoth w nodes deep s t xs ys xs′ ys′ pairOf p
+  comes-to e = record { answers = sym e; left = o .left .args; right = o .right .args }
+
+  pub left-unopened : {e : Error} → a ≡ Written.Refused e
+      → OpensBoth w nodes deep s t xs ys xs′ ys′ pairOf (Pair.Refused e)
+  left-unopened p = comes-to (left-refused Pair.Refused (λ t u. Pair.Nodes (size t) (size u)) _ _ (unopened (o .left) p))
+
+  pub right-unopened : {n : ℕ} {e : Error} → a ≡ Written.Nodes n → b ≡ Written.Refused e
+      → OpensBoth w nodes deep s t xs ys xs′ ys′ pairOf (Pair.Refused e)
+  right-unopened p q =
+      comes-to (right-refused Pair.Refused (λ t u. Pair.Nodes (size t) (size u)) _ _ (opened (o .left) p .reads) (unopened (o .right) q))
+
+  pub both-opened : {n m : ℕ} → a ≡ Written.Nodes n → b ≡ Written.Nodes m
+      → OpensBoth w nodes deep s t xs ys xs′ ys′ pairOf (Pair.Nodes n m)
+  both-opened p q =
+      let l = opened (o .left) p in
+      let r = opened (o .right) q in
+      comes-to (both-types Pair.Refused (λ t u. Pair.Nodes (size t) (size u)) _ _ (l .reads) (r .reads) ∙ ap₂ Pair.Nodes (l .tree-size) (r .tree-size))
+
+-- what the numbers of nodes tell of either
+pair-types : (l r : Reading) {n m : ℕ} → Pair.Nodes n m ≡ pairOf l r → (Written.Nodes n ≡ writtenOf l) × (Written.Nodes m ≡ writtenOf r)
+unfolding bothOf
+pair-types (refused e) r h = impossible cc
+pair-types (type t) (refused e) h = impossible cc
+pair-types (type t) (type u) {n} {m} h =
+    let x : n ≡ size t = cc in
+    let y : m ≡ size u = cc in
+    (ap Written.Nodes x, ap Written.Nodes y)
+
+-- and what a refusal tells: a question comes to it too
+pair-refused : (question : Question) (l r : Reading) {e : Error} → Pair.Refused e ≡ pairOf l r → Verdict.Refused e ≡ pairVerdict question l r
+unfolding pairVerdict bothOf
+pair-refused question (refused d) r h = cc
+pair-refused question (type t) (refused d) h = cc
+pair-refused question (type t) (type u) h = impossible cc
+
+-- Both are types, of n and m nodes: their kinds stand in s and t, their arguments at the front of xs′ and ys′.
 pub record BothTypes (w nodes deep n m : ℕ) (s t xs ys xs′ ys′ : List ℕ) : Type 0 where
-  pub opens : BothOpen w nodes deep s t xs ys xs′ ys′ (Written.Nodes n) (Written.Nodes m)
   pub left-kinds : 2 + n ≤ length s
   pub left-room : n ≤ length xs′
   pub right-kinds : 2 + m ≤ length t
   pub right-room : m ≤ length ys′
   pub checked : BothChecked nodes deep (take (2 + n - 2) (drop 2 s)) (take n xs′) (take (2 + m - 2) (drop 2 t)) (take m ys′)
-  pub left-reads : decoding w nodes deep s ≡ type (typeAt (take (2 + n - 2) (drop 2 s)) (take n xs′))
-  pub right-reads : decoding w nodes deep t ≡ type (typeAt (take (2 + m - 2) (drop 2 t)) (take m ys′))
+  pub asked : (question : Question) {v : Verdict}
+      → v ≡ verdict (askedOf question (typeAt (take (2 + n - 2) (drop 2 s)) (take n xs′)) (typeAt (take (2 + m - 2) (drop 2 t)) (take m ys′)))
+      → OpensBoth w nodes deep s t xs ys xs′ ys′ (pairVerdict question) v
 
-module _ {w nodes deep : ℕ} {s t xs ys xs′ ys′ : List ℕ} {a b : Written} (o : BothOpen w nodes deep s t xs ys xs′ ys′ a b) where
-  pub left-unopened : (question : Question) {e : Error} → a ≡ Written.Refused e → AsksIn w nodes deep question s t xs ys xs′ ys′ (Verdict.Refused e)
-  left-unopened question p = record { answers = sym (left-refused Verdict.Refused (λ t u. verdict (askedOf question t u)) _ _ (unopened (o .left) p)); left = o .left .args; right = o .right .args }
+module _ {w nodes deep : ℕ} {s t xs ys xs′ ys′ : List ℕ} {a : Pair} (o : OpensBoth w nodes deep s t xs ys xs′ ys′ pairOf a) where
+  pub both-refused : (question : Question) {e : Error} → a ≡ Pair.Refused e
+      → OpensBoth w nodes deep s t xs ys xs′ ys′ (pairVerdict question) (Verdict.Refused e)
+  both-refused question q = record { answers = pair-refused question _ _ (sym q ∙ o .answers); left = o .left; right = o .right }
 
-  pub right-unopened : (question : Question) {n : ℕ} {e : Error} → a ≡ Written.Nodes n → b ≡ Written.Refused e → AsksIn w nodes deep question s t xs ys xs′ ys′ (Verdict.Refused e)
-  right-unopened question p q =
-      record { answers = sym (right-refused Verdict.Refused (λ t u. verdict (askedOf question t u)) _ _ (opened (o .left) p .reads) (unopened (o .right) q)); left = o .left .args; right = o .right .args }
-
-  pub both-opened : {n m : ℕ} → a ≡ Written.Nodes n → b ≡ Written.Nodes m → BothTypes w nodes deep n m s t xs ys xs′ ys′
-  both-opened {n} {m} p q =
-      let l = opened (o .left) p in
-      let r = opened (o .right) q in
+  pub both-told : {n m : ℕ} → a ≡ Pair.Nodes n m → BothTypes w nodes deep n m s t xs ys xs′ ys′
+  unfolding pairVerdict
+  both-told {n} {m} q =
+      let told = pair-types (decoding w nodes deep s) (decoding w nodes deep t) (sym q ∙ o .answers) in
+      let left : Opens w nodes deep s xs xs′ (Written.Nodes n) = record { answers = told .0; args = o .left } in
+      let right : Opens w nodes deep t ys ys′ (Written.Nodes m) = record { answers = told .1; args = o .right } in
+      let l = opened left refl in
+      let r = opened right refl in
       record {
-        opens = record { left = rw p at (o .left); right = rw q at (o .right) };
         left-kinds = omega (arith, l .sized .size, size-parts w n);
         left-room = l .room;
         right-kinds = omega (arith, r .sized .size, size-parts w m);
         right-room = r .room;
         checked = record { left = ap checkedOf (sym (l .parts .reads)); right = ap checkedOf (sym (r .parts .reads)) };
-        left-reads = l .reads ∙ ap type (sym (l .parts .front));
-        right-reads = r .reads ∙ ap type (sym (r .parts .front));
+        asked = λ question h. record {
+          answers = rw (l .parts .front, r .parts .front) at h ∙ sym (both-types Verdict.Refused (λ t u. verdict (askedOf question t u)) _ _ (l .reads) (r .reads));
+          left = o .left;
+          right = o .right;
+        };
       }
 
-module _ {w nodes deep n m : ℕ} {s t xs ys xs′ ys′ : List ℕ} (b : BothTypes w nodes deep n m s t xs ys xs′ ys′) where
-  pub both-asked : (question : Question) {v : Verdict}
-      → v ≡ verdict (askedOf question (typeAt (take (2 + n - 2) (drop 2 s)) (take n xs′)) (typeAt (take (2 + m - 2) (drop 2 t)) (take m ys′)))
-      → AsksIn w nodes deep question s t xs ys xs′ ys′ v
-  both-asked question h =
-      let both = both-types Verdict.Refused (λ t u. verdict (askedOf question t u)) _ _ (b .left-reads) (b .right-reads) in
-      record { answers = h ∙ sym both; left = b .opens .left .args; right = b .opens .right .args }
+-- ---- room for the arguments of both, in small arrays and in large ones
+short-few : (w nodes few : ℕ) (s : List ℕ) → length s ≤ encodedSize w few → nodesIn w nodes s ≤ few
+unfolding nodesIn
+short-few w nodes few s h = go (sizeFits w nodes s) refl
+  where
+    go : (b : Bool) → sizeFits w nodes s ≡ b → cond b (countIn s) 0 ≤ few
+    go true f = le-of-mul-le-mul-left {k = w + 1} (omega (arith, sized w nodes s f .size)) (omega arith)
+    go false f = omega arith
 
--- both have few nodes
-pub few-both : {n m few : ℕ} {b : Bool} → b ≡ (leb n few && leb m few) → b ≡ true → (n ≤ few) × (m ≤ few)
-few-both {n} {m} {few} e h = let s = both-true (leb n few) (leb m few) (sym e ∙ h) in (leb-true _ _ (s .0), leb-true _ _ (s .1))
+pub short-room : {w nodes : ℕ} {s t xs ys : List ℕ} {b : Bool} → b ≡ (leb (length s) (encodedSize w (length xs)) && leb (length t) (encodedSize w (length ys)))
+    → b ≡ true → RoomForBoth w nodes s t xs ys
+short-room {w} {nodes} {s} {t} {xs} {ys} e h =
+    let both = both-true (leb (length s) (encodedSize w (length xs))) (leb (length t) (encodedSize w (length ys))) (sym e ∙ h) in
+    record { left = short-few w nodes (length xs) s (leb-true _ _ (both .0)); right = short-few w nodes (length ys) t (leb-true _ _ (both .1)) }
 
 -- ---- one check tells of two equal runs of bytes
 pub same-equal : (w nodes deep : ℕ) (s t : List ℕ) {b : Bool} {c : Checked} {a : Answer} → b ≡ sameList s t → b ≡ true

@@ -1,2 +1,3 @@
--- What is asked of two types, and what the calls of `encoded_pair` come to.
+-- What is asked of two types, and what the arrays hold that are lent for their arguments.
 pub mod Asked
+pub mod Lent

@@ -2,17 +2,16 @@
 ghost use mathlib.Core.Path.{_≡_};
 ghost use mathlib.Core.Bool.{_&&_};
 ghost use mathlib.Core.Option.{some};
-ghost use Prim.Native.Nat.{_≤_};
 ghost use lib.Dec.{leb};
 ghost use lib.ListN.{length};
 ghost use Rattle.flat.specs.Walk.{typeAt};
-ghost use Rattle.encoded.specs.Encoding.{decoding};
-ghost use Rattle.encoded.specs.Answer.{nodesIn};
+ghost use Rattle.encoded.specs.Encoding.{encodedSize, decoding};
 ghost use Rattle.dtype.specs.Equality.{equal};
 ghost use Rattle.dtype.specs.Answer.{answersOf};
 ghost use Rattle.dtype_eq.specs.Contains.{containsDtypeRecursive};
 ghost use Rattle.dtype_cast.specs.Verdict.{verdict, castOf};
-ghost use Rattle.encoded_pair.specs.Asked.{askedOf, pairVerdict, answerIn, toItself, BothChecked, AsksIn};
+ghost use Rattle.encoded_pair.specs.Asked.{askedOf, pairVerdict, answerIn, toItself};
+ghost use Rattle.encoded_pair.specs.Lent.{BothChecked, RoomForBoth, pairOf, OpensBoth};
 use dtype::answer::Answer;
 use dtype_cast::Verdict;
 use dtype_cast::checked_cast;
@@ -22,12 +21,19 @@ use encoded::Encoding;
 use flat::Checked;
 use flat::Flat;
 use flat::Written;
+use flat::error::Error;
 
 // What is asked of two types: whether they are equal, whether the right one stands in the left one, whether the left one casts to the right one.
 pub enum Question {
     Equal,
     Contains,
     Cast,
+}
+
+// The numbers of nodes of two types, or why one is refused.
+pub enum Pair {
+    Nodes(usize, usize),
+    Refused(Error),
 }
 
 // A yes or a no as a verdict.
@@ -55,13 +61,47 @@ fn ask_flat(
       ⌜ r ≡ verdict (askedOf question left right) ⌝ }
 {
     match question {
-        Question::Equal => decided(nodes::starts_with(left_kinds, left_args, right_kinds, right_args)),
-        Question::Contains => decided(nodes::occurs(left_kinds, left_args, right_kinds, right_args)),
+        Question::Equal => decided(nodes::starts_with(
+            left_kinds,
+            left_args,
+            right_kinds,
+            right_args,
+        )),
+        Question::Contains => decided(nodes::occurs(
+            left_kinds,
+            left_args,
+            right_kinds,
+            right_args,
+        )),
         Question::Cast => checked_cast(left_kinds, left_args, right_kinds, right_args),
     }
 }
 
-// Of two encoded types, with room for their arguments: the left through 1 to 5, then the right.
+// Opens both, with room for their arguments: the left through 1 to 5, then the right.
+fn open_both(left: &[u8], right: &[u8], left_args: &mut [u64], right_args: &mut [u64]) -> Pair
+    requires { do
+      nodes ← ⟦Flat::MAX_NODES⟧
+      w ← ⟦Encoding::ARGUMENT_BYTES⟧
+      ⌜ RoomForBoth w nodes (now left) (now right) (now «left_args») (now «right_args») ⌝ }
+    ensures { λ r. do
+      nodes ← ⟦Flat::MAX_NODES⟧ .entry
+      deep ← ⟦Flat::MAX_DEPTH⟧ .entry
+      w ← ⟦Encoding::ARGUMENT_BYTES⟧ .entry
+      ⌜ OpensBoth w nodes deep (now (left .entry)) (now (right .entry)) (now («left_args» .entry)) (now («right_args» .entry))
+          (now («left_args» .exit)) (now («right_args» .exit)) pairOf r ⌝ }
+{
+    let l = encoded::open(left, left_args);
+    let r = encoded::open(right, right_args);
+    match l {
+        Written::Refused(e) => Pair::Refused(e),
+        Written::Nodes(n) => match r {
+            Written::Refused(e) => Pair::Refused(e),
+            Written::Nodes(m) => Pair::Nodes(n, m),
+        },
+    }
+}
+
+// The answer for two encoded types, with room for their arguments.
 fn ask_in(
     question: Question,
     left: &[u8],
@@ -72,43 +112,39 @@ fn ask_in(
     requires { do
       nodes ← ⟦Flat::MAX_NODES⟧
       w ← ⟦Encoding::ARGUMENT_BYTES⟧
-      ⌜ (nodesIn w nodes (now left) ≤ length (now «left_args»)) × (nodesIn w nodes (now right) ≤ length (now «right_args»)) ⌝ }
+      ⌜ RoomForBoth w nodes (now left) (now right) (now «left_args») (now «right_args») ⌝ }
     ensures { λ r. do
       nodes ← ⟦Flat::MAX_NODES⟧ .entry
       deep ← ⟦Flat::MAX_DEPTH⟧ .entry
       w ← ⟦Encoding::ARGUMENT_BYTES⟧ .entry
-      ⌜ AsksIn w nodes deep question (now (left .entry)) (now (right .entry))
-          (now («left_args» .entry)) (now («right_args» .entry)) (now («left_args» .exit)) (now («right_args» .exit)) r ⌝ }
+      ⌜ OpensBoth w nodes deep (now (left .entry)) (now (right .entry)) (now («left_args» .entry)) (now («right_args» .entry))
+          (now («left_args» .exit)) (now («right_args» .exit)) (pairVerdict question) r ⌝ }
 {
-    let l = encoded::open(left, left_args);
-    let r = encoded::open(right, right_args);
-    match l {
-        Written::Refused(e) => Verdict::Refused(e),
-        Written::Nodes(n) => match r {
-            Written::Refused(e) => Verdict::Refused(e),
-            Written::Nodes(m) => ask_flat(
-                question,
-                &left[2..2 + n],
-                &left_args[..n],
-                &right[2..2 + m],
-                &right_args[..m],
-            ),
-        },
+    match open_both(left, right, left_args, right_args) {
+        Pair::Refused(e) => Verdict::Refused(e),
+        Pair::Nodes(n, m) => ask_flat(
+            question,
+            &left[2..2 + n],
+            &left_args[..n],
+            &right[2..2 + m],
+            &right_args[..m],
+        ),
     }
 }
 
-// Whether small arrays have room for the arguments of both.
-fn both_few(left: &[u8], right: &[u8]) -> bool
+// Whether both are so short that small arrays have room for their arguments.
+fn both_short(left: &[u8], right: &[u8]) -> bool
     ensures { λ r. do
-      nodes ← ⟦Flat::MAX_NODES⟧ .entry
       w ← ⟦Encoding::ARGUMENT_BYTES⟧ .entry
       few ← ⟦Encoding::FEW⟧ .entry
-      ⌜ r ≡ (leb (nodesIn w nodes (now (left .entry))) few && leb (nodesIn w nodes (now (right .entry))) few) ⌝ }
+      let most = encodedSize w few
+      ⌜ r ≡ (leb (length (now (left .entry))) most && leb (length (now (right .entry))) most) ⌝ }
 {
-    if encoded::node_count(left) > Encoding::FEW {
+    let most = 2 + (Encoding::ARGUMENT_BYTES + 1) * Encoding::FEW;
+    if left.len() > most {
         return false;
     }
-    encoded::node_count(right) <= Encoding::FEW
+    right.len() <= most
 }
 
 // Of any two runs of bytes, with arrays that have room for the arguments.
@@ -119,7 +155,7 @@ fn ask(question: Question, left: &[u8], right: &[u8]) -> Verdict
       w ← ⟦Encoding::ARGUMENT_BYTES⟧ .entry
       ⌜ r ≡ pairVerdict question (decoding w nodes deep (now (left .entry))) (decoding w nodes deep (now (right .entry))) ⌝ }
 {
-    if both_few(left, right) {
+    if both_short(left, right) {
         let mut left_args = [0u64; Encoding::FEW];
         let mut right_args = [0u64; Encoding::FEW];
         return ask_in(question, left, right, &mut left_args, &mut right_args);

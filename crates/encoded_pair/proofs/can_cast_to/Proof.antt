@@ -3,6 +3,7 @@ use mathlib.Core.Path.{sym, _∙_}
 use borrow.Author.Needs.{needs}
 use native.Mathlib.Omega.{arith}
 use Rattle.encoded.proofs.Plain.{PlainBytes, plain-bytes}
+use Rattle.encoded_pair.specs.Asked.{pairVerdict}
 use Rattle.encoded_pair.proofs.Asking.{plain-cast}
 use Rattle.encoded_pair.proofs.can_cast_to.Statement.{statement}
 use Rattle.encoded_pair.proofs.can_cast_to.Tie as tie
@@ -26,6 +27,7 @@ returns c =
     plain-cast _ (left-plain both) (right-plain both) (sym (c .before .node-yes .ensures) ∙ c .if3 .taken)
 
 returns-2 : tie.Need-returns-2
+unfolding pairVerdict
 returns-2 c = c .ask .ensures
 
 pub can-cast-to-spec : {M : Type 1} → statement M
