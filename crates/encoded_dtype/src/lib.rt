@@ -3,7 +3,7 @@ ghost use mathlib.Core.Path.{_≡_};
 ghost use Prim.Native.Nat.{_≤_};
 ghost use lib.ListN.{length};
 ghost use Rattle.flat.specs.Reading.{type};
-ghost use Rattle.flat.specs.Output.{writtenOf};
+ghost use Rattle.flat.specs.Output.{writtenValue, Writes};
 ghost use Rattle.encoded.specs.Encoding.{decoding};
 ghost use Rattle.encoded.specs.Answer.{nodesIn, argsOpened, fittingBytes, Encodes};
 ghost use Rattle.dtype.specs.Answer.{answerOf};
@@ -13,7 +13,7 @@ ghost use Rattle.dtype_build.specs.Build.{materialized, physical};
 ghost use Rattle.dtype_build.specs.Leaf.{leafOf};
 ghost use Rattle.encoded.specs.Found.{fittingFoundBytes, EncodesFound};
 ghost use Rattle.encoded_dtype.specs.Parts.{partOf, partNodes, partReading};
-ghost use Rattle.encoded_dtype.specs.Forms.{formOf, RoomFor, EncodesForm};
+ghost use Rattle.encoded_dtype.specs.Forms.{formOf, RoomFor, EncodesWritten};
 use dtype::answer::Answer;
 use dtype::answer::yes_no;
 use dtype::predicate::Predicate;
@@ -176,7 +176,8 @@ fn put_plain(form: Form, kind: u8, out: &mut [u8]) -> Encoded
     encoded::put(&kinds, &args, out)
 }
 
-// Builds the type in the given form in two lent arrays, and encodes it from there to the front of out.
+// Builds the type in the given form at the front of new_kinds and new_args: refusals 1 to 5, then 7 where an `Unknown(Any)`
+// is not allowed.
 fn form_in(
     form: Form,
     allow_unknown: bool,
@@ -184,8 +185,7 @@ fn form_in(
     args: &mut [u64],
     new_kinds: &mut [u8],
     new_args: &mut [u64],
-    out: &mut [u8],
-) -> Encoded
+) -> Written
     requires { do
       nodes ← ⟦Flat::MAX_NODES⟧
       w ← ⟦Encoding::ARGUMENT_BYTES⟧
@@ -194,26 +194,41 @@ fn form_in(
       nodes ← ⟦Flat::MAX_NODES⟧ .entry
       deep ← ⟦Flat::MAX_DEPTH⟧ .entry
       w ← ⟦Encoding::ARGUMENT_BYTES⟧ .entry
-      let s = now (encoded .entry)
-      let formed = formOf form «allow_unknown» (decoding w nodes deep s)
-      ⌜ EncodesForm w nodes s formed (now (args .entry)) (now («new_kinds» .entry)) (now («new_args» .entry))
-          (now (out .entry)) (now (args .exit)) (now («new_kinds» .exit)) (now («new_args» .exit)) (now (out .exit)) r ⌝ }
+      let formed = formOf form «allow_unknown» (decoding w nodes deep (now (encoded .entry)))
+      let left = argsOpened w nodes (now (encoded .entry)) (now (args .entry))
+      ⌜ Writes formed (now («new_kinds» .entry)) (now («new_args» .entry)) (now («new_kinds» .exit)) (now («new_args» .exit)) r
+          × (now (args .exit) ≡ left) ⌝ }
 {
     match encoded::open(encoded, args) {
         Written::Nodes(n) => {
             let kinds = &encoded[2..2 + n];
             if any_refused(kinds, allow_unknown) {
-                return Encoded::Refused(Error::Unknown);
+                return Written::Refused(Error::Unknown);
             }
-            let m = node_form(form, kinds, &args[..n], new_kinds, new_args);
-            encoded::put(&new_kinds[..m], &new_args[..m], out)
+            Written::Nodes(node_form(form, kinds, &args[..n], new_kinds, new_args))
         }
+        Written::Refused(e) => Written::Refused(e),
+    }
+}
+
+// Encodes the type that was written to the front of kinds and args to the front of out.
+fn put_written(written: Written, kinds: &[u8], args: &[u64], out: &mut [u8]) -> Encoded
+    requires { do
+      nodes ← ⟦Flat::MAX_NODES⟧
+      let n = writtenValue written
+      ⌜ (n ≤ length (now kinds)) × (n ≤ length (now args)) × (n ≤ nodes) ⌝ }
+    ensures { λ r. do
+      w ← ⟦Encoding::ARGUMENT_BYTES⟧ .entry
+      ⌜ EncodesWritten w written (now (kinds .entry)) (now (args .entry)) (now (out .entry)) (now (out .exit)) r ⌝ }
+{
+    match written {
+        Written::Nodes(n) => encoded::put(&kinds[..n], &args[..n], out),
         Written::Refused(e) => Encoded::Refused(e),
     }
 }
 
-// Encodes any type in the given form, with arrays that have room for its nodes.
-fn form_nodes(form: Form, allow_unknown: bool, encoded: &[u8], out: &mut [u8]) -> Encoded
+// Encodes any type in the given form to the front of out, with arrays that have room for its nodes.
+fn form_of(form: Form, allow_unknown: bool, encoded: &[u8], out: &mut [u8]) -> Encoded
     ensures { λ r. do
       nodes ← ⟦Flat::MAX_NODES⟧ .entry
       deep ← ⟦Flat::MAX_DEPTH⟧ .entry
@@ -226,31 +241,14 @@ fn form_nodes(form: Form, allow_unknown: bool, encoded: &[u8], out: &mut [u8]) -
         let mut args = [0u64; Encoding::FEW];
         let mut kinds = [0u8; Encoding::FEW];
         let mut new = [0u64; Encoding::FEW];
-        return form_in(form, allow_unknown, encoded, &mut args, &mut kinds, &mut new, out);
+        let written = form_in(form, allow_unknown, encoded, &mut args, &mut kinds, &mut new);
+        return put_written(written, &kinds, &new, out);
     }
     let mut args = [0u64; Flat::MAX_NODES];
     let mut kinds = [0u8; Flat::MAX_NODES];
     let mut new = [0u64; Flat::MAX_NODES];
-    form_in(form, allow_unknown, encoded, &mut args, &mut kinds, &mut new, out)
-}
-
-// Encodes the type in the given form to the front of out: refusals 1 to 5, 7 where an `Unknown(Any)` is not allowed, then 8.
-fn form_of(form: Form, allow_unknown: bool, encoded: &[u8], out: &mut [u8]) -> Encoded
-    ensures { λ r. do
-      nodes ← ⟦Flat::MAX_NODES⟧ .entry
-      deep ← ⟦Flat::MAX_DEPTH⟧ .entry
-      w ← ⟦Encoding::ARGUMENT_BYTES⟧ .entry
-      let formed = formOf form «allow_unknown» (decoding w nodes deep (now (encoded .entry)))
-      let fitting = fittingBytes w (length (now (out .entry))) formed
-      ⌜ Encodes w fitting (now (out .entry)) (now (out .exit)) r ⌝ }
-{
-    if encoded::is_plain(encoded) {
-        if any_refused(&encoded[2..3], allow_unknown) {
-            return Encoded::Refused(Error::Unknown);
-        }
-        return put_plain(form, encoded[2], out);
-    }
-    form_nodes(form, allow_unknown, &encoded[0..], out)
+    let written = form_in(form, allow_unknown, encoded, &mut args, &mut kinds, &mut new);
+    put_written(written, &kinds, &new, out)
 }
 
 // The type with each unknown type made known: refusals 1 to 5, 7, then 8.
@@ -263,6 +261,12 @@ pub fn materialize_unknown(encoded: &[u8], allow_unknown: bool, out: &mut [u8]) 
       let fitting = fittingBytes w (length (now (out .entry))) known
       ⌜ Encodes w fitting (now (out .entry)) (now (out .exit)) r ⌝ }
 {
+    if encoded::is_plain(encoded) {
+        if any_refused(&encoded[2..3], allow_unknown) {
+            return Encoded::Refused(Error::Unknown);
+        }
+        return put_plain(Form::Materialized, encoded[2], out);
+    }
     form_of(Form::Materialized, allow_unknown, &encoded[0..], out)
 }
 
@@ -276,5 +280,8 @@ pub fn to_physical(encoded: &[u8], out: &mut [u8]) -> Encoded
       let fitting = fittingBytes w (length (now (out .entry))) stored
       ⌜ Encodes w fitting (now (out .entry)) (now (out .exit)) r ⌝ }
 {
+    if encoded::is_plain(encoded) {
+        return put_plain(Form::Physical, encoded[2], out);
+    }
     form_of(Form::Physical, true, &encoded[0..], out)
 }
