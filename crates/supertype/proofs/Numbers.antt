@@ -26,7 +26,7 @@ module _ (dt k a : ℕ) where
   pub of-unsigned : Kind.UInt8 ≤ dt → dt ≤ Kind.UInt128 → k ≡ Kind.UnknownIntPos
       → materializeDynIntPos (valueOf k a) ≡ smallestFitting dt (valueOf k a)
   unfolding smallestFitting valueOf
-  of-unsigned h l e = rw (e, sym (of-run isUnsignedInteger true 2 5 (unfold says in tt) dt (omega arith)))
+  of-unsigned h l e = rw (e, sym (of-run isUnsignedInteger true Kind.UInt8 5 (unfold says in tt) dt (omega arith)))
 
   pub of-negative : (k ≡ Kind.UnknownIntPos → ⊥)
       → materializeSmallestDynInt (valueOf k a) ≡ smallestFitting dt (valueOf k a)
@@ -36,7 +36,7 @@ module _ (dt k a : ℕ) where
   pub of-signed : Kind.UInt128 < dt → dt ≤ Kind.Int64
       → materializeSmallestDynInt (valueOf k a) ≡ smallestFitting dt (valueOf k a)
   unfolding smallestFitting
-  of-signed h l = rw (sym (of-run isUnsignedInteger false 7 4 (unfold says in tt) dt (omega arith)))
+  of-signed h l = rw (sym (of-run isUnsignedInteger false Kind.Int8 4 (unfold says in tt) dt (omega arith)))
 
 -- an integer type up to Int64, or Null
 pub smallest : (dt : ℕ) (v : ℤ) (k : ℕ) → k ≡ smallestFitting dt v
@@ -61,7 +61,8 @@ pub known-null : (a b : ℕ) → Kind.UInt8 ≤ a → a ≤ Kind.Int64 → b ≡
     → Some (node a 0) ≡ knownSupertype (node a 0) (node b 0)
 unfolding run knownSupertype
 known-null a b l h e =
-    let r = rule (λ s a b. plan.Right) Kind.Null 1 1 14 (unfold right in tt) true Kind.Null a (omega arith) in
+    let r = rule (λ s a b. plan.Right) Kind.Null 1 Kind.Boolean 14 (unfold right in tt) true Kind.Null a
+    (omega arith) in
     rw e (down stop true {p = plan.Right} (omega arith) (omega arith) r)
 
 module _ (a b k : ℕ) (below : a < b) (numbers : b ≤ Kind.Float64) (e : Settles a b (plan.Kind k)) where
@@ -89,7 +90,7 @@ module _ (dt k : ℕ) (v : ℤ) (is-smallest : k ≡ smallestFitting dt v) where
       rw (
         ← is-smallest,
         eq-eqb dt Kind.UInt64 e,
-        sym (of-run isSignedInteger true 7 5 (unfold says in tt) k (omega arith)),
+        sym (of-run isSignedInteger true Kind.Int8 5 (unfold says in tt) k (omega arith)),
       )
 
   pub no-uint64 : (t : Supertype) → (dt ≡ Kind.UInt64 → ⊥) → t ≡ knownSupertype (node dt 0) (node k 0)
@@ -101,4 +102,5 @@ module _ (dt k : ℕ) (v : ℤ) (is-smallest : k ≡ smallestFitting dt v) where
       → t ≡ dynNumber knownSupertype (node dt 0) v
   unfolding dynNumber
   no-signed t h e =
-      rw (← is-smallest, sym (of-run isSignedInteger false 0 7 (unfold says in tt) k (omega arith)), and-false) e
+      rw (← is-smallest, sym (of-run isSignedInteger false Kind.Null 7 (unfold says in tt) k (omega arith)), and-false)
+      e

@@ -1,5 +1,5 @@
--- Two types without an argument, of numeric kinds: what the definition gives for them in either order, whatever its inner
--- call. Assumes nothing.
+-- Two types without an argument, of numeric kinds: what the definition gives for them in either order, whatever its
+-- inner call. Assumes nothing.
 use mathlib.Core.Path.{_≡_, refl, sym, _∙_, ap}
 use mathlib.Core.Bool.{Bool, true, false}
 use Prim.Native.Nat.{ℕ, _≤_, _<_}
@@ -22,7 +22,7 @@ use Rattle.supertype_arms.proofs.Answers.{settled, either-order, level}
 pub apart-below : {a b : ℕ} → a < b → b ≤ Kind.Float64 → Apart a b
 unfolding skip
 apart-below {a} {b} h l =
-    let known = sym (of-run isUnknownInt false 0 15 (unfold says in tt) a (omega arith)) in
+    let known = sym (of-run isUnknownInt false Kind.Null 15 (unfold says in tt) a (omega arith)) in
     record {
       in-order = omega arith;
       in-range = omega arith;
@@ -32,7 +32,8 @@ apart-below {a} {b} h l =
 bare : (a : ℕ) → a ≤ Kind.Float64 → fits (node a 0) ≡ true
 bare a h =
     is-true (fits (node a 0))
-    (in-run (λ a. fits (node a 0)) 0 15 (unfold fits argumentFits argumentRule in tt) a (omega arith) (omega arith))
+    (in-run (λ a. fits (node a 0)) Kind.Null 15 (unfold fits argumentFits argumentRule in tt) a (omega arith)
+    (omega arith))
 
 distinct : (a b : ℕ) → (a ≡ b → ⊥) → a ≤ Kind.Float64 → same (node a 0) (node b 0) ≡ false
 distinct a b n h = left-known a 0 b 0 n (omega arith) (omega arith)
@@ -46,7 +47,8 @@ module _ (call : Call) (s : Bool) where
     pub up : run call p (node a 0) (node b 0) ≡ supertypeWith call s (node a 0) (node b 0)
     up =
         ap (λ (q : Plan). run call q (node a 0) (node b 0)) e
-        ∙ sym (settled call s (node a 0) (node b 0) (apart-below below numbers) (distinct a b (omega arith) (omega arith)))
+        ∙ sym (settled call s (node a 0) (node b 0) (apart-below below numbers)
+        (distinct a b (omega arith) (omega arith)))
 
     pub down : run call p (node a 0) (node b 0) ≡ supertypeWith call s (node b 0) (node a 0)
     down =
