@@ -11,13 +11,14 @@ use Rattle.flat.specs.Kind
 use Rattle.flat.specs.Argument.{argumentFits, argumentRule}
 use Rattle.flat.specs.Tree.{DataType, leaf, list, array, struct, Fields, empty, field, size, sizes, depth, depths, count, kindsOf, kindsOfs, argsOf, argsOfs}
 use Rattle.flat.specs.Reading.{Ruled, RuledFields, IsType, type, reading}
+use Rattle.flat.proofs.Truths.{never}
 use Rattle.flat.proofs.Meaning.{passes}
 use Rattle.dtype.specs.Match.{among}
 use Rattle.dtype.specs.Predicate.{isUnknownInt}
 use Rattle.dtype.specs.Equality.{equalNode, equal, equalFields}
 use Rattle.dtype_eq.specs.Nodes.{startsWith}
 use Rattle.dtype.proofs.Pairs.{same-node}
-use Rattle.dtype_eq.proofs.Scans.{never, equal-size}
+use Rattle.dtype_eq.proofs.Scans.{equal-size}
 
 -- the first node of ls and ys, which is equal to the node k, a, and what stands after it
 record First (k a : ℕ) (ks xs ls ys : List ℕ) : Type 0 where
@@ -75,7 +76,7 @@ record Alike (t : DataType) (ks xs ls ys : List ℕ) : Type 0 where
   even : length ls′ ≡ length ys′
   long : length ls ≡ size t + length ls′
 
--- So do fields.
+-- Fields stand at the front of ls and ys that keep the rules, are equal to fs and as deep; what stands after them goes on as ks and xs do.
 record AlikeFields (fs : Fields) (ks xs ls ys : List ℕ) : Type 0 where
   fields : Fields
   ls′ : List ℕ

@@ -11,6 +11,7 @@ use borrow.Author.Tests.{eq-eqb, eqb-true}
 use Rattle.flat.specs.Kind
 use Rattle.flat.specs.Tree.{DataType, leaf, list, array, struct, Fields, empty, field, count, size, sizes, kindsOf, kindsOfs, argsOf, argsOfs}
 use Rattle.flat.specs.Reading.{Ruled, RuledFields}
+use Rattle.flat.proofs.Truths.{never}
 use Rattle.flat.proofs.Sizes.{length-kinds, length-args}
 use Rattle.flat.proofs.Meaning.{Holds}
 use Rattle.dtype.specs.Match.{among}
@@ -116,9 +117,6 @@ module _ (u : DataType) (s : Ruled u) where
           occurs-fields fs (r .2) ks xs,
           or-assoc,
         )
-
-pub never : {A : Type 0} → false ≡ true → A
-never e = absurd (let z : _≡_ {A = ℕ} 0 1 = cc in omega arith)
 
 -- two lists that are the same to a scan are equal
 pub same-lists : (xs ys : List ℕ) → sameList xs ys ≡ true → xs ≡ ys
