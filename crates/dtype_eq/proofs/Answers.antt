@@ -67,7 +67,8 @@ module _ (nodes deep : ℕ) (ks xs ls ys : List ℕ)
       let n = eqb-true (length ks) (length ls) (s .0 .0) in
       let m = eqb-true (length ls) (length ys) (s .0 .1) in
       let h = left .form in
-      by (valid-alike nodes deep (left .tree) (h .is-type) ls ys (omega (arith, left .whole)) m (rw (← h .kinds, ← h .args) (s .1)))
+      let size-is = left .whole in
+      by (valid-alike nodes deep (left .tree) (h .is-type) ls ys (omega arith) m (rw (← h .kinds, ← h .args) (s .1)))
     where
       by : (u : DataType) × (reading nodes deep ls ys ≡ type u) × (equal (left .tree) u ≡ true)
           → Answer.Yes ≡ answersOf equal (reading nodes deep ks xs) (reading nodes deep ls ys)

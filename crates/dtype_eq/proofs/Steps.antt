@@ -1,6 +1,6 @@
 -- The steps of the scans: what is left to compare after i nodes decides, or the positions that are left to try.
 -- Assumes nothing.
-use mathlib.Core.Path.{_≡_, refl, sym, ap, _∙_}
+use mathlib.Core.Path.{_≡_, refl, sym, _∙_}
 use mathlib.Core.Bool.{Bool, true, false, not, _&&_, and-true, and-false}
 use mathlib.Core.List.{List, [], _∷_}
 use Prim.Native.Nat.{ℕ, _+_, _≤_, _<_}
@@ -26,13 +26,17 @@ pub record Compared (xs ys : List ℕ) (same : Bool) (i : ℕ) : Type 0 where
 
 module _ {xs ys : List ℕ} {same : Bool} {i : ℕ} (c : Compared xs ys same i) where
   module _ (h : i < length xs) where
-    same-step : sameList xs ys ≡ (same && (eqb (getD xs i 0) (getD ys i 0) && sameList (drop (i + 1) xs) (drop (i + 1) ys)))
+    same-step : sameList xs ys
+        ≡ (same && (eqb (getD xs i 0) (getD ys i 0) && sameList (drop (i + 1) xs) (drop (i + 1) ys)))
     unfolding sameList
     same-step = c .says-all ∙ rw (add-one, drop-cons xs i 0, drop-cons ys i 0 (omega (arith, c .even)))
 
     pub same-on : getD xs i 0 ≡ getD ys i 0 → Compared xs ys same (i + 1)
-    same-on q =
-        record { even = c .even; within = omega arith; says-all = same-step ∙ rw (eq-eqb (getD xs i 0) (getD ys i 0) q) }
+    same-on q = record {
+      even = c .even;
+      within = omega arith;
+      says-all = same-step ∙ rw (eq-eqb (getD xs i 0) (getD ys i 0) q);
+    }
 
     pub same-stop : (getD xs i 0 ≡ getD ys i 0 → ⊥) → Compared xs ys false (i + 1)
     same-stop q = record {
@@ -47,19 +51,22 @@ module _ {xs ys : List ℕ} {same : Bool} {i : ℕ} (c : Compared xs ys same i) 
       sym (c .says-all ∙ rw (drop-of-length-le xs h, drop-of-length-le ys {i = i} (omega (arith, c .even)), and-true))
 
 -- a pattern with more nodes than there are
-pub starts-short : (ks xs ls ys : List ℕ) → length ks < length ls → length ls ≡ length ys → startsWith ks xs ls ys ≡ false
+pub starts-short : (ks xs ls ys : List ℕ) → length ks < length ls → length ls ≡ length ys
+    → startsWith ks xs ls ys ≡ false
 unfolding startsWith
 starts-short ks xs [] ys h f = absurd (omega arith)
 starts-short ks xs (l ∷ ls) [] h f = absurd (omega arith)
 starts-short [] xs (l ∷ ls) (b ∷ ys) h f = refl
 starts-short (k ∷ ks) [] (l ∷ ls) (b ∷ ys) h f = refl
-starts-short (k ∷ ks) (a ∷ xs) (l ∷ ls) (b ∷ ys) h f = rw (starts-short ks xs ls ys (omega arith) (omega arith), and-false)
+starts-short (k ∷ ks) (a ∷ xs) (l ∷ ls) (b ∷ ys) h f =
+    rw (starts-short ks xs ls ys (omega arith) (omega arith), and-false)
 
 pub occurs-short : (ks xs ls ys : List ℕ) → length ks < length ls → length ls ≡ length ys → occurs ks xs ls ys ≡ false
 unfolding occurs
 occurs-short [] xs ls ys h f = starts-short [] xs ls ys h f
 occurs-short (k ∷ ks) [] ls ys h f = starts-short (k ∷ ks) [] ls ys h f
-occurs-short (k ∷ ks) (a ∷ xs) ls ys h f = rw (starts-short (k ∷ ks) (a ∷ xs) ls ys h f) (occurs-short ks xs ls ys (omega arith) f)
+occurs-short (k ∷ ks) (a ∷ xs) ls ys h f =
+    rw (starts-short (k ∷ ks) (a ∷ xs) ls ys h f) (occurs-short ks xs ls ys (omega arith) f)
 
 -- only a pattern that has a node may not stand at the front
 pattern-some : (ks xs ls ys : List ℕ) → startsWith ks xs ls ys ≡ false → 0 < length ls
@@ -76,7 +83,8 @@ pub record Starting (ks xs ls ys : List ℕ) (i : ℕ) : Type 0 where
   pub leaves : startsWith ks xs ls ys ≡ startsWith (drop i ks) (drop i xs) (drop i ls) (drop i ys)
 
 module _ {ks xs ls ys : List ℕ} {i : ℕ} (s : Starting ks xs ls ys i) where
-  module _ (h : i < length ls) {r : Bool} (e : r ≡ equalNode (getD ks i 0) (getD xs i 0) (getD ls i 0) (getD ys i 0)) where
+  module _ (h : i < length ls)
+      {r : Bool} (e : r ≡ equalNode (getD ks i 0) (getD xs i 0) (getD ls i 0) (getD ys i 0)) where
     starts-step : startsWith ks xs ls ys
         ≡ (r && startsWith (drop (i + 1) ks) (drop (i + 1) xs) (drop (i + 1) ls) (drop (i + 1) ys))
     unfolding startsWith
@@ -121,7 +129,8 @@ module _ (ks xs ls ys : List ℕ) where
     unfolding alike
     same-length e = e ∙ rw (eq-eqb (length ks) (length ls) h, eq-eqb (length ls) (length ys) f)
 
-    pub same-alike : {p q : Bool} → p ≡ sameList ks ls → p ≡ true → q ≡ sameList xs ys → q ≡ true → true ≡ alike ks xs ls ys
+    pub same-alike : {p q : Bool} → p ≡ sameList ks ls → p ≡ true → q ≡ sameList xs ys → q ≡ true
+        → true ≡ alike ks xs ls ys
     same-alike p y q z =
         same-length (rw (← same-lists ks ls (sym p ∙ y), ← same-lists xs ys (sym q ∙ z)) (sym (starts-self ks xs)))
 
@@ -153,13 +162,15 @@ module _ {ks xs ls ys : List ℕ} {at : ℕ} (t : Trying ks xs ls ys at) where
         let some = pattern-some (drop at ks) (drop at xs) ls ys (here f) in
         let less : at < length ks = omega arith in
         let less′ : at < length xs = omega (arith, t .even) in
+        let first = rw (drop-cons ks at 0 less, drop-cons xs at 0 less′) at (here f) in
         record {
           even = t .even;
           pattern = t .pattern;
           within = omega arith;
-          leaves = t .leaves ∙ rw (add-one, drop-cons ks at 0 less, drop-cons xs at 0 less′) (rw (rw (drop-cons ks at 0 less, drop-cons xs at 0 less′) at (here f)));
+          leaves = t .leaves ∙ rw (add-one, drop-cons ks at 0 less, drop-cons xs at 0 less′) (rw first);
         }
 
   pub occurs-end : length ks < at + length ls → false ≡ occurs ks xs ls ys
   occurs-end h =
-      sym (t .leaves ∙ occurs-short (drop at ks) (drop at xs) ls ys (rw length-drop (omega (arith, t .within))) (t .pattern))
+      let short : length (drop at ks) < length ls = rw length-drop (omega (arith, t .within)) in
+      sym (t .leaves ∙ occurs-short (drop at ks) (drop at xs) ls ys short (t .pattern))
