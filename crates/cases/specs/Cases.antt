@@ -63,9 +63,9 @@ gives t = result 0 (some t)
 abbrev pub refused-by : ℕ → Answered
 refused-by n = result n none
 
--- a type without an argument
-abbrev pub bare : ℕ → DataType
-bare k = leaf k 0
+-- a type without an argument: one node
+abbrev pub lone : ℕ → DataType
+lone k = leaf k 0
 
 -- dyn v
 abbrev pub dyn : ℤ → DataType
@@ -97,55 +97,55 @@ corners i s fs =
     case 1 (supertype i s (dyn (pos 1)) (dyn (pos 300))) (joins (dyn (pos 1)))
     ∷ case 1 (supertype i s (dyn (pos 300)) (dyn (pos 1))) (joins (dyn (pos 300)))
     -- 2: flags off or on
-    ∷ case 2 (supertype i s (bare Kind.UnknownAny) (bare Kind.String)) (joins (bare Kind.String))
-    ∷ case 2 (supertype i s (bare Kind.String) (bare Kind.UnknownAny)) (joins (bare Kind.UnknownAny))
+    ∷ case 2 (supertype i s (lone Kind.UnknownAny) (lone Kind.String)) (joins (lone Kind.String))
+    ∷ case 2 (supertype i s (lone Kind.String) (lone Kind.UnknownAny)) (joins (lone Kind.UnknownAny))
     -- 3: primitive to string on, then off
-    ∷ case 3 (supertype i true (dyn (pos 5)) (bare Kind.UnknownStr)) (joins (bare Kind.UnknownAny))
-    ∷ case 3 (supertype i true (bare Kind.UnknownStr) (dyn (pos 5))) (joins (bare Kind.UnknownStr))
-    ∷ case 3 (supertype i false (dyn (pos 5)) (bare Kind.UnknownStr)) (joins (bare Kind.UnknownAny))
-    ∷ case 3 (supertype i false (bare Kind.UnknownStr) (dyn (pos 5))) (joins (bare Kind.UnknownAny))
+    ∷ case 3 (supertype i true (dyn (pos 5)) (lone Kind.UnknownStr)) (joins (lone Kind.UnknownAny))
+    ∷ case 3 (supertype i true (lone Kind.UnknownStr) (dyn (pos 5))) (joins (lone Kind.UnknownStr))
+    ∷ case 3 (supertype i false (dyn (pos 5)) (lone Kind.UnknownStr)) (joins (lone Kind.UnknownAny))
+    ∷ case 3 (supertype i false (lone Kind.UnknownStr) (dyn (pos 5))) (joins (lone Kind.UnknownAny))
     -- 4: the smallest-type helper answers Null below −2^63
-    ∷ case 4 (supertype i s (bare Kind.UInt64) (dyn (negℤ (pos 1)))) (joins (bare Kind.Int64))
-    ∷ case 4 (supertype i s (bare Kind.UInt64) (dyn (negℤ (pos (2 ^ 63 + 1))))) (joins (bare Kind.UInt64))
+    ∷ case 4 (supertype i s (lone Kind.UInt64) (dyn (negℤ (pos 1)))) (joins (lone Kind.Int64))
+    ∷ case 4 (supertype i s (lone Kind.UInt64) (dyn (negℤ (pos (2 ^ 63 + 1))))) (joins (lone Kind.UInt64))
     ∷ case 4 (smallest-dyn-int (negℤ (pos (2 ^ 63 + 1)))) (kind Kind.Null)
     -- 5
-    ∷ case 5 (supertype i s (bare Kind.UInt128) (bare Kind.Int8)) (joins (bare Kind.Int128))
-    ∷ case 5 (lossless (bare Kind.UInt128) (bare Kind.Int8)) no-type
+    ∷ case 5 (supertype i s (lone Kind.UInt128) (lone Kind.Int8)) (joins (lone Kind.Int128))
+    ∷ case 5 (lossless (lone Kind.UInt128) (lone Kind.Int8)) no-type
     -- 7
-    ∷ case 7 (supertype i s (bare Kind.Boolean) (bare Kind.UnknownFloat)) (joins (bare Kind.UnknownAny))
-    ∷ case 7 (supertype i s (bare Kind.Date) (dyn (pos 5))) (joins (bare Kind.UnknownAny))
+    ∷ case 7 (supertype i s (lone Kind.Boolean) (lone Kind.UnknownFloat)) (joins (lone Kind.UnknownAny))
+    ∷ case 7 (supertype i s (lone Kind.Date) (dyn (pos 5))) (joins (lone Kind.UnknownAny))
     -- 9
-    ∷ case 9 (supertype i s (bare Kind.Int64) (dyn (pos (2 ^ 63 - 1)))) (joins (bare Kind.Int64))
-    ∷ case 9 (supertype i s (bare Kind.Int64) (dyn (pos (2 ^ 63)))) (joins (bare Kind.Float64))
+    ∷ case 9 (supertype i s (lone Kind.Int64) (dyn (pos (2 ^ 63 - 1)))) (joins (lone Kind.Int64))
+    ∷ case 9 (supertype i s (lone Kind.Int64) (dyn (pos (2 ^ 63)))) (joins (lone Kind.Float64))
     -- 11: an empty Struct to any Struct; otherwise unequal lengths
     ∷ case 11 (can-cast (struct empty) (struct fs)) yes
-    ∷ case 11 (can-cast (one 1 (bare Kind.Int8)) (struct empty)) no
-    ∷ case 11 (can-cast (one 1 (bare Kind.Int8)) (two 5 (bare Kind.String) (bare Kind.Null))) no
-    ∷ case 11 (can-cast (two 1 (bare Kind.Null) (bare Kind.Int8)) (one 5 (bare Kind.Null))) no
+    ∷ case 11 (can-cast (one 1 (lone Kind.Int8)) (struct empty)) no
+    ∷ case 11 (can-cast (one 1 (lone Kind.Int8)) (two 5 (lone Kind.String) (lone Kind.Null))) no
+    ∷ case 11 (can-cast (two 1 (lone Kind.Null) (lone Kind.Int8)) (one 5 (lone Kind.Null))) no
     -- 12: left to right, the first no or no verdict; names don't count
-    ∷ case 12 (can-cast (two 1 (bare Kind.Boolean) (bare Kind.Int8)) (two 5 (bare Kind.Null) (bare Kind.String))) no
-    ∷ case 12 (can-cast (two 1 (bare Kind.Int8) (bare Kind.Boolean)) (two 5 (bare Kind.String) (bare Kind.Null)))
+    ∷ case 12 (can-cast (two 1 (lone Kind.Boolean) (lone Kind.Int8)) (two 5 (lone Kind.Null) (lone Kind.String))) no
+    ∷ case 12 (can-cast (two 1 (lone Kind.Int8) (lone Kind.Boolean)) (two 5 (lone Kind.String) (lone Kind.Null)))
     no-verdict
-    ∷ case 12 (can-cast (two 1 (bare Kind.Boolean) (bare Kind.Int8)) (two 5 (bare Kind.String) (bare Kind.Int64))) yes
+    ∷ case 12 (can-cast (two 1 (lone Kind.Boolean) (lone Kind.Int8)) (two 5 (lone Kind.String) (lone Kind.Int64))) yes
     -- 14
-    ∷ case 14 (can-cast (bare Kind.Boolean) (bare Kind.Null)) no
-    ∷ case 14 (can-cast (bare Kind.Null) (bare Kind.Boolean)) yes
+    ∷ case 14 (can-cast (lone Kind.Boolean) (lone Kind.Null)) no
+    ∷ case 14 (can-cast (lone Kind.Null) (lone Kind.Boolean)) yes
     -- 15: the limits of dyn v, then the other unknown kinds; any is kept if allowed, else the whole call is refused
-    ∷ case 15 (materialize false (dyn (pos (2 ^ 31 - 1)))) (gives (bare Kind.Int32))
-    ∷ case 15 (materialize false (dyn (pos (2 ^ 31)))) (gives (bare Kind.Int64))
-    ∷ case 15 (materialize false (dyn (pos (2 ^ 63)))) (gives (bare Kind.UInt64))
-    ∷ case 15 (materialize false (dyn (negℤ (pos (2 ^ 63 + 1))))) (gives (bare Kind.Int128))
-    ∷ case 15 (materialize false (bare Kind.UnknownFloat)) (gives (bare Kind.Float64))
-    ∷ case 15 (materialize false (bare Kind.UnknownStr)) (gives (bare Kind.String))
-    ∷ case 15 (materialize true (bare Kind.UnknownAny)) (gives (bare Kind.UnknownAny))
-    ∷ case 15 (materialize false (bare Kind.UnknownAny)) (refused-by 7)
-    ∷ case 15 (materialize true (two 1 (bare Kind.UnknownStr) (bare Kind.UnknownAny)))
-    (gives (two 1 (bare Kind.String) (bare Kind.UnknownAny)))
-    ∷ case 15 (materialize false (two 1 (bare Kind.UnknownStr) (bare Kind.UnknownAny))) (refused-by 7)
+    ∷ case 15 (materialize false (dyn (pos (2 ^ 31 - 1)))) (gives (lone Kind.Int32))
+    ∷ case 15 (materialize false (dyn (pos (2 ^ 31)))) (gives (lone Kind.Int64))
+    ∷ case 15 (materialize false (dyn (pos (2 ^ 63)))) (gives (lone Kind.UInt64))
+    ∷ case 15 (materialize false (dyn (negℤ (pos (2 ^ 63 + 1))))) (gives (lone Kind.Int128))
+    ∷ case 15 (materialize false (lone Kind.UnknownFloat)) (gives (lone Kind.Float64))
+    ∷ case 15 (materialize false (lone Kind.UnknownStr)) (gives (lone Kind.String))
+    ∷ case 15 (materialize true (lone Kind.UnknownAny)) (gives (lone Kind.UnknownAny))
+    ∷ case 15 (materialize false (lone Kind.UnknownAny)) (refused-by 7)
+    ∷ case 15 (materialize true (two 1 (lone Kind.UnknownStr) (lone Kind.UnknownAny)))
+    (gives (two 1 (lone Kind.String) (lone Kind.UnknownAny)))
+    ∷ case 15 (materialize false (two 1 (lone Kind.UnknownStr) (lone Kind.UnknownAny))) (refused-by 7)
     -- 18: number and value of every answer, then the code that is left; 12 leaves the code that was held
-    ∷ case 18 (merge-all (bare Kind.UInt64 ∷ bare Kind.Int8 ∷ bare Kind.UInt128 ∷ []))
+    ∷ case 18 (merge-all (lone Kind.UInt64 ∷ lone Kind.Int8 ∷ lone Kind.UInt128 ∷ []))
     (merged ((0, 5) ∷ (0, 11) ∷ (12, 0) ∷ []) 11)
-    ∷ case 18 (merge-all (bare Kind.UInt128 ∷ bare Kind.UInt8 ∷ [])) (merged ((0, 6) ∷ (0, 6) ∷ []) 6)
+    ∷ case 18 (merge-all (lone Kind.UInt128 ∷ lone Kind.UInt8 ∷ [])) (merged ((0, 6) ∷ (0, 6) ∷ []) 6)
     ∷ []
 
 -- the table of refusals: calls for every number, and the nearest calls that are not refused
@@ -153,8 +153,8 @@ abbrev pub causes : Bool → Bool → List Case
 causes i s =
     -- 1: no node; one List over a Struct of 255 fields, and two; lengths that differ
     refusal 1 (check [] [])
-    ∷ accepted (check-type (lists 1 (struct (fieldsOf 255 (bare Kind.Int8)))))
-    ∷ refusal 1 (check-type (lists 2 (struct (fieldsOf 255 (bare Kind.Int8)))))
+    ∷ accepted (check-type (lists 1 (struct (fieldsOf 255 (lone Kind.Int8)))))
+    ∷ refusal 1 (check-type (lists 2 (struct (fieldsOf 255 (lone Kind.Int8)))))
     ∷ refusal 1 (check (Kind.Int8 ∷ []) [])
     ∷ refusal 1 (check (Kind.Int8 ∷ []) (0 ∷ 0 ∷ []))
     -- 1: a stored length under 2; no node; one byte less than 2 + 9 × n, as many, and one more
@@ -169,42 +169,42 @@ causes i s =
     ∷ refusal 3 (check-type (leaf Kind.Int8 1))
     -- 4: a field outside a Struct, no child, a node too many, a Struct's child that is no field
     ∷ refusal 4 (check-type (leaf 31 0))
-    ∷ refusal 4 (check-type (bare Kind.List))
+    ∷ refusal 4 (check-type (lone Kind.List))
     ∷ refusal 4 (check (Kind.Int8 ∷ Kind.Int8 ∷ []) (0 ∷ 0 ∷ []))
     ∷ refusal 4 (check (Kind.Struct ∷ Kind.Int8 ∷ []) (1 ∷ 0 ∷ []))
     -- 5: 32 Lists over Int8, and 33
-    ∷ accepted (check-type (lists 32 (bare Kind.Int8)))
-    ∷ refusal 5 (check-type (lists 33 (bare Kind.Int8)))
+    ∷ accepted (check-type (lists 32 (lone Kind.Int8)))
+    ∷ refusal 5 (check-type (lists 33 (lone Kind.Int8)))
     -- 6: on either side
-    ∷ refusal 6 (get-supertype i s (list (bare Kind.Int8)) (bare Kind.Int8) 1)
-    ∷ refusal 6 (get-supertype i s (bare Kind.Int8) (struct empty) 1)
+    ∷ refusal 6 (get-supertype i s (list (lone Kind.Int8)) (lone Kind.Int8) 1)
+    ∷ refusal 6 (get-supertype i s (lone Kind.Int8) (struct empty) 1)
     -- 7
-    ∷ refusal 7 (materialize-unknown false (list (bare Kind.UnknownAny)) 2)
-    ∷ accepted (materialize-unknown true (list (bare Kind.UnknownAny)) 2)
+    ∷ refusal 7 (materialize-unknown false (list (lone Kind.UnknownAny)) 2)
+    ∷ accepted (materialize-unknown true (list (lone Kind.UnknownAny)) 2)
     -- 8: room for one node less than the result has; a None needs no room
-    ∷ refusal 8 (get-supertype i s (bare Kind.Int8) (bare Kind.Int16) 0)
-    ∷ accepted (get-supertype i s (bare Kind.Int8) (bare Kind.Int16) 1)
-    ∷ refusal 8 (materialize-unknown true (list (bare Kind.UnknownAny)) 1)
+    ∷ refusal 8 (get-supertype i s (lone Kind.Int8) (lone Kind.Int16) 0)
+    ∷ accepted (get-supertype i s (lone Kind.Int8) (lone Kind.Int16) 1)
+    ∷ refusal 8 (materialize-unknown true (list (lone Kind.UnknownAny)) 1)
     ∷ accepted (get-supertype i s (datetimeLeaf 1 0) (datetimeLeaf 2 0) 0)
     -- 9: channel 31, and channel 32
-    ∷ accepted (merge 0 31 (bare Kind.Int8))
-    ∷ refusal 9 (merge 0 32 (bare Kind.Int8))
+    ∷ accepted (merge 0 31 (lone Kind.Int8))
+    ∷ refusal 9 (merge 0 32 (lone Kind.Int8))
     -- 10: held codes at both ends of 2 to 11
-    ∷ refusal 10 (merge 1 0 (bare Kind.Int8))
-    ∷ accepted (merge 2 0 (bare Kind.Int8))
-    ∷ accepted (merge 11 0 (bare Kind.Int8))
-    ∷ refusal 10 (merge 12 0 (bare Kind.Int8))
+    ∷ refusal 10 (merge 1 0 (lone Kind.Int8))
+    ∷ accepted (merge 2 0 (lone Kind.Int8))
+    ∷ accepted (merge 11 0 (lone Kind.Int8))
+    ∷ refusal 10 (merge 12 0 (lone Kind.Int8))
     -- 11: offered codes at both ends of 2 to 11
     ∷ refusal 11 (merge 0 0 (leaf 1 0))
     ∷ accepted (merge 0 0 (leaf 2 0))
     ∷ accepted (merge 0 0 (leaf 11 0))
     ∷ refusal 11 (merge 0 0 (leaf 12 0))
     -- 12: unequal integers without an upcast, and equal ones
-    ∷ refusal 12 (merge Kind.Int8 0 (bare Kind.UInt128))
-    ∷ accepted (merge Kind.UInt128 0 (bare Kind.UInt128))
+    ∷ refusal 12 (merge Kind.Int8 0 (lone Kind.UInt128))
+    ∷ accepted (merge Kind.UInt128 0 (lone Kind.UInt128))
     -- 13: on either side
-    ∷ refusal 13 (get-supertype i s (decimalLeaf 10 2) (bare Kind.Int8) 1)
-    ∷ refusal 13 (get-supertype i s (bare Kind.UInt128) (decimalLeaf 10 2) 1)
+    ∷ refusal 13 (get-supertype i s (decimalLeaf 10 2) (lone Kind.Int8) 1)
+    ∷ refusal 13 (get-supertype i s (lone Kind.UInt128) (decimalLeaf 10 2) 1)
     ∷ []
 
 -- the order of refusals: the lowest number that applies
@@ -214,19 +214,19 @@ order i s =
     refusal 1 (check (32 ∷ []) [])
     ∷ refusal 2 (check (Kind.List ∷ 32 ∷ []) (1 ∷ 0 ∷ []))
     ∷ refusal 3 (check (31 ∷ Kind.Int8 ∷ []) (0 ∷ 1 ∷ []))
-    ∷ refusal 4 (let t = lists 33 (bare Kind.Int8) in check (kindsOf t ++ (Kind.Int8 ∷ [])) (argsOf t ++ (0 ∷ [])))
+    ∷ refusal 4 (let t = lists 33 (lone Kind.Int8) in check (kindsOf t ++ (Kind.Int8 ∷ [])) (argsOf t ++ (0 ∷ [])))
     -- the left type through 1 to 5, then the right, then the rest
-    ∷ refusal 5 (get-supertype i s (lists 33 (bare Kind.Int8)) (leaf 32 0) 1)
-    ∷ refusal 4 (get-supertype i s (bare Kind.Int8) (leaf 31 0) 1)
-    ∷ refusal 2 (get-supertype i s (list (bare Kind.Int8)) (leaf 32 0) 1)
+    ∷ refusal 5 (get-supertype i s (lists 33 (lone Kind.Int8)) (leaf 32 0) 1)
+    ∷ refusal 4 (get-supertype i s (lone Kind.Int8) (leaf 31 0) 1)
+    ∷ refusal 2 (get-supertype i s (list (lone Kind.Int8)) (leaf 32 0) 1)
     -- 6, 7 and 13 where there is no room either: a refused call has no result
-    ∷ refusal 6 (get-supertype i s (list (bare Kind.Int8)) (list (bare Kind.Int8)) 0)
-    ∷ refusal 7 (materialize-unknown false (bare Kind.UnknownAny) 0)
-    ∷ refusal 13 (get-supertype i s (decimalLeaf 10 2) (bare Kind.Int8) 0)
+    ∷ refusal 6 (get-supertype i s (list (lone Kind.Int8)) (list (lone Kind.Int8)) 0)
+    ∷ refusal 7 (materialize-unknown false (lone Kind.UnknownAny) 0)
+    ∷ refusal 13 (get-supertype i s (decimalLeaf 10 2) (lone Kind.Int8) 0)
     -- in a merge 1 to 5, then 9, then 10, then 11
     ∷ refusal 2 (merge 0 32 (leaf 32 0))
-    ∷ refusal 9 (merge 1 32 (bare Kind.Boolean))
-    ∷ refusal 10 (merge 1 0 (bare Kind.Boolean))
+    ∷ refusal 9 (merge 1 32 (lone Kind.Boolean))
+    ∷ refusal 10 (merge 1 0 (lone Kind.Boolean))
     ∷ []
 
 -- the bounds of the arguments
@@ -252,12 +252,12 @@ bounds =
     ∷ refusal 4 (check-type (leaf Kind.Struct 255))
     ∷ refusal 3 (check-type (leaf Kind.Struct 256))
     -- a name below 2^32
-    ∷ accepted (check-type (one (2 ^ 32 - 1) (bare Kind.Int8)))
-    ∷ refusal 3 (check-type (one (2 ^ 32) (bare Kind.Int8)))
+    ∷ accepted (check-type (one (2 ^ 32 - 1) (lone Kind.Int8)))
+    ∷ refusal 3 (check-type (one (2 ^ 32) (lone Kind.Int8)))
     -- any v and any width
     ∷ accepted (check-type (leaf Kind.UnknownIntPos (2 ^ 64 - 1)))
     ∷ accepted (check-type (leaf Kind.UnknownIntNeg (2 ^ 64 - 1)))
-    ∷ accepted (check-type (array (2 ^ 64 - 1) (bare Kind.Int8)))
+    ∷ accepted (check-type (array (2 ^ 64 - 1) (lone Kind.Int8)))
     -- all others have 0
     ∷ map (λ (k : ℕ). refusal 3 (check-type (leaf k 1)))
     (0 ∷ 1 ∷ 2 ∷ 3 ∷ 4 ∷ 5 ∷ 6 ∷ 7 ∷ 8 ∷ 9 ∷ 10 ∷ 11 ∷ 12 ∷ 13 ∷ 14 ∷ 16 ∷ 17 ∷ 18 ∷ 19 ∷ 22 ∷ 23 ∷ 24 ∷ 25 ∷ 28 ∷ [])
@@ -308,10 +308,10 @@ abbrev pub sheets : List Case
 sheets =
     stored (codes kinds) (numbers (0 ∷ 1 ∷ 2 ∷ 3 ∷ 4 ∷ 5 ∷ 6 ∷ 7 ∷ 8 ∷ 9 ∷ 10 ∷ 11 ∷ 12 ∷ 13 ∷ 14 ∷ 15
     ∷ 16 ∷ 17 ∷ 18 ∷ 19 ∷ 20 ∷ 21 ∷ 22 ∷ 23 ∷ 24 ∷ 25 ∷ 26 ∷ 27 ∷ 28 ∷ 29 ∷ 30 ∷ 31 ∷ []))
-    ∷ stored (root (array (2 ^ 64 - 1) (bare Kind.Int8))) (numbers (0 ∷ 29 ∷ (2 ^ 64 - 1) ∷ []))
-    ∷ stored (root (bare Kind.Array)) (numbers (4 ∷ 0 ∷ 0 ∷ []))
-    ∷ stored (encoded (list (bare Kind.Int16))) (numbers sheet)
-    ∷ stored (decoded sheet) (gives (list (bare Kind.Int16)))
+    ∷ stored (root (array (2 ^ 64 - 1) (lone Kind.Int8))) (numbers (0 ∷ 29 ∷ (2 ^ 64 - 1) ∷ []))
+    ∷ stored (root (lone Kind.Array)) (numbers (4 ∷ 0 ∷ 0 ∷ []))
+    ∷ stored (encoded (list (lone Kind.Int16))) (numbers sheet)
+    ∷ stored (decoded sheet) (gives (list (lone Kind.Int16)))
     ∷ []
 
 -- the table, for any flags and any fields
