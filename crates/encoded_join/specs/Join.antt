@@ -1,4 +1,5 @@
--- What a call comes to that joins two encoded types: Some type, None, or a refusal. Assumes nothing: these are definitions.
+-- What a call comes to that joins two encoded types: Some type, None, or a refusal. Assumes nothing: these are
+-- definitions.
 use mathlib.Core.Path.{_≡_}
 use mathlib.Core.List.{List}
 use mathlib.Core.Option.{Option, none, some}
@@ -14,18 +15,18 @@ use Rattle.flat.specs.declared.Optional.{Optional}
 abbrev pub fittingFoundBytes : ℕ → ℕ → Option Reading → Option Reading
 fittingFoundBytes w m = mapO (fittingBytes w m)
 
--- the answer: the number of bytes
-abbrev pub joinedBytes : ℕ → Option Reading → Optional
-joinedBytes w none = Optional.Nothing
-joinedBytes w (some (refused e)) = Optional.Refused e
-joinedBytes w (some (type t)) = Optional.Some (encodedSize w (size t))
+-- the answer of a call whose result may be None: the number of bytes
+abbrev pub optionalBytes : ℕ → Option Reading → Optional
+optionalBytes w none = Optional.Nothing
+optionalBytes w (some (refused e)) = Optional.Refused e
+optionalBytes w (some (type t)) = Optional.Some (encodedSize w (size t))
 
 -- the lent bytes after the call: None writes nothing
 abbrev pub bytesFound : ℕ → Option Reading → List ℕ → List ℕ
 bytesFound w none out = out
 bytesFound w (some r) out = bytesOver w r out
 
--- What such a call comes to: its answer, and the lent bytes, out before the call and out′ after it.
-pub record JoinsBytes (w : ℕ) (found : Option Reading) (out out′ : List ℕ) (answer : Optional) : Type 0 where
-  pub answers : answer ≡ joinedBytes w found
+-- What a call comes to whose result may be None: its answer, and the lent bytes, out before the call and out′ after it.
+pub record EncodesFound (w : ℕ) (found : Option Reading) (out out′ : List ℕ) (answer : Optional) : Type 0 where
+  pub answers : answer ≡ optionalBytes w found
   pub bytes : out′ ≡ bytesFound w found out

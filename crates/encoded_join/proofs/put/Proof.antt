@@ -4,7 +4,7 @@ use borrow.Author.Needs.{needs}
 use Rattle.flat.specs.Tree.{leaf, kindsOf, argsOf}
 use Rattle.encoded.proofs.Answers.{puts-type}
 use Rattle.supertype_answer.specs.Join.{resultOf}
-use Rattle.encoded_join.proofs.Joining.{found-refused, joins-bytes, found-refusal}
+use Rattle.encoded_join.proofs.Joining.{found-refused, found-encoded, found-refusal}
 use Rattle.encoded_join.proofs.put.Statement.{statement}
 use Rattle.encoded_join.proofs.put.Tie as tie
 
@@ -18,21 +18,26 @@ returns-3 : tie.Need-returns-3
 unfolding kindsOf argsOf
 returns-3 c =
     let at = c .before .before .before .before .before in
-    let found = at .before .before .before .before .before .found2 in
-    rw (found .given .1) (joins-bytes _ (puts-type (leaf (found .given .0 .0) (found .given .0 .1 .0)) refl refl (at .put .ensures)) (c .before .size .given .1))
+    let found = at .before .before .before .before .before .found2 .given in
+    rw (found .1)
+    (found-encoded _ (puts-type (leaf (found .0 .0) (found .0 .1 .0)) refl refl (at .put .ensures))
+    (c .before .size .given .1))
 
 returns-4 : tie.Need-returns-4
 unfolding kindsOf argsOf
 returns-4 c =
     let at = c .before .before .before .before .before in
-    let found = at .before .before .before .before .before .found2 in
-    rw (found .given .1) (found-refusal _ (puts-type (leaf (found .given .0 .0) (found .given .0 .1 .0)) refl refl (at .put .ensures)) (c .before .e .given .1))
+    let found = at .before .before .before .before .before .found2 .given in
+    rw (found .1)
+    (found-refusal _ (puts-type (leaf (found .0 .0) (found .0 .1 .0)) refl refl (at .put .ensures))
+    (c .before .e .given .1))
 
 pub put-spec : {M : Type 1} → statement M
 put-spec =
     tie.close
     (tie.spec
-    (λ c. search needs) (λ c. search needs) (λ c. search needs) (λ c. search needs) (λ c. search needs) (λ c κs. search needs) (λ c. search needs) (λ c. search needs)
+    (λ c. search needs) (λ c. search needs) (λ c. search needs) (λ c. search needs) (λ c. search needs)
+    (λ c κs. search needs) (λ c. search needs) (λ c. search needs)
     returns
     returns-2
     (λ c. search needs)

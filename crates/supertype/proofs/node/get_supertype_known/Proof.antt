@@ -23,4 +23,5 @@ returns-4 : tie.Need-returns-4
 returns-4 c = join-down _ _ _ (omega arith) (omega arith) (c .numeric2 .ensures)
 
 pub get-supertype-known-spec : {M : Type 1} → statement M
-get-supertype-known-spec = tie.close (tie.spec returns returns-2 numeric-requires returns-3 numeric-requires-2 returns-4)
+get-supertype-known-spec =
+    tie.close (tie.spec returns returns-2 numeric-requires returns-3 numeric-requires-2 returns-4)
