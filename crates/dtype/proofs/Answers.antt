@@ -52,6 +52,9 @@ module _ (nodes deep : ℕ) (ks xs : List ℕ) where
       → Passed nodes deep ks xs
   valid-passed e v = check-passed (sym v ∙ e)
 
+  pub valid-even : {a : Checked} → a ≡ checkedOf (reading nodes deep ks xs) → a ≡ Checked.Valid → length ks ≡ length xs
+  valid-even e v = valid-passed e v .even
+
   pub valid-some : {a : Checked} → a ≡ checkedOf (reading nodes deep ks xs) → a ≡ Checked.Valid → 0 < length ks
   valid-some e v = some-node (valid-passed e v)
 

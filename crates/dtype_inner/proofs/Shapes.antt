@@ -54,9 +54,6 @@ module _ {nodes deep : ℕ} {t : DataType} (v : IsType nodes deep t) where
 
 -- two arrays, as a check tells of them
 module _ (nodes deep : ℕ) (ks xs : List ℕ) {a : Checked} (c : a ≡ checkedOf (reading nodes deep ks xs)) where
-  pub checked-even : a ≡ Checked.Valid → length ks ≡ length xs
-  checked-even v = valid-passed nodes deep ks xs c v .even
-
   pub checked-fit : a ≡ Checked.Valid → arraysAt ks ≤ deep
   checked-fit v = let h = valid-passed nodes deep ks xs c v .form in rw (h .kinds) (arrays-fit (h .is-type))
 
