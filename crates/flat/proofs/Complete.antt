@@ -17,7 +17,7 @@ use Rattle.flat.specs.Scan.{NoDeeper, start, wrapped, opened, paid, type
 use Rattle.flat.specs.declared.scan.Scan.{Scan}
 use Rattle.flat.proofs.Positions.{children-leaf}
 use Rattle.flat.proofs.Meaning.{at-kinds, at-args}
-use Rattle.flat.proofs.States.{Opened, outermost, inside, opens, settles, settled-within, paid-within}
+use Rattle.flat.proofs.States.{UnderStruct, outermost, inside, opens, settles, settled-within, paid-within}
 use Rattle.flat.proofs.States.{start-within}
 
 -- The answer is that for what stands after the nodes, from a state that owes so many fields and has no more than
@@ -43,7 +43,7 @@ unfolding wrapped
 wrapped-higher {s = s} w = let h = settled-within w in (record { depth = omega arith; base = omega (arith, settles s) }, settles s .owed)
 
 opened-higher :
-    {top m : ℕ} {s r : Scan} → NoDeeper top s → Opened m s r → NoDeeper (top + 2) r × (r .owed ≡ m + s .owed)
+    {top m : ℕ} {s r : Scan} → NoDeeper top s → UnderStruct m s r → NoDeeper (top + 2) r × (r .owed ≡ m + s .owed)
 opened-higher w (outermost e) = let h = settled-within w in (record { depth = omega arith; base = omega arith }, omega arith)
 opened-higher {s = s} w inside = let h = settled-within w in (record { depth = omega arith; base = omega (arith, settles s) }, omega arith)
 

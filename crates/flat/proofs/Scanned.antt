@@ -21,7 +21,7 @@ use Rattle.flat.proofs.Truths.{never, both-true}
 use Rattle.flat.proofs.Positions.{children-leaf}
 use Rattle.flat.proofs.Plain.{plain-type}
 use Rattle.flat.proofs.ReadBack.{View, is-leaf, is-list, is-array, is-struct, is-other, view}
-use Rattle.flat.proofs.States.{Settled, settles, Opened, outermost, inside, opens, settled-within, wrapped-depth}
+use Rattle.flat.proofs.States.{Settled, settles, UnderStruct, outermost, inside, opens, settled-within, wrapped-depth}
 use Rattle.flat.proofs.States.{wrapped-within, opened-within, paid-within, start-within}
 use Rattle.flat.proofs.Meaning.{Passed, check-passed, form-length, lengths-fit, passes}
 
@@ -149,7 +149,7 @@ module _ (deep : ℕ) (s : Scan) where
 
   module _ {ks xs : List ℕ} (a : ℕ) (f : argumentFits Kind.Struct a ≡ true) (h : settled s .depth ≤ deep) where
     -- under a Struct: all fields are its own where it is the outermost, else the first
-    one-struct : {r : Scan} → Opened a s r → FieldsThen deep r ks xs → TypeThen deep s (Kind.Struct ∷ ks) (a ∷ xs)
+    one-struct : {r : Scan} → UnderStruct a s r → FieldsThen deep r ks xs → TypeThen deep s (Kind.Struct ∷ ks) (a ∷ xs)
     unfolding kindsOf argsOf Ruled depth count AllFit
     one-struct (outermost e) r =
         let none : r .one ≡ empty = no-field (r .one) (omega (arith, r .inner)) in

@@ -17,7 +17,7 @@ use Rattle.flat.specs.Scan.{scanFields}
 use Rattle.flat.specs.declared.scan.Scan.{Scan}
 use Rattle.flat.proofs.Truths.{both-true}
 use Rattle.flat.proofs.Positions.{children-leaf, children-list, children-array, children-struct}
-use Rattle.flat.proofs.States.{Opened, outermost, inside, opens, wrapped-owed, paid-owed, start-within}
+use Rattle.flat.proofs.States.{UnderStruct, outermost, inside, opens, wrapped-owed, paid-owed, start-within}
 use Rattle.flat.proofs.States.{wrapped-within, opened-within, paid-within, within-more}
 use Rattle.flat.proofs.Plain.{kind-told, plain-fits}
 
@@ -70,7 +70,7 @@ struct-few : (k a : ℕ) → k ≡ Kind.Struct → argumentFits k a ≡ true →
 unfolding argumentFits argumentRule
 struct-few k a e f = let h = ltb-true a 256 (rw e at f) in omega arith
 
-opened-owed : {m : ℕ} {s r : Scan} → Opened m s r → r .owed ≤ s .owed + m
+opened-owed : {m : ℕ} {s r : Scan} → UnderStruct m s r → r .owed ≤ s .owed + m
 opened-owed (outermost e) = omega arith
 opened-owed inside = omega arith
 
@@ -173,7 +173,7 @@ module _ {deep at : ℕ} {ks xs : List ℕ} {s : Scan} {p : AtType deep ks xs at
 
       pub past-struct : r .depth ≤ deep → Past p r
       past-struct d =
-          let o : Opened (getD xs at 0) s r = rw e (opens (getD xs at 0) s) in
+          let o : UnderStruct (getD xs at 0) s r = rw e (opens (getD xs at 0) s) in
           record {
             stands =
                 on (p .stands) (f .inside) (omega (arith, few-fields, opened-owed o))

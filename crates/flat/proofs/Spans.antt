@@ -80,16 +80,16 @@ module _ (levels : ℕ) (fs : Fields) where
   fields-deep h = rw (lt-leb (depths fs) levels h)
 
 -- ---- the Lists and Arrays at the front
--- All down to `at` were seen.
-pub record Seen (ks xs : List ℕ) (at : ℕ) : Type 0 where
+-- The Lists and Arrays at the front down to `at` were seen.
+pub record WrappersSeen (ks xs : List ℕ) (at : ℕ) : Type 0 where
   pub even : length ks ≡ length xs
   pub inside : at ≤ length ks
   pub counted : wrappersOf ks xs ≡ at + wrappersOf (drop at ks) (drop at xs)
 
-pub none-seen : {ks xs : List ℕ} → length ks ≡ length xs → Seen ks xs 0
+pub none-seen : {ks xs : List ℕ} → length ks ≡ length xs → WrappersSeen ks xs 0
 none-seen e = record { even = e; inside = omega arith; counted = sym (zero-add _) }
 
-module _ {ks xs : List ℕ} {at : ℕ} (s : Seen ks xs at) where
+module _ {ks xs : List ℕ} {at : ℕ} (s : WrappersSeen ks xs at) where
   pub wrappers-end : length ks ≤ at → (at ≡ wrappersOf ks xs) × (at ≤ length ks)
   unfolding wrappersOf
   wrappers-end h =
@@ -105,13 +105,13 @@ module _ {ks xs : List ℕ} {at : ℕ} (s : Seen ks xs at) where
 
     on :
         wrappersOf (drop at ks) (drop at xs) ≡ suc (wrappersOf (drop (at + 1) ks) (drop (at + 1) xs))
-        → Seen ks xs (at + 1)
+        → WrappersSeen ks xs (at + 1)
     on z = record { even = s .even; inside = omega arith; counted = omega (arith, s .counted) }
 
-    pub list-seen : getD ks at 0 ≡ Kind.List → getD xs at 0 ≡ 0 → Seen ks xs (at + 1)
+    pub list-seen : getD ks at 0 ≡ Kind.List → getD xs at 0 ≡ 0 → WrappersSeen ks xs (at + 1)
     list-seen k a = on (wrappers-step ∙ rw (children-list _ _ k a))
 
-    pub array-seen : getD ks at 0 ≡ Kind.Array → Seen ks xs (at + 1)
+    pub array-seen : getD ks at 0 ≡ Kind.Array → WrappersSeen ks xs (at + 1)
     array-seen k = on (wrappers-step ∙ rw (children-array _ (getD xs at 0) k))
 
     pub bad-list : getD ks at 0 ≡ Kind.List → (getD xs at 0 ≡ 0 → ⊥) → (at ≡ wrappersOf ks xs) × (at ≤ length ks)
@@ -131,7 +131,7 @@ module _ {ks xs : List ℕ} {at : ℕ} (s : Seen ks xs at) where
         go fields is-struct l r = refl
         go no-type is-other l r = refl
 
--- ---- what stands under them
+-- ---- what stands under the Lists and Arrays at the front
 -- Under the n Lists and Arrays at the front, where the type t stands: a leaf or a Struct.
 pub record Lowest (ks xs : List ℕ) (t : DataType) (n : ℕ) : Type 0 where
   pub inside : n < length ks
@@ -236,7 +236,7 @@ module _ {t levels : ℕ} {ks xs : List ℕ} {n : ℕ} (b : AtBottom t levels ks
     unfolding size depth
     over = (omega (arith, b .lowest .nodes, ap size (under-struct .0)), omega (arith, b .lowest .levels, ap depth (under-struct .0)))
 
--- There a Struct stands, for which there are levels, and the walk of its fields answered r.
+-- A Struct stands at the bottom, no deeper than the levels asked for, and the walk of its fields answered r.
 pub record FieldsSaid {t levels : ℕ} {ks xs : List ℕ} {n : ℕ} (b : AtBottom t levels ks xs n) (r : Span) : Type 0 where
   pub shallow : n ≤ levels
   pub struct : Kind.List ≤ getD ks n 0
@@ -270,7 +270,7 @@ fieldType ks xs at = typeAt (from (at + 1) ks) (from (at + 1) xs)
 
 -- Of the m fields at the front of arrays of t nodes all but `left` are done: they end at `at`, and are as deep as
 -- `done`, which is within the levels asked for.
-pub record Along (t levels m : ℕ) (ks xs : List ℕ) (at left : ℕ) : Type 0 where
+pub record SpansAlong (t levels m : ℕ) (ks xs : List ℕ) (at left : ℕ) : Type 0 where
   pub nodes : length ks ≡ t
   pub run : ValidRun m ks xs
   pub inside : at ≤ length ks
@@ -280,7 +280,7 @@ pub record Along (t levels m : ℕ) (ks xs : List ℕ) (at left : ℕ) : Type 0 
   pub deepest : depths (runAt m ks xs) ≡ max done (depths (fieldsFrom left ks xs at))
   pub shallow : done ≤ levels
 
-pub start : {t levels m : ℕ} {ks xs : List ℕ} → (length ks ≡ t) × ValidRun m ks xs → Along t levels m ks xs 0 m
+pub start : {t levels m : ℕ} {ks xs : List ℕ} → (length ks ≡ t) × ValidRun m ks xs → SpansAlong t levels m ks xs 0 m
 start {ks = ks} {xs} p =
     record {
       nodes = p .0;
@@ -293,7 +293,7 @@ start {ks = ks} {xs} p =
       shallow = omega arith;
     }
 
-module _ {t levels m : ℕ} {ks xs : List ℕ} {at left : ℕ} (a : Along t levels m ks xs at left) where
+module _ {t levels m : ℕ} {ks xs : List ℕ} {at left : ℕ} (a : SpansAlong t levels m ks xs at left) where
   pub fields-done : left ≡ 0 → Ends at ≡ spansWithin levels (runAt m ks xs)
   unfolding size depth
   fields-done z =
@@ -320,12 +320,12 @@ module _ {t levels m : ℕ} {ks xs : List ℕ} {at left : ℕ} (a : Along t leve
     no-level h = fields-deep levels (runAt m ks xs) (omega (arith, all-levels (size (fieldType ks xs at)) refl))
 
 -- There are levels for the next field, and the walk of its type answered r.
-pub record TypeSaid {t levels m : ℕ} {ks xs : List ℕ} {at left : ℕ} (a : Along t levels m ks xs at left) (r : Span) : Type 0 where
+pub record TypeSaid {t levels m : ℕ} {ks xs : List ℕ} {at left : ℕ} (a : SpansAlong t levels m ks xs at left) (r : Span) : Type 0 where
   pub more : left ≡ 0 → ⊥
   pub room : 2 ≤ levels
   pub says : r ≡ spanWithin (levels - 2) (fieldType ks xs at)
 
-module _ {t levels m : ℕ} {ks xs : List ℕ} {at left : ℕ} {a : Along t levels m ks xs at left} {r : Span} (f : TypeSaid a r) where
+module _ {t levels m : ℕ} {ks xs : List ℕ} {at left : ℕ} {a : SpansAlong t levels m ks xs at left} {r : Span} (f : TypeSaid a r) where
   pub field-deep : r ≡ TooDeep → TooDeep ≡ spansWithin levels (runAt m ks xs)
   field-deep e =
       let d = type-deeper (levels - 2) (fieldType ks xs at) (sym e ∙ f .says) in
@@ -333,7 +333,7 @@ module _ {t levels m : ℕ} {ks xs : List ℕ} {at left : ℕ} {a : Along t leve
       (omega (arith, f .room, all-levels a (f .more) (size (fieldType ks xs at)) refl))
 
   -- a field is done
-  pub field-done : {n : ℕ} → r ≡ Ends n → Along t levels m ks xs (at + 1 + n) (left - 1)
+  pub field-done : {n : ℕ} → r ≡ Ends n → SpansAlong t levels m ks xs (at + 1 + n) (left - 1)
   field-done {n} e =
       let u = type-ended (levels - 2) (fieldType ks xs at) n (sym e ∙ f .says) in
       record {

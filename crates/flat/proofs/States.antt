@@ -38,18 +38,18 @@ unfolding wrapped
 wrapped-depth s = settles (wrapped s) .stays (omega (arith, settles s))
 
 -- the state under a Struct of m fields: the outermost one, or one whose fields come before those owed
-pub data Opened (m : ℕ) (s : Scan) : Scan → Type 0 where
-  outermost : s .owed ≡ 0 → Opened m s (record { owed = m; outer = m; base = suc (suc (settled s .depth)); depth = suc (suc (settled s .depth)) })
-  inside : Opened m s (record { owed = s .owed + m; outer = settled s .outer; base = settled s .base; depth = suc (suc (settled s .depth)) })
+pub data UnderStruct (m : ℕ) (s : Scan) : Scan → Type 0 where
+  outermost : s .owed ≡ 0 → UnderStruct m s (record { owed = m; outer = m; base = suc (suc (settled s .depth)); depth = suc (suc (settled s .depth)) })
+  inside : UnderStruct m s (record { owed = s .owed + m; outer = settled s .outer; base = settled s .base; depth = suc (suc (settled s .depth)) })
 
-pub opens : (m : ℕ) (s : Scan) → Opened m s (opened m s)
+pub opens : (m : ℕ) (s : Scan) → UnderStruct m s (opened m s)
 unfolding opened
 opens m s = go (eqb (s .owed) 0) refl
   where
     go :
         (b : Bool)
         → eqb (s .owed) 0 ≡ b
-        → Opened m s
+        → UnderStruct m s
         (cond b (record { owed = m; outer = m; base = suc (suc (settled s .depth)); depth = suc (suc (settled s .depth)) })
         (record { owed = s .owed + m; outer = settled s .outer; base = settled s .base; depth = suc (suc (settled s .depth)) }))
     go true e = outermost (eqb-true (s .owed) 0 e)
@@ -95,7 +95,7 @@ module _ {deep : ℕ} {s : Scan} (w : NoDeeper deep s) where
   unfolding wrapped
   wrapped-within h = record { depth = h; base = omega (arith, settles s) }
 
-  pub opened-within : {m : ℕ} {r : Scan} → Opened m s r → r .depth ≤ deep → NoDeeper deep r
+  pub opened-within : {m : ℕ} {r : Scan} → UnderStruct m s r → r .depth ≤ deep → NoDeeper deep r
   opened-within (outermost e) h = record { depth = h; base = h }
   opened-within inside h = record { depth = h; base = omega (arith, settles s) }
 

@@ -15,7 +15,9 @@ returns-2 : tie.Need-returns-2
 returns-2 c = no-node _ _ _ _ (c .before .if1 .left) (c .if2 .taken)
 
 -- past the tests of the lengths
-lengths : (c : tie.Else2) → let s = c .before .before .before .before in Lengths (now (s .args .kinds)) (now (s .args .args))
+lengths :
+    (c : tie.Else2) → let s = c .before .before .before .before in
+    Lengths (now (s .args .kinds)) (now (s .args .args))
 lengths c = record { even = c .before .if1 .left; some = omega arith }
 
 returns-3 : tie.Need-returns-3

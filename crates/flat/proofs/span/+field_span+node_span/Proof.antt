@@ -11,7 +11,8 @@ use Prim.Native.Nat.{ℕ, _<_}
 use lib.ListN.{length}
 use borrow.Fn.Kinds.{In, Out}
 use borrow.Fn.PlainCycle.{Measures, is, falls, and}
-use Rattle.flat.proofs.Spans.{Along, start, fields-done, no-level, type-call, TypeSaid, field-deep, field-done}
+use Rattle.flat.proofs.Spans.{SpansAlong, start, fields-done, no-level, type-call}
+use Rattle.flat.proofs.Spans.{TypeSaid, field-deep, field-done}
 use Rattle.flat.proofs.Spans.{AtBottom, at-bottom, node-deep, node-leaf, fields-call}
 use Rattle.flat.proofs.Spans.{FieldsSaid, fields-inside, node-fields, node-deeper}
 use Rattle.flat.proofs.span.field_span.Reads as field-span
@@ -45,7 +46,7 @@ abbrev node-span-below : ℕ → In 2 node-span-kinds.ps
 node-span-below t = and 2 node-span-kinds.ps (falls 2 node-span-kinds.ps _<_ μ-node-span t) node-span.Pre
 
 abbrev Inv-loop : ℕ → field-span-lts.InvT-loop
-Inv-loop t kinds args count levels at₀ left₀ at left = Along t levels count kinds args at left
+Inv-loop t kinds args count levels at₀ left₀ at left = SpansAlong t levels count kinds args at left
 
 abbrev μ-loop : field-span-lts.MeasureT-loop
 μ-loop kinds args count levels at₀ left₀ at left = left

@@ -3,12 +3,12 @@ use Prim.Native.Nat.{_-_}
 use native.Mathlib.Omega.{arith}
 use lib.ListN.{length}
 use borrow.Author.Needs.{needs}
-use Rattle.flat.proofs.Spans.{Seen, none-seen, list-seen, array-seen, bad-list, no-wrapper, wrappers-end}
+use Rattle.flat.proofs.Spans.{WrappersSeen, none-seen, list-seen, array-seen, bad-list, no-wrapper, wrappers-end}
 use Rattle.flat.proofs.span.bottom.Statement.{statement}
 use Rattle.flat.proofs.span.bottom.Tie as tie
 
 abbrev Inv-loop : tie.InvT-loop
-Inv-loop kinds args at₀ at = Seen kinds args at
+Inv-loop kinds args at₀ at = WrappersSeen kinds args at
 
 abbrev μ-loop : tie.MeasureT-loop
 μ-loop kinds args at₀ at = length kinds - at
