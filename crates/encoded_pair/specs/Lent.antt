@@ -3,7 +3,7 @@ use mathlib.Core.Path.{_≡_}
 use mathlib.Core.List.{List}
 use Prim.Native.Nat.{ℕ, _≤_}
 use lib.ListN.{length}
-use Rattle.flat.specs.Tree.{size}
+use Rattle.flat.specs.Tree.{DataType, size}
 use Rattle.flat.specs.Reading.{Reading, reading, checkedOf}
 use Rattle.flat.specs.Both.{bothOf}
 use Rattle.flat.specs.declared.Checked.{Checked}
@@ -21,13 +21,18 @@ pub record RoomForBoth (w nodes : ℕ) (s t xs ys : List ℕ) : Type 0 where
   pub left : nodesIn w nodes s ≤ length xs
   pub right : nodesIn w nodes t ≤ length ys
 
--- the numbers of nodes of two types: the left through 1 to 5, then the right
-abbrev pub pairOf : Reading → Reading → Pair
-pairOf = bothOf Pair.Refused (λ t u. Pair.Nodes (size t) (size u))
+-- the numbers of nodes of two types
+abbrev pub nodesOf : DataType → DataType → Pair
+nodesOf t u = Pair.Nodes (size t) (size u)
 
--- What a call comes to that opens the encoded types s and t: what the rule says of the two readings, and the arrays for their arguments,
--- xs and ys before the call and xs′ and ys′ after it, as opening leaves them.
-pub record OpensBoth {A : Type 0} (w nodes deep : ℕ) (s t xs ys xs′ ys′ : List ℕ) (rule : Reading → Reading → A) (answer : A) : Type 0 where
+-- of two readings: the left through 1 to 5, then the right
+abbrev pub pairOf : Reading → Reading → Pair
+pairOf = bothOf Pair.Refused nodesOf
+
+-- What a call comes to that opens the encoded types s and t: what the rule says of the two readings, and the arrays for
+-- their arguments, xs and ys before the call and xs′ and ys′ after it, as opening leaves them.
+pub record OpensBoth {A : Type 0} (w nodes deep : ℕ) (s t xs ys xs′ ys′ : List ℕ) (rule : Reading → Reading → A)
+    (answer : A) : Type 0 where
   pub answers : answer ≡ rule (decoding w nodes deep s) (decoding w nodes deep t)
   pub left : xs′ ≡ argsOpened w nodes s xs
   pub right : ys′ ≡ argsOpened w nodes t ys

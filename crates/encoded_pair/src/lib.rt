@@ -1,4 +1,5 @@
-// The calls of dtype.rs on two encoded types. Each type is checked once, and its arguments are read to an array that is lent for them.
+// The calls of dtype.rs on two encoded types. Each type is checked once, and its arguments are read to an array that is
+// lent for them.
 ghost use mathlib.Core.Path.{_≡_};
 ghost use mathlib.Core.Bool.{_&&_};
 ghost use mathlib.Core.Option.{some};
@@ -23,27 +24,28 @@ use flat::Flat;
 use flat::Written;
 use flat::error::Error;
 
-// What is asked of two types: whether they are equal, whether the right one stands in the left one, whether the left one casts to the right one.
-pub enum Question {
+// What is asked of two types: whether they are equal, whether the left one contains the right one, whether the left one
+// casts to the right one.
+enum Question {
     Equal,
     Contains,
     Cast,
 }
 
 // The numbers of nodes of two types, or why one is refused.
-pub enum Pair {
+enum Pair {
     Nodes(usize, usize),
     Refused(Error),
 }
 
 // A yes or a no as a verdict.
-fn decided(yes: bool) -> Verdict
+fn verdict_of(yes: bool) -> Verdict
     ensures { λ r. ⌜ r ≡ verdict (some yes) ⌝ }
 {
     if yes { Verdict::Yes } else { Verdict::No }
 }
 
-// Of two flat types that were checked.
+// The answer to a question on two flat types that were checked.
 fn ask_flat(
     question: Question,
     left_kinds: &[u8],
@@ -61,13 +63,13 @@ fn ask_flat(
       ⌜ r ≡ verdict (askedOf question left right) ⌝ }
 {
     match question {
-        Question::Equal => decided(nodes::starts_with(
+        Question::Equal => verdict_of(nodes::starts_with(
             left_kinds,
             left_args,
             right_kinds,
             right_args,
         )),
-        Question::Contains => decided(nodes::occurs(
+        Question::Contains => verdict_of(nodes::occurs(
             left_kinds,
             left_args,
             right_kinds,
@@ -77,7 +79,7 @@ fn ask_flat(
     }
 }
 
-// Opens both, with room for their arguments: the left through 1 to 5, then the right.
+// Opens two encoded types, with room for their arguments: refusals 1 to 5 of the left type, then of the right.
 fn open_both(left: &[u8], right: &[u8], left_args: &mut [u64], right_args: &mut [u64]) -> Pair
     requires { do
       nodes ← ⟦Flat::MAX_NODES⟧
@@ -87,8 +89,11 @@ fn open_both(left: &[u8], right: &[u8], left_args: &mut [u64], right_args: &mut 
       nodes ← ⟦Flat::MAX_NODES⟧ .entry
       deep ← ⟦Flat::MAX_DEPTH⟧ .entry
       w ← ⟦Encoding::ARGUMENT_BYTES⟧ .entry
-      ⌜ OpensBoth w nodes deep (now (left .entry)) (now (right .entry)) (now («left_args» .entry)) (now («right_args» .entry))
-          (now («left_args» .exit)) (now («right_args» .exit)) pairOf r ⌝ }
+      let s = now (left .entry)
+      let t = now (right .entry)
+      let xs = now («left_args» .entry)
+      let ys = now («right_args» .entry)
+      ⌜ OpensBoth w nodes deep s t xs ys (now («left_args» .exit)) (now («right_args» .exit)) pairOf r ⌝ }
 {
     let l = encoded::open(left, left_args);
     let r = encoded::open(right, right_args);
@@ -101,7 +106,7 @@ fn open_both(left: &[u8], right: &[u8], left_args: &mut [u64], right_args: &mut 
     }
 }
 
-// The answer for two encoded types, with room for their arguments.
+// The answer to a question on two encoded types, with room for their arguments.
 fn ask_in(
     question: Question,
     left: &[u8],
@@ -117,8 +122,12 @@ fn ask_in(
       nodes ← ⟦Flat::MAX_NODES⟧ .entry
       deep ← ⟦Flat::MAX_DEPTH⟧ .entry
       w ← ⟦Encoding::ARGUMENT_BYTES⟧ .entry
-      ⌜ OpensBoth w nodes deep (now (left .entry)) (now (right .entry)) (now («left_args» .entry)) (now («right_args» .entry))
-          (now («left_args» .exit)) (now («right_args» .exit)) (pairVerdict question) r ⌝ }
+      let s = now (left .entry)
+      let t = now (right .entry)
+      let xs = now («left_args» .entry)
+      let ys = now («right_args» .entry)
+      let rule = pairVerdict question
+      ⌜ OpensBoth w nodes deep s t xs ys (now («left_args» .exit)) (now («right_args» .exit)) rule r ⌝ }
 {
     match open_both(left, right, left_args, right_args) {
         Pair::Refused(e) => Verdict::Refused(e),
@@ -147,13 +156,15 @@ fn both_short(left: &[u8], right: &[u8]) -> bool
     right.len() <= most
 }
 
-// Of any two runs of bytes, with arrays that have room for the arguments.
+// The answer to a question on two encoded types, with arrays of its own for their arguments.
 fn ask(question: Question, left: &[u8], right: &[u8]) -> Verdict
     ensures { λ r. do
       nodes ← ⟦Flat::MAX_NODES⟧ .entry
       deep ← ⟦Flat::MAX_DEPTH⟧ .entry
       w ← ⟦Encoding::ARGUMENT_BYTES⟧ .entry
-      ⌜ r ≡ pairVerdict question (decoding w nodes deep (now (left .entry))) (decoding w nodes deep (now (right .entry))) ⌝ }
+      let first = decoding w nodes deep (now (left .entry))
+      let second = decoding w nodes deep (now (right .entry))
+      ⌜ r ≡ pairVerdict question first second ⌝ }
 {
     if both_short(left, right) {
         let mut left_args = [0u64; Encoding::FEW];
@@ -165,7 +176,7 @@ fn ask(question: Question, left: &[u8], right: &[u8]) -> Verdict
     ask_in(question, left, right, &mut left_args, &mut right_args)
 }
 
-// A verdict where there is always one.
+// The answer to a question that is answered by yes or no.
 fn answer(v: Verdict) -> Answer
     ensures { λ r. ⌜ r ≡ answerIn v ⌝ }
 {
@@ -193,7 +204,9 @@ pub fn equal(left: &[u8], right: &[u8]) -> Answer
       nodes ← ⟦Flat::MAX_NODES⟧ .entry
       deep ← ⟦Flat::MAX_DEPTH⟧ .entry
       w ← ⟦Encoding::ARGUMENT_BYTES⟧ .entry
-      ⌜ r ≡ answersOf equal (decoding w nodes deep (now (left .entry))) (decoding w nodes deep (now (right .entry))) ⌝ }
+      let first = decoding w nodes deep (now (left .entry))
+      let second = decoding w nodes deep (now (right .entry))
+      ⌜ r ≡ answersOf equal first second ⌝ }
 {
     // equal bytes are one type, and one check tells of both
     if left.len() == right.len() {
@@ -210,8 +223,9 @@ pub fn contains_dtype_recursive(left: &[u8], right: &[u8]) -> Answer
       nodes ← ⟦Flat::MAX_NODES⟧ .entry
       deep ← ⟦Flat::MAX_DEPTH⟧ .entry
       w ← ⟦Encoding::ARGUMENT_BYTES⟧ .entry
-      let inner = decoding w nodes deep (now (right .entry))
-      ⌜ r ≡ answersOf containsDtypeRecursive (decoding w nodes deep (now (left .entry))) inner ⌝ }
+      let first = decoding w nodes deep (now (left .entry))
+      let second = decoding w nodes deep (now (right .entry))
+      ⌜ r ≡ answersOf containsDtypeRecursive first second ⌝ }
 {
     answer(ask(Question::Contains, left, right))
 }
@@ -222,7 +236,9 @@ pub fn can_cast_to(left: &[u8], right: &[u8]) -> Verdict
       nodes ← ⟦Flat::MAX_NODES⟧ .entry
       deep ← ⟦Flat::MAX_DEPTH⟧ .entry
       w ← ⟦Encoding::ARGUMENT_BYTES⟧ .entry
-      ⌜ r ≡ castOf (decoding w nodes deep (now (left .entry))) (decoding w nodes deep (now (right .entry))) ⌝ }
+      let first = decoding w nodes deep (now (left .entry))
+      let second = decoding w nodes deep (now (right .entry))
+      ⌜ r ≡ castOf first second ⌝ }
 {
     // two plain leaves that say yes
     if encoded::is_plain(left) {

@@ -7,4 +7,9 @@ returns-4 : tie.Need-returns-4
 returns-4 c = cc
 
 pub answer-spec : {M : Type 1} → statement M
-answer-spec = tie.close (tie.spec (λ c. search needs) (λ c. search needs) (λ c. search needs) (λ c. search needs) (λ c. search needs) (λ c. search needs) (λ c. search needs) returns-4)
+answer-spec =
+    tie.close
+    (tie.spec
+    (λ c. search needs) (λ c. search needs) (λ c. search needs) (λ c. search needs) (λ c. search needs)
+    (λ c. search needs) (λ c. search needs)
+    returns-4)

@@ -2,29 +2,25 @@
 use mathlib.Core.Path.{sym, _∙_}
 use borrow.Author.Needs.{needs}
 use native.Mathlib.Omega.{arith}
-use Rattle.encoded.proofs.Plain.{PlainBytes, plain-bytes}
+use Rattle.flat.proofs.Truths.{Fact, fact}
+use Rattle.encoded.proofs.Plain.{plain-bytes}
 use Rattle.encoded_pair.specs.Asked.{pairVerdict}
 use Rattle.encoded_pair.proofs.Asking.{plain-cast}
 use Rattle.encoded_pair.proofs.can_cast_to.Statement.{statement}
 use Rattle.encoded_pair.proofs.can_cast_to.Tie as tie
-use Rattle.encoded_pair.proofs.can_cast_to.⟦Encoding·ARGUMENT-BYTES⟧-asked.Lts as width
-use Rattle.encoded_pair.proofs.can_cast_to.⟦Flat·MAX-NODES⟧-asked.Lts as max-nodes
 
 -- both are plain leaves
-module _ (c : tie.Then2) where
-  abbrev start : tie.Start
-  start = c .before .before .before .before .before .before
+abbrev left-plain : tie.Then1 → Fact
+left-plain c = fact (plain-bytes (sym (c .before .is-plain .ensures) ∙ c .if1 .taken))
 
-  left-plain : PlainBytes (width.answer tt tt) (max-nodes.answer tt tt) (start .args .left .now)
-  left-plain = plain-bytes (sym (c .before .before .before .is-plain .ensures) ∙ c .before .before .if1 .taken)
-
-  right-plain : PlainBytes (width.answer tt tt) (max-nodes.answer tt tt) (start .args .right .now)
-  right-plain = plain-bytes (sym (c .before .is-plain2 .ensures) ∙ c .if2 .taken)
+abbrev right-plain : tie.Then2 → Fact
+right-plain c = fact (plain-bytes (sym (c .before .is-plain2 .ensures) ∙ c .if2 .taken))
 
 returns : tie.Need-returns
 returns c =
-    let both = c .before .before .before .before in
-    plain-cast _ (left-plain both) (right-plain both) (sym (c .before .node-yes .ensures) ∙ c .if3 .taken)
+    let at = c .before .before .before .before in
+    let yes = sym (c .before .node-yes .ensures) ∙ c .if3 .taken in
+    plain-cast _ (left-plain (at .before .before) .proof) (right-plain at .proof) yes
 
 returns-2 : tie.Need-returns-2
 unfolding pairVerdict
@@ -35,7 +31,8 @@ can-cast-to-spec =
     tie.close
     (tie.spec
     (λ c κs. search needs) (λ c κs. search needs)
-    (λ c. omega (arith, left-plain (c .before) .long)) (λ c. omega (arith, right-plain (c .before .before) .long)) (λ c κs. search needs)
+    (λ c. omega (arith, left-plain (c .before .before .before) .proof .long))
+    (λ c. omega (arith, right-plain (c .before .before) .proof .long)) (λ c κs. search needs)
     returns
     (λ c κs. search needs)
     returns-2)

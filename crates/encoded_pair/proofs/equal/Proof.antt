@@ -7,7 +7,10 @@ use Rattle.encoded_pair.proofs.equal.Statement.{statement}
 use Rattle.encoded_pair.proofs.equal.Tie as tie
 
 returns : tie.Need-returns
-returns c = same-equal _ _ _ _ _ (c .before .before .before .same-bytes .ensures) (c .before .before .if2 .taken) (c .before .check .ensures) (c .to-itself .ensures)
+returns c =
+    let same = c .before .before in
+    let checked = c .before .check .ensures in
+    same-equal _ _ _ _ _ (same .before .same-bytes .ensures) (same .if2 .taken) checked (c .to-itself .ensures)
 
 returns-2 : tie.Need-returns-2
 returns-2 c = c .answer .ensures ∙ ap answerIn (c .before .ask .ensures) ∙ answers-equal _ _
