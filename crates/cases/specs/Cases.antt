@@ -1,7 +1,7 @@
 -- Document 01's worked cases, as one table: the cases that it marks [P], calls for every number of its table of
 -- refusals, the order of refusals, the bounds of the arguments, the codes of the kinds and the stored sheet. Each row
 -- is the place in document 01, what is asked and the answer: `case n` is of the corner n, `refusal n` is a call that is
--- refused by n, and `accepted` a call that is not refused. Assumes nothing: these are definitions.
+-- refused by n, and `not-refused` a call that is not refused. Assumes nothing: these are definitions.
 use mathlib.Core.Path.{_≡_}
 use mathlib.Core.Bool.{Bool, true, false}
 use mathlib.Core.List.{List, [], _∷_, _++_, map}
@@ -36,8 +36,8 @@ case n q a = record { place = corner n; asked = q; answered = a }
 abbrev pub refusal : ℕ → FlatCall → Case
 refusal n call = record { place = refusals; asked = number-of call; answered = number n }
 
-abbrev pub accepted : FlatCall → Case
-accepted = refusal 0
+abbrev pub not-refused : FlatCall → Case
+not-refused = refusal 0
 
 abbrev pub stored : Asked → Answered → Case
 stored q a = record { place = flat-types; asked = q; answered = a }
@@ -153,7 +153,7 @@ abbrev pub causes : Bool → Bool → List Case
 causes i s =
     -- 1: no node; one List over a Struct of 255 fields, and two; lengths that differ
     refusal 1 (check [] [])
-    ∷ accepted (check-type (lists 1 (struct (fieldsOf 255 (lone Kind.Int8)))))
+    ∷ not-refused (check-type (lists 1 (struct (fieldsOf 255 (lone Kind.Int8)))))
     ∷ refusal 1 (check-type (lists 2 (struct (fieldsOf 255 (lone Kind.Int8)))))
     ∷ refusal 1 (check (Kind.Int8 ∷ []) [])
     ∷ refusal 1 (check (Kind.Int8 ∷ []) (0 ∷ 0 ∷ []))
@@ -161,7 +161,7 @@ causes i s =
     ∷ refusal 1 (check-encoded (1 ∷ []))
     ∷ refusal 1 (check-encoded (0 ∷ 0 ∷ []))
     ∷ refusal 1 (check-encoded (1 ∷ 0 ∷ Kind.Int8 ∷ replicate 7 0))
-    ∷ accepted (check-encoded (1 ∷ 0 ∷ Kind.Int8 ∷ replicate 8 0))
+    ∷ not-refused (check-encoded (1 ∷ 0 ∷ Kind.Int8 ∷ replicate 8 0))
     ∷ refusal 1 (check-encoded (1 ∷ 0 ∷ Kind.Int8 ∷ replicate 9 0))
     -- 2
     ∷ refusal 2 (check-type (leaf 32 0))
@@ -173,35 +173,35 @@ causes i s =
     ∷ refusal 4 (check (Kind.Int8 ∷ Kind.Int8 ∷ []) (0 ∷ 0 ∷ []))
     ∷ refusal 4 (check (Kind.Struct ∷ Kind.Int8 ∷ []) (1 ∷ 0 ∷ []))
     -- 5: 32 Lists over Int8, and 33
-    ∷ accepted (check-type (lists 32 (lone Kind.Int8)))
+    ∷ not-refused (check-type (lists 32 (lone Kind.Int8)))
     ∷ refusal 5 (check-type (lists 33 (lone Kind.Int8)))
     -- 6: on either side
     ∷ refusal 6 (get-supertype i s (list (lone Kind.Int8)) (lone Kind.Int8) 1)
     ∷ refusal 6 (get-supertype i s (lone Kind.Int8) (struct empty) 1)
     -- 7
     ∷ refusal 7 (materialize-unknown false (list (lone Kind.UnknownAny)) 2)
-    ∷ accepted (materialize-unknown true (list (lone Kind.UnknownAny)) 2)
+    ∷ not-refused (materialize-unknown true (list (lone Kind.UnknownAny)) 2)
     -- 8: room for one node less than the result has; a None needs no room
     ∷ refusal 8 (get-supertype i s (lone Kind.Int8) (lone Kind.Int16) 0)
-    ∷ accepted (get-supertype i s (lone Kind.Int8) (lone Kind.Int16) 1)
+    ∷ not-refused (get-supertype i s (lone Kind.Int8) (lone Kind.Int16) 1)
     ∷ refusal 8 (materialize-unknown true (list (lone Kind.UnknownAny)) 1)
-    ∷ accepted (get-supertype i s (datetimeLeaf 1 0) (datetimeLeaf 2 0) 0)
+    ∷ not-refused (get-supertype i s (datetimeLeaf 1 0) (datetimeLeaf 2 0) 0)
     -- 9: channel 31, and channel 32
-    ∷ accepted (merge 0 31 (lone Kind.Int8))
+    ∷ not-refused (merge 0 31 (lone Kind.Int8))
     ∷ refusal 9 (merge 0 32 (lone Kind.Int8))
     -- 10: held codes at both ends of 2 to 11
     ∷ refusal 10 (merge 1 0 (lone Kind.Int8))
-    ∷ accepted (merge 2 0 (lone Kind.Int8))
-    ∷ accepted (merge 11 0 (lone Kind.Int8))
+    ∷ not-refused (merge 2 0 (lone Kind.Int8))
+    ∷ not-refused (merge 11 0 (lone Kind.Int8))
     ∷ refusal 10 (merge 12 0 (lone Kind.Int8))
     -- 11: offered codes at both ends of 2 to 11
     ∷ refusal 11 (merge 0 0 (leaf 1 0))
-    ∷ accepted (merge 0 0 (leaf 2 0))
-    ∷ accepted (merge 0 0 (leaf 11 0))
+    ∷ not-refused (merge 0 0 (leaf 2 0))
+    ∷ not-refused (merge 0 0 (leaf 11 0))
     ∷ refusal 11 (merge 0 0 (leaf 12 0))
     -- 12: unequal integers without an upcast, and equal ones
     ∷ refusal 12 (merge Kind.Int8 0 (lone Kind.UInt128))
-    ∷ accepted (merge Kind.UInt128 0 (lone Kind.UInt128))
+    ∷ not-refused (merge Kind.UInt128 0 (lone Kind.UInt128))
     -- 13: on either side
     ∷ refusal 13 (get-supertype i s (decimalLeaf 10 2) (lone Kind.Int8) 1)
     ∷ refusal 13 (get-supertype i s (lone Kind.UInt128) (decimalLeaf 10 2) 1)
@@ -234,30 +234,30 @@ abbrev pub bounds : List Case
 bounds =
     -- precision 1 to 38, scale 0 to precision
     refusal 3 (check-type (decimalLeaf 0 0))
-    ∷ accepted (check-type (decimalLeaf 1 0))
-    ∷ accepted (check-type (decimalLeaf 1 1))
+    ∷ not-refused (check-type (decimalLeaf 1 0))
+    ∷ not-refused (check-type (decimalLeaf 1 1))
     ∷ refusal 3 (check-type (decimalLeaf 1 2))
-    ∷ accepted (check-type (decimalLeaf 38 38))
+    ∷ not-refused (check-type (decimalLeaf 38 38))
     ∷ refusal 3 (check-type (decimalLeaf 38 39))
     ∷ refusal 3 (check-type (decimalLeaf 39 0))
     -- units 0 to 2, zone below 2^32
-    ∷ accepted (check-type (datetimeLeaf 0 2))
+    ∷ not-refused (check-type (datetimeLeaf 0 2))
     ∷ refusal 3 (check-type (datetimeLeaf 0 3))
-    ∷ accepted (check-type (datetimeLeaf (2 ^ 32 - 1) 2))
+    ∷ not-refused (check-type (datetimeLeaf (2 ^ 32 - 1) 2))
     ∷ refusal 3 (check-type (datetimeLeaf (2 ^ 32) 0))
-    ∷ accepted (check-type (leaf Kind.Duration 2))
+    ∷ not-refused (check-type (leaf Kind.Duration 2))
     ∷ refusal 3 (check-type (leaf Kind.Duration 3))
     -- 0 to 255 fields: with 255 the argument fits, and the fields are missing
-    ∷ accepted (check-type (struct empty))
+    ∷ not-refused (check-type (struct empty))
     ∷ refusal 4 (check-type (leaf Kind.Struct 255))
     ∷ refusal 3 (check-type (leaf Kind.Struct 256))
     -- a name below 2^32
-    ∷ accepted (check-type (one (2 ^ 32 - 1) (lone Kind.Int8)))
+    ∷ not-refused (check-type (one (2 ^ 32 - 1) (lone Kind.Int8)))
     ∷ refusal 3 (check-type (one (2 ^ 32) (lone Kind.Int8)))
     -- any v and any width
-    ∷ accepted (check-type (leaf Kind.UnknownIntPos (2 ^ 64 - 1)))
-    ∷ accepted (check-type (leaf Kind.UnknownIntNeg (2 ^ 64 - 1)))
-    ∷ accepted (check-type (array (2 ^ 64 - 1) (lone Kind.Int8)))
+    ∷ not-refused (check-type (leaf Kind.UnknownIntPos (2 ^ 64 - 1)))
+    ∷ not-refused (check-type (leaf Kind.UnknownIntNeg (2 ^ 64 - 1)))
+    ∷ not-refused (check-type (array (2 ^ 64 - 1) (lone Kind.Int8)))
     -- all others have 0
     ∷ map (λ (k : ℕ). refusal 3 (check-type (leaf k 1)))
     (0 ∷ 1 ∷ 2 ∷ 3 ∷ 4 ∷ 5 ∷ 6 ∷ 7 ∷ 8 ∷ 9 ∷ 10 ∷ 11 ∷ 12 ∷ 13 ∷ 14 ∷ 16 ∷ 17 ∷ 18 ∷ 19 ∷ 22 ∷ 23 ∷ 24 ∷ 25 ∷ 28 ∷ [])
