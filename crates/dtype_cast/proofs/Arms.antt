@@ -159,7 +159,7 @@ yes-leaf (array w t) u e = not-yes (eqb (headKind u) Kind.Boolean) e
 yes-leaf (struct fs) u e = not-yes (eqb (headKind u) Kind.Boolean) e
 
 -- ---- the arms by the kinds and the arguments of two roots
--- of two kinds
+-- the arm of two types of different kinds
 pub other-arms : (t u : DataType) → (headKind t ≡ headKind u → ⊥) → castArms t u ≡ none
 unfolding headKind
 other-arms (leaf k a) u f = refl
@@ -176,7 +176,7 @@ other-arms (struct fs) (list u) f = refl
 other-arms (struct fs) (array v u) f = refl
 other-arms (struct fs) (struct gs) f = absurd (f refl)
 
--- of two Lists, or two Arrays of one width
+-- the arm of two Lists, or of two Arrays of one width
 pub one-arms : {k a l b : ℕ} {f g : DataType → DataType} → Unary k a f → Unary l b g → k ≡ l → b ≡ a
     → (t u : DataType) → castArms (f t) (g u) ≡ canCastTo t u
 one-arms is-list is-list p q t u = refl
@@ -184,7 +184,7 @@ one-arms is-list is-array p q t u = absurd (omega arith)
 one-arms is-array is-list p q t u = absurd (omega arith)
 one-arms (is-array {a}) (is-array {a = b}) p q t u = rw (eq-eqb a b (sym q))
 
--- of two Arrays of different widths
+-- the arm of two Arrays of different widths
 pub width-arms : {k a l b : ℕ} {f g : DataType → DataType} → Unary k a f → Unary l b g → k ≡ l → (b ≡ a → ⊥)
     → (t u : DataType) → castArms (f t) (g u) ≡ some false
 width-arms is-list is-list p q t u = absurd (q refl)
@@ -192,7 +192,7 @@ width-arms is-list is-array p q t u = absurd (omega arith)
 width-arms is-array is-list p q t u = absurd (omega arith)
 width-arms (is-array {a}) (is-array {a = b}) p q t u = rw (ne-eqb a b (λ e. q (sym e)))
 
--- of two Structs, the first with a field
+-- the arm of two Structs, the first with a field
 pub struct-arms : (fs gs : Fields) → (count fs ≡ 0 → ⊥)
     → castArms (struct fs) (struct gs) ≡ cond (eqb (count fs) (count gs)) (fieldsCast fs gs) (some false)
 unfolding count

@@ -50,14 +50,14 @@ one-more (some false) n m = refl
 one-more (some true) n m = same-yes (omega arith) (omega arith)
 
 -- ---- the walk's answers
--- on the types at the front of two pairs of arrays, and on m fields there
+-- the answer on the types at the front of two pairs of arrays, and on m fields there
 abbrev pub castAt : List ℕ → List ℕ → List ℕ → List ℕ → Cast
 castAt ks xs ls ys = castAnswer (typeAt ks xs) (typeAt ls ys)
 
 abbrev pub fieldsCastAt : ℕ → List ℕ → List ℕ → List ℕ → List ℕ → Cast
 fieldsCastAt m ks xs ls ys = fieldsAnswer (runAt m ks xs) (runAt m ls ys)
 
--- of the two roots
+-- what two roots decide
 abbrev early-at : List ℕ → List ℕ → List ℕ → List ℕ → Early
 early-at ks xs ls ys = earlyOf (getD ks 0 0) (getD xs 0 0) (getD ls 0 0) (getD ys 0 0)
 

@@ -80,7 +80,7 @@ module _ {ks xs ls ys : List ℕ} where
         sym (s .rest ∙ rw (drop-of-length-le ks h, drop-of-length-le ls g))
 
 -- ---- two nodes that say yes
--- what they are, but for two fields
+-- what two nodes are that say yes, but for two fields
 data Told (k a l b : ℕ) : Type 0 where
   same : k ≡ l → a ≡ b → Told k a l b
   numeric : (isPrimitiveNumeric k && isPrimitiveNumeric l) ≡ true → Told k a l b

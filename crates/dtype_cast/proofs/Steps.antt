@@ -44,7 +44,7 @@ yes-sizes none n m i j e = impossible cc
 yes-sizes (some false) n m i j e = impossible cc
 yes-sizes (some true) n m i j e = (cc, cc)
 
--- The types of the next field, and the fields from i on and from j on.
+-- The answer on the types of the next field, and on the fields from i on and from j on.
 abbrev nextCastAt : List ℕ → List ℕ → List ℕ → List ℕ → ℕ → ℕ → Cast
 nextCastAt ks xs ls ys i j = castAt (from (i + 1) ks) (from (i + 1) xs) (from (j + 1) ls) (from (j + 1) ys)
 

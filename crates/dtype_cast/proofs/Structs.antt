@@ -17,18 +17,18 @@ other-count : (fs gs : Fields) → (count fs ≡ 0 → ⊥) → (count fs ≡ co
     → canCastTo (struct fs) (struct gs) ≡ some false
 other-count fs gs z q = structs-arm fs gs ∙ struct-arms fs gs z ∙ rw (ne-eqb (count fs) (count gs) q)
 
--- as many fields, and one at least: the walk over them answers
+-- Of Structs with as many fields, and one at least, the fields decide.
 same-count : (fs gs : Fields) → (count fs ≡ 0 → ⊥) → count fs ≡ count gs
     → canCastTo (struct fs) (struct gs) ≡ fieldsCast fs gs
 same-count fs gs z q = structs-arm fs gs ∙ struct-arms fs gs z ∙ rw (eq-eqb (count fs) (count gs) q)
 
--- what is not a yes decides
+-- A verdict that is not a yes decides.
 decides : (q rest : Option Bool) → (q ≡ some true → ⊥) → andThen q rest ≡ q
 decides none rest f = refl
 decides (some false) rest f = refl
 decides (some true) rest f = absurd (f refl)
 
--- fields after fields that all cast: as many, and what the walk answers is what it answers for those
+-- Fields after fields that all cast: as many on both sides, and they decide.
 module _ (fs gs : Fields) (q : count fs ≡ count gs) where
   counts : {before before′ : Fields} → AllCast before before′ → count (append before fs) ≡ count (append before′ gs)
   unfolding append count
@@ -41,7 +41,7 @@ module _ (fs gs : Fields) (q : count fs ≡ count gs) where
   goes-on no-fields = refl
   goes-on (one-more name other e rest) = rw e (goes-on rest)
 
--- there is a field
+-- Where a field stands among others, there is one.
 some-field : (before : Fields) (name : ℕ) (t : DataType) (after : Fields)
     → count (append before (field name t after)) ≡ 0 → ⊥
 unfolding append count
