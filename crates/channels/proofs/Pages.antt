@@ -5,12 +5,12 @@ use mathlib.Core.Bool.{Bool, true, false, cond, _||_}
 use mathlib.Core.List.{List, [], _∷_}
 use Prim.Native.Nat.{ℕ}
 use native.Mathlib.Omega.{arith}
-use lib.Dec.{T, eqb}
+use lib.Dec.{eqb}
 use borrow.Author.Tests.{ne-eqb, eqb-true, eqb-false}
 use Rattle.flat.specs.declared.error.Error.the-variants.{NotInteger, NoUpcast}
-use Rattle.flat.proofs.Truths.{never, is-true, to-T}
+use Rattle.flat.proofs.Truths.{never}
 use Rattle.supertype_numbers.specs.Range.{Listed, isListed, Includes, Covers, Least, Room}
-use Rattle.supertype_numbers.proofs.Tests.{to-listed, of-listed}
+use Rattle.supertype_numbers.proofs.Tests.{listed, is-listed, not-listed}
 use Rattle.supertype_lossless.specs.Lossless.{upcastOf}
 use Rattle.supertype_lossless.specs.declared.upcast.Upcast.{Upcast}
 use Rattle.supertype_lossless.specs.declared.upcast.Upcast.the-variants.{To, Nothing}
@@ -25,17 +25,6 @@ pub data Answered (page : List ℕ) (k : ℕ) : Merged → Type 0 where
   not-integer : ¬ Listed k → Answered page k (Refused NotInteger)
   accepted : {c : ℕ} → Listed k → Least c (k ∷ page) → Answered page k (Held c)
   no-room : Listed k → ¬ Room (k ∷ page) → Answered page k (Refused NoUpcast)
-
--- ---- what the test of a listed kind says
-
-listed : {k : ℕ} → isListed k ≡ true → Listed k
-listed {k} e = to-listed k (to-T e)
-
-not-listed : {k : ℕ} → isListed k ≡ false → ¬ Listed k
-not-listed {k} e l = subst T e (of-listed k l)
-
-is-listed-true : (k : ℕ) → Listed k → isListed k ≡ true
-is-listed-true k l = is-true (isListed k) (of-listed k l)
 
 -- ---- an empty channel
 
@@ -98,7 +87,7 @@ module _ {page : List ℕ} {held : ℕ} (m : Least held page) (k : ℕ) where
   on-held : Answered page k (mergedWith held k)
   unfolding mergedWith
   on-held =
-      rw (ne-eqb held 0 (omega arith), is-listed-true held (m .is-listed))
+      rw (ne-eqb held 0 (omega arith), is-listed (m .is-listed))
       (go (isListed k) (eqb held k) (upcastOf held k) refl refl refl)
     where
       go : (a b : Bool) (u : Upcast) → isListed k ≡ a → eqb held k ≡ b → upcastOf held k ≡ u

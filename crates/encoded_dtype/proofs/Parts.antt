@@ -22,7 +22,8 @@ use Rattle.dtype_inner.specs.Shape.{shape, shapeOf, arraysAt, widthsAt}
 use Rattle.dtype_inner.proofs.Endings.{Found, Finds, finds-inner, finds-leaf, finds-array-leaf}
 use Rattle.dtype_inner.proofs.Shapes.{arrays-fit, shape-at}
 use Rattle.encoded.specs.Found.{fittingFoundBytes, EncodesFound, encodedFound}
-use Rattle.encoded_dtype.specs.Parts.{partOf, partNodes, partReading}
+use Rattle.dtype_inner.specs.Part.{partReading}
+use Rattle.encoded_dtype.specs.Parts.{partOf, partNodes}
 use Rattle.encoded_dtype.specs.declared.Part.{Part}
 use Rattle.encoded.proofs.Finding.{nothing-found, encodes-found}
 

@@ -3,8 +3,6 @@ use mathlib.Core.List.{List}
 use mathlib.Core.Option.{Option, some}
 use Prim.Native.Nat.{ℕ}
 use Rattle.flat.specs.Tree.{DataType}
-use Rattle.flat.specs.Reader.{mapO}
-use Rattle.flat.specs.Reading.{Reading, refused, type}
 use Rattle.dtype_inner.specs.Inner.{innerDtype, leafDtype, arrayLeafDtype}
 use Rattle.dtype_inner.specs.Nodes.{innerNodes, leafNodes, arrayLeafNodes}
 use Rattle.encoded_dtype.specs.declared.Part.{Part}
@@ -20,8 +18,3 @@ unfoldable pub partNodes : Part → List ℕ → ℕ
 partNodes Part.Inner = innerNodes
 partNodes Part.Leaf = leafNodes
 partNodes Part.ArrayLeaf = arrayLeafNodes
-
--- what is to be encoded: the part, or the refusal; nothing where the type has no such part
-abbrev pub partReading : (DataType → Option DataType) → Reading → Option Reading
-partReading part (refused e) = some (refused e)
-partReading part (type t) = mapO type (part t)

@@ -1,12 +1,11 @@
 -- The report says what is so, and nothing else is: of any two kinds exactly one report is true. Assumes nothing.
-use mathlib.Core.Path.{_≡_, refl, sym, subst, _∙_}
+use mathlib.Core.Path.{_≡_, refl, sym, _∙_}
 use mathlib.Core.Bool.{Bool, true, false, cond, _&&_, _||_}
 use Prim.Native.Nat.{ℕ}
 use native.Mathlib.Omega.{arith}
-use lib.Dec.{T}
-use Rattle.flat.proofs.Truths.{never, to-T}
+use Rattle.flat.proofs.Truths.{never}
 use Rattle.supertype_numbers.specs.Range.{Listed, isListed}
-use Rattle.supertype_numbers.proofs.Tests.{to-listed, of-listed}
+use Rattle.supertype_numbers.proofs.Tests.{listed, not-listed}
 use Rattle.supertype_lossless.specs.Lossless.{upcastOf}
 use Rattle.supertype_report.specs.Laws.{uint128WithSigned, uint64WithSigned}
 use Rattle.supertype_report.specs.Report.{Says, byUpcast, reportOf, ReportLaws}
@@ -65,9 +64,9 @@ means a b = go (isListed a) (isListed b) refl refl
         → Says a b
         (cond (x && y) (cond (uint64WithSigned a b || uint128WithSigned a b) (byUpcast (upcastOf a b)) Report.Kept)
         Report.NotIntegers)
-    go true true e f = of-integers (to-listed a (to-T e), to-listed b (to-T f))
-    go true false e f = λ h. subst T f (of-listed b (h .1))
-    go false y e f = λ h. subst T e (of-listed a (h .0))
+    go true true e f = of-integers (listed e, listed f)
+    go true false e f = λ h. not-listed f (h .1)
+    go false y e f = λ h. not-listed e (h .0)
 
 pub report-laws : ReportLaws
 report-laws = record { means = means; only = λ a b r h. one a b r (reportOf a b) h (means a b) }

@@ -1,17 +1,19 @@
 -- `encoded_dtype::ask_nodes` meets its contract. Assumes nothing.
 use borrow.Author.Needs.{needs}
 use native.Mathlib.Omega.{arith}
-use mathlib.Core.Path.{sym, ap, _∙_}
+use mathlib.Core.Path.{refl, sym, ap, _∙_}
 use Rattle.flat.proofs.Meaning.{checked-refused}
 use Rattle.dtype.specs.Answer.{answerOf}
 use Rattle.encoded.specs.Encoding.{decoding}
-use Rattle.encoded.proofs.Answers.{counted-form}
+use Rattle.encoded.proofs.Answers.{encoded-form, counted-form}
 use Rattle.encoded_dtype.proofs.Asking.{FormView, form-view, some-kind, asked}
 use Rattle.encoded_dtype.proofs.ask_nodes.Statement.{statement}
 use Rattle.encoded_dtype.proofs.ask_nodes.Tie as tie
 
 abbrev view : tie.After-node-count → FormView
-view c = form-view (counted-form (c .before .enum-told .given .1) (c .before .before .before .check .ensures) (c .node-count .ensures))
+view c = 
+    let f = encoded-form (c .before .enum-told .given .1) (c .before .before .before .check .ensures) refl in
+    form-view (counted-form f (c .node-count .ensures))
 
 returns : tie.Need-returns
 returns c =
