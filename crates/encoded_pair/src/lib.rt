@@ -141,7 +141,8 @@ fn ask_in(
     }
 }
 
-// Whether both are so short that small arrays have room for their arguments.
+// Whether both are so short that small arrays have room for their arguments. Their lengths alone tell it: so short a
+// test is compiled into `ask`, and `ask` into its callers.
 fn both_short(left: &[u8], right: &[u8]) -> bool
     ensures { λ r. do
       w ← ⟦Encoding::ARGUMENT_BYTES⟧ .entry
