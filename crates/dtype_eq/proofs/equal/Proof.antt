@@ -6,6 +6,9 @@ use Rattle.dtype_eq.proofs.Answers.{left-answer, right-answer, alike-va
 use Rattle.dtype_eq.proofs.equal.Statement.{statement}
 use Rattle.dtype_eq.proofs.equal.Tie as tie
 
+returns : tie.Need-returns
+returns c = search (plain-equal, needs)
+
 pub equal-spec : {M : Type 1} → statement M
 equal-spec =
     tie.close
@@ -16,7 +19,7 @@ equal-spec =
     (λ c. search plain-some)
     (λ c κs. search needs)
     (λ c κs. search needs)
-    (λ c. search (plain-equal, needs))
+    returns
     (λ c κs. search needs)
     (λ c. search needs)
     (λ c. search needs)

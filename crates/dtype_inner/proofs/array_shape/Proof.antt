@@ -13,6 +13,9 @@ Inv-loop kinds args count widths₀ i₀ widths i = Storing count args widths₀
 abbrev μ-loop : tie.MeasureT-loop
 μ-loop kinds args count widths₀ i₀ widths i = count - i
 
+loop-again : tie.Need-loop-again Inv-loop μ-loop
+loop-again c = store-next (c .before .before .loop .inv) (search) (omega arith) (omega arith)
+
 pub array-shape-spec : {M : Type 1} → statement M
 array-shape-spec =
     tie.close
@@ -27,5 +30,5 @@ array-shape-spec =
     (λ c. search needs)
     (λ c. search needs)
     (λ c. search needs)
-    (λ c. store-next (c .before .before .loop .inv) (search) (omega arith) (omega arith))
+    loop-again
     (λ c. stored _ _ (c .before .loop .inv) (search) (search) (omega arith)))

@@ -5,6 +5,9 @@ use mathlib.Core.Bool.{not}
 use Rattle.dtype.proofs.predicate.told_by.Statement.{statement}
 use Rattle.dtype.proofs.predicate.told_by.Tie as tie
 
+returns-2 : tie.Need-returns-2
+returns-2 c = rw (c .before .enum-told2 .given .1) (ap not (c .contains-unknown .ensures))
+
 pub told-by-spec : {M : Type 1} → statement M
 told-by-spec =
     tie.close
@@ -17,7 +20,7 @@ told-by-spec =
     (λ c. search needs) (λ c κs. search needs) (λ c. search needs) (λ c κs. search needs) (λ c. search needs)
     (λ c κs. search needs) (λ c. search needs) (λ c κs. search needs)
     (λ c. rw (c .before .enum-told .given .1) (c .is-nested .ensures))
-    (λ c. rw (c .before .enum-told2 .given .1) (ap not (c .contains-unknown .ensures)))
+    returns-2
     (λ c. rw (c .before .enum-told3 .given .1) (c .is-logical .ensures))
     (λ c. rw (c .before .enum-told4 .given .1) (c .is-primitive .ensures))
     (λ c. rw (c .before .enum-told5 .given .1) (c .is-primitive-numeric .ensures))

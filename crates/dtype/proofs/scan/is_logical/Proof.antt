@@ -4,6 +4,9 @@ use Rattle.dtype.proofs.Scans.{logical-first, logical-second}
 use Rattle.dtype.proofs.scan.is_logical.Statement.{statement}
 use Rattle.dtype.proofs.scan.is_logical.Tie as tie
 
+returns-2 : tie.Need-returns-2
+returns-2 c = search logical-second
+
 pub is-logical-spec : {M : Type 1} → statement M
 is-logical-spec =
     tie.close
@@ -11,4 +14,4 @@ is-logical-spec =
     (λ c κs. search needs)
     (λ c. search logical-first)
     (λ c κs. search needs)
-    (λ c. search logical-second))
+    returns-2)

@@ -16,6 +16,11 @@ Inv-loop xs ys same₀ i₀ same i = Compared xs ys same i
 abbrev μ-loop : tie.MeasureT-loop
 μ-loop xs ys same₀ i₀ same i = length xs - i
 
+loop-again : tie.Need-loop-again Inv-loop μ-loop
+loop-again c =
+    let stop = same-stop (c .before .before .before .before .loop .inv) (omega arith) in
+    ⊎-elim (λ w. let h = w .0 .taken in rw (w .1) (stop (omega arith))) (λ w. rw (w .1) (search same-on)) (c .if1 .came)
+
 pub same-bytes-spec : {M : Type 1} → statement M
 same-bytes-spec =
     tie.close
@@ -24,5 +29,5 @@ same-bytes-spec =
     μ-loop
     (λ c. record { even = c .pre; within = omega arith; says-all = refl })
     (λ c. search needs) (λ c. search needs) (λ c. search needs) (λ c. search needs)
-    (λ c. ⊎-elim (λ w. rw (w .1) (search same-stop)) (λ w. rw (w .1) (search same-on)) (c .if1 .came))
+    loop-again
     (λ c. search same-end))
