@@ -111,8 +111,8 @@ answered page held k = go (numbered page) refl
 
 -- where a channel stands once a listed type has joined its page
 pub stands-joined : (k c : ℕ) (page : List ℕ) → Listed k → Least c (k ∷ page) → Stands (k ∷ page) c
-stands-joined k c page l m = rw (is-listed-true k l) m
+stands-joined k c page l m = rw (is-listed l) m
 
 -- a page that a listed type has joined stands at the least
 pub least-on : (c k : ℕ) (ks : List ℕ) → Listed k → Stands (k ∷ ks) c → Least c (k ∷ ks)
-least-on c k ks l s = rw (is-listed-true k l) at s
+least-on c k ks l s = rw (is-listed l) at s
