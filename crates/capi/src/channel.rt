@@ -29,10 +29,9 @@ pub extern "C" fn lz_channel_merge(
       nodes ← ⟦Flat::MAX_NODES⟧ .entry
       deep ← ⟦Flat::MAX_DEPTH⟧ .entry
       w ← ⟦Encoding::ARGUMENT_BYTES⟧ .entry
-      let types = record { codes = now (codes .entry) }
       let given = decoding w nodes deep (now (column .entry))
-      let after = record { codes = now (codes .exit) }
-      ⌜ record { reply = r; types = after } ≡ outcomeReply (outcomeOf channels types channel given) ⌝ }
+      let outcome = outcomeOf channels (record { codes = now (codes .entry) }) channel given
+      ⌜ record { reply = r; types = record { codes = now (codes .exit) } } ≡ outcomeReply outcome ⌝ }
 {
     merged_reply(encoded_join::merge(codes, channel, column))
 }

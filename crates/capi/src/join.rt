@@ -6,7 +6,7 @@ ghost use lib.ListN.{length};
 ghost use Rattle.flat.specs.Reading.{reading};
 ghost use Rattle.flat.specs.Output.{fittingFound, WritesFound};
 ghost use Rattle.encoded.specs.Encoding.{decoding};
-ghost use Rattle.encoded.specs.Answer.{fittingFoundBytes, EncodesFound};
+ghost use Rattle.encoded.specs.Found.{fittingFoundBytes, EncodesFound};
 ghost use Rattle.supertype_answer.specs.Join.{joining};
 ghost use Rattle.supertype_lossless.specs.Lossless.{losslessOf};
 ghost use Rattle.supertype.specs.Pair.{supertypeOf};

@@ -3,7 +3,7 @@ ghost use mathlib.Core.Path.{_≡_};
 ghost use mathlib.Core.Option.{some};
 ghost use lib.ListN.{length};
 ghost use Rattle.encoded.specs.Encoding.{decoding};
-ghost use Rattle.encoded.specs.Answer.{fittingFoundBytes, EncodesFound};
+ghost use Rattle.encoded.specs.Found.{fittingFoundBytes, EncodesFound};
 ghost use Rattle.dtype_inner.specs.Inner.{innerDtype, leafDtype, arrayLeafDtype};
 ghost use Rattle.dtype_inner.specs.Part.{partReading};
 ghost use Rattle.dtype_inner.specs.Shape.{shapeOf};
@@ -26,7 +26,7 @@ pub extern "C" fn lz_inner_dtype(encoded: &[u8], out: &mut [u8]) -> Reply
       let part = partReading innerDtype (decoding w nodes deep (now (encoded .entry)))
       ⌜ Replies (EncodesFound w (fittingFoundBytes w (length held) part) held (now (out .exit))) optionalReply r ⌝ }
 {
-    optional_reply(encoded_dtype::part(Part::Inner, encoded, out))
+    optional_reply(encoded_dtype::part_of(Part::Inner, encoded, out))
 }
 
 // The type under all Lists and Arrays, encoded to the front of out. Gives the number of bytes.
@@ -40,7 +40,7 @@ pub extern "C" fn lz_leaf_dtype(encoded: &[u8], out: &mut [u8]) -> Reply
       let part = partReading (λ t. some (leafDtype t)) (decoding w nodes deep (now (encoded .entry)))
       ⌜ Replies (EncodesFound w (fittingFoundBytes w (length held) part) held (now (out .exit))) optionalReply r ⌝ }
 {
-    optional_reply(encoded_dtype::part(Part::Leaf, encoded, out))
+    optional_reply(encoded_dtype::part_of(Part::Leaf, encoded, out))
 }
 
 // The type under an Array's consecutive Arrays, encoded to the front of out. Gives the number of bytes, 0 for None.
@@ -54,7 +54,7 @@ pub extern "C" fn lz_array_leaf_dtype(encoded: &[u8], out: &mut [u8]) -> Reply
       let part = partReading arrayLeafDtype (decoding w nodes deep (now (encoded .entry)))
       ⌜ Replies (EncodesFound w (fittingFoundBytes w (length held) part) held (now (out .exit))) optionalReply r ⌝ }
 {
-    optional_reply(encoded_dtype::part(Part::ArrayLeaf, encoded, out))
+    optional_reply(encoded_dtype::part_of(Part::ArrayLeaf, encoded, out))
 }
 
 // The widths down an Array's consecutive Arrays.

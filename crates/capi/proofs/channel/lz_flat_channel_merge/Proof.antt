@@ -192,4 +192,4 @@ lz-flat-channel-merge-spec 𝓤 H 𝓜 𝓖 𝓡 =
     (tables 𝓤 H 𝓜 𝓡 code.env .C) (tables 𝓤 H 𝓜 𝓡 code.env .Λ) #lz-flat-channel-merge code.function (code.unfolded 𝓤 H 𝓜 𝓡)
     (lent-meets 𝓤 H (𝓖 .A) (givenOf 𝓤 H 𝓜 𝓖) (𝓜 .mem) (𝓡 .run) (tablesOf 𝓤 H 𝓜 (tables 𝓤 H 𝓜 𝓡 code.env))
     (cited 𝓤 H (Place 𝓤 H (𝓖 .A) (𝓜 .mem) (𝓡 .run)) 𝓜 𝓡 code.env #merge-in-place place-def.routine code.calls-channels·merge-in-place (place-thm.met 𝓤 H 𝓜 𝓖 𝓡))
-    (cited 𝓤 H (Replying 𝓤 H (𝓖 .A) (𝓜 .mem) (𝓡 .run)) 𝓜 𝓡 code.env #merged-reply replying-def.routine code.calls-capi·channel·merged-reply (replying-thm.met 𝓤 H 𝓜 𝓖 𝓡)))
+    (cited 𝓤 H (Replying 𝓤 H (𝓖 .A) (𝓜 .mem) (𝓡 .run)) 𝓜 𝓡 code.env #merged-reply replying-def.routine code.calls-capi·reply·merged-reply (replying-thm.met 𝓤 H 𝓜 𝓖 𝓡)))
