@@ -4,5 +4,5 @@ pub mod Arms
 mod Contracts
 mod Pages
 mod Models
-pub mod Rule
+mod Rule
 mod Worked

@@ -84,7 +84,7 @@ pair {s} {l} {r} w a b t =
 -- a type without an argument
 bare : (n : Node) → fits n ≡ true → n .kind ≤ Kind.Float64 → node (n .kind) 0 ≡ n
 bare n f h =
-    let t = in-run plain 0 15 (unfold plain among in tt) (n .kind) (omega arith) (omega arith) in
+    let t = in-run plain Kind.Null 15 (unfold plain among in tt) (n .kind) (omega arith) (omega arith) in
     same-node n (plain-zero n f (is-true (plain (n .kind)) t))
 
 -- what the definition gives for two types in order
@@ -174,7 +174,7 @@ module _ {s : Bool} {l r : Node} where
   number {k} w h =
       let b = number-kinds w in
       by-plan (Some (node k 0)) w
-      (rw (sym (of-run isUnknownInt false 0 26 (unfold says in tt) (l .kind) (omega arith)))
+      (rw (sym (of-run isUnknownInt false Kind.Null 26 (unfold says in tt) (l .kind) (omega arith)))
       (h ∙ ap (λ (n : Node). dynNumber knownSupertype n (value r)) (bare l (w .fits-left) (omega arith))))
 
   pub boolean : {k : ℕ} → Planned s l r plan.DynBoolean → k ≡ materializeDynInt (value r)

@@ -33,7 +33,11 @@ module _ (k l : ℕ) where
   pub decimal-left : k ≡ Kind.Decimal → isListed l ≡ decimalWithInteger k l
   unfolding decimalWithInteger
   decimal-left e =
-      rw (e, sym (of-run isListed false 12 244 (unfold says isListed in tt) Kind.Decimal (omega arith)), or-false)
+      rw (
+        e,
+        sym (of-run isListed false Kind.Float16 244 (unfold says isListed in tt) Kind.Decimal (omega arith)),
+        or-false,
+      )
 
   pub decimal-right : (k ≡ Kind.Decimal → ⊥) → l ≡ Kind.Decimal → isListed k ≡ decimalWithInteger k l
   unfolding decimalWithInteger

@@ -1,5 +1,5 @@
 // `get_supertype_with_options` of supertype.rs, on flat types.
-pub mod node;
+mod node;
 
 ghost use mathlib.Core.Path.{_≡_};
 ghost use mathlib.Core.Bool.{false};
@@ -35,7 +35,7 @@ fn decimal_with_integer(left: u8, right: u8) -> bool
 }
 
 // Whether two kinds may be joined: refusal 6, then 13.
-pub fn check_pair(left: u8, right: u8) -> Checked
+fn check_pair(left: u8, right: u8) -> Checked
     ensures { λ r. ⌜ r ≡ pairChecked left right ⌝ }
 {
     if is_nested(left) {

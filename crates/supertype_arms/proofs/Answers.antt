@@ -1,7 +1,7 @@
 -- From plans of kinds to answers for types: what the definition gives in its two tries is what the plan of the kinds in
 -- order gives. Assumes nothing.
 use mathlib.Core.Path.{_≡_, refl, sym, _∙_, ap, subst}
-use mathlib.Core.Bool.{Bool, true, false, not, _&&_, _||_, and-comm}
+use mathlib.Core.Bool.{Bool, true, false, not, _&&_, _||_, and-comm, and-false}
 use mathlib.Core.List.{[], _∷_}
 use Prim.Native.Nat.{ℕ, _≤_, _<_}
 use native.Mathlib.Nat.{max-comm}
@@ -202,6 +202,15 @@ settled call s l r h e =
 unfoldable pub lopsided : ℕ → ℕ → Bool
 lopsided a b =
     (is UnknownAny a && is String b) || (among (UnknownFloat ∷ UnknownIntPos ∷ UnknownIntNeg ∷ []) a && is UnknownStr b)
+
+-- pairs that don't depend on their order
+pub level-any : (a b : ℕ) → a ≡ UnknownAny → (b ≡ String → ⊥) → lopsided a b ≡ false
+unfolding lopsided among
+level-any a b e n = rw (e, ne-eqb b String n)
+
+pub level : (a b : ℕ) → (a ≡ UnknownAny → ⊥) → (b ≡ UnknownStr → ⊥) → lopsided a b ≡ false
+unfolding lopsided
+level a b m n = rw (ne-eqb a UnknownAny m, ne-eqb b UnknownStr n, and-false)
 
 -- the test t holds, and the plans p and q are these
 abbrev these : Bool → Plan → Plan → Plan → Plan → Bool

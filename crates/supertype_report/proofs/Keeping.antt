@@ -101,7 +101,7 @@ module _ {a b : ℕ} (l : Listed a × Listed b) (lost : Kept a b → ⊥) where
   -- of one type with itself nothing is lost
   differ : a ≡ b → ⊥
   differ e =
-      lost (keeps (record { integers = l; is = of-equal l e }) (λ z h. h)
+      lost (keeps (record { integers = l; is = of-equal e }) (λ z h. h)
       (λ z h. subst (λ (k : ℕ). Holds k z) (sym e) h))
 
   pub lossy : Says a b (byUpcast (upcastOf a b))

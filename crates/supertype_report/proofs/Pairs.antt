@@ -1,28 +1,29 @@
 -- The supertype of two integer types, by tests that antt computes over all pairs of the ten. Assumes nothing.
-use mathlib.Core.Path.{_≡_, refl, ap, subst, _∙_}
-use mathlib.Core.Bool.{Bool, true, false, cond, not, _&&_, _||_}
+use mathlib.Core.Path.{_≡_, refl, sym, ap, subst}
+use mathlib.Core.Bool.{Bool, true, false, cond, not, _&&_}
 use mathlib.Core.Logic.{_↔_}
-use Prim.Native.Nat.{ℕ, _<_}
+use Prim.Native.Nat.{ℕ, _≤_, _<_}
 use native.Mathlib.Omega.{arith}
-use borrow.Author.Tests.{lt-leb, not-true}
-use lib.Dec.{T, leb, eqb, eqb→eq}
+use borrow.Author.Tests.{not-true}
+use lib.Dec.{T, eqb, eqb→eq}
 use Rattle.flat.specs.Kind.{Int128, Float64}
-use Rattle.flat.proofs.Rules.{and-left, and-right, and-both, or-right}
+use Rattle.flat.proofs.Rules.{and-left, and-right, and-both}
 use Rattle.flat.proofs.Truths.{is-true}
 use Rattle.dtype.specs.Equality.{equalNode}
 use Rattle.dtype.proofs.Runs.{same, are-same}
 use Rattle.supertype_answer.specs.Join.{Node, Supertype, Some, Nothing, node}
 use Rattle.supertype_numbers.specs.Range.{Listed, isListed, Includes}
-use Rattle.supertype_numbers.proofs.Tests.{to-listed, at, pairs, at-pair}
+use Rattle.supertype_numbers.proofs.Tests.{to-listed, pairs, at-pair}
 use Rattle.supertype_numbers.proofs.Ranges.{inside, includes}
 use Rattle.supertype_lossless.specs.Lossless.{upcastOf}
 use Rattle.supertype_lossless.specs.declared.upcast.Upcast.{Upcast}
 use Rattle.supertype_lossless.specs.declared.upcast.Upcast.the-variants.{To, Nothing as NoUpcast}
 use Rattle.supertype_lossless.proofs.Upcasts.{right as upcasts}
 use Rattle.supertype_arms.specs.declared.plan.Plan.the-variants.{Kind}
-use Rattle.supertype_arms.specs.Rule.{ruleOf, skip, Apart, Settles}
+use Rattle.supertype_arms.specs.Rule.{Settles}
 use Rattle.supertype_arms.specs.Supertype.{run, inner, supertypeWith, knownSupertype, supertype}
-use Rattle.supertype_arms.proofs.Areas.{alike, alike-eq, right-at}
+use Rattle.supertype_arms.proofs.Areas.{right-at}
+use Rattle.supertype_arms.proofs.Bare.{of-one, up, down}
 use Rattle.supertype_report.specs.Laws.{uint128WithSigned, uint64WithSigned}
 
 abbrev kindOf : Upcast → ℕ
@@ -143,54 +144,17 @@ module _ (a b : ℕ) (p : Listed a) (q : Listed b) where
 
 -- ---- it is the code's
 
--- the kind of the supertype of two kinds in order is the plan's, and it is one in either order
-unfoldable ordered-at : ℕ → ℕ → Bool
-unfolding joined skip
-ordered-at a b =
-    leb b a || (not (skip a b) && (alike (Kind (joined a b)) (ruleOf false a b) && eqb (joined b a) (joined a b)))
-
-ordered-hold : T (pairs ordered-at)
-unfolding ordered-at
-ordered-hold = tt
-
-module _ (a b : ℕ) (p : Listed a) (q : Listed b) (h : a < b) where
-  ordered : T (not (skip a b) && (alike (Kind (joined a b)) (ruleOf false a b) && eqb (joined b a) (joined a b)))
-  unfolding ordered-at
-  ordered = or-right _ (lt-leb b a h) (at-pair ordered-at ordered-hold a b p q)
-
-  pub apart : Apart a b
-  apart =
-      record {
-        in-order = omega arith;
-        in-range = omega arith;
-        two = not-true _
-            (is-true _ (and-left (not (skip a b)) _ ordered));
-      }
-
-  either-way : joined b a ≡ joined a b
-  either-way =
-      eqb→eq (joined b a) (joined a b)
-      (and-right (alike (Kind (joined a b)) (ruleOf false a b)) _ (and-right (not (skip a b)) _ ordered))
-
-  planned : {r : ℕ} → Settles a b (Kind r) → joined a b ≡ r
-  planned f =
-      let e = alike-eq (Kind (joined a b)) (ruleOf false a b)
-      (and-left (alike (Kind (joined a b)) (ruleOf false a b)) _ (and-right (not (skip a b)) _ ordered)) in
-      let g = f false in
-      cc
-
-module _ {a b : ℕ} (l : Listed a × Listed b) where
-  of-kind : {t : ℕ} → joined a b ≡ t → supertype false false (node a 0) (node b 0) ≡ Some (node t 0)
-  of-kind e = is-joined a b (l .0) (l .1) false false ∙ ap (λ (k : ℕ). Some (node k 0)) e
-
+module _ {a b : ℕ} where
   pub of-equal : a ≡ b → supertype false false (node a 0) (node b 0) ≡ Some (node a 0)
-  unfolding joined
-  of-equal e =
-      of-kind (subst (λ (k : ℕ). joined a k ≡ a) e (eqb→eq (joined a a) a (at (λ k. eqb (joined k k) k) tt a (l .0))))
+  unfolding supertype
+  of-equal e = sym (of-one knownSupertype false e)
 
-  pub in-order : {r : ℕ} → a < b → Settles a b (Kind r) → supertype false false (node a 0) (node b 0) ≡ Some (node r 0)
-  in-order h f = of-kind (planned a b (l .0) (l .1) h f)
-
-  pub out-of-order : {r : ℕ} → b < a → Settles b a (Kind r)
+  pub in-order : {r : ℕ} → a < b → b ≤ Float64 → Settles a b (Kind r)
       → supertype false false (node a 0) (node b 0) ≡ Some (node r 0)
-  out-of-order h f = of-kind (either-way b a (l .1) (l .0) h ∙ planned b a (l .1) (l .0) h f)
+  unfolding supertype run
+  in-order h n f = sym (up knownSupertype false h n (f false))
+
+  pub out-of-order : {r : ℕ} → b < a → a ≤ Float64 → Settles b a (Kind r)
+      → supertype false false (node a 0) (node b 0) ≡ Some (node r 0)
+  unfolding supertype run
+  out-of-order h n f = sym (down knownSupertype false h n (f false))

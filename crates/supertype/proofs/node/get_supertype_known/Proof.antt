@@ -1,6 +1,7 @@
 -- `supertype::node::get_supertype_known` meets its contract. Assumes nothing.
 use native.Mathlib.Omega.{arith}
-use Rattle.supertype.proofs.Numbers.{apart-below, known-same, known-null, join-up, join-down}
+use Rattle.supertype_arms.proofs.Bare.{apart-below}
+use Rattle.supertype.proofs.Numbers.{known-same, known-null, join-up, join-down}
 use Rattle.supertype.proofs.node.get_supertype_known.Statement.{statement}
 use Rattle.supertype.proofs.node.get_supertype_known.Tie as tie
 

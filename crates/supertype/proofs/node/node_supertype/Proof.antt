@@ -3,7 +3,7 @@ use mathlib.Core.Path.{sym, ap, _∙_}
 use native.Mathlib.Omega.{arith}
 use borrow.Author.Needs.{needs}
 use Rattle.supertype_answer.specs.Join.{node, commonOf}
-use Rattle.supertype.proofs.Numbers.{level-any, level}
+use Rattle.supertype_arms.proofs.Answers.{level-any, level}
 use Rattle.supertype.proofs.Orders.{Different, ready, ready-turned, equal, in-order, out-of-order, any-string}
 use Rattle.supertype.proofs.Orders.{dyn-str}
 use Rattle.supertype.proofs.node.node_supertype.Statement.{statement}
