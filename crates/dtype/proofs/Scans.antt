@@ -79,7 +79,7 @@ module _ (p : ℕ → Bool) (lo n : ℕ) (before : T (says p false 0 lo)) (withi
       go true false e f = let h = leb-false k (lo + n) f in sym (after k (omega arith))
       go false c e f = let l = leb-false lo k e in of-run p false 0 lo before k (omega arith)
 
-  pub scan-run : (ks : List ℕ) → anyOf (between lo (lo + n)) ks ≡ anyOf p ks
+  scan-run : (ks : List ℕ) → anyOf (between lo (lo + n)) ks ≡ anyOf p ks
   scan-run ks = λ i. anyOf (λ k. as-run k i) ks
 
 pub scan-unknown : (ks : List ℕ) → anyOf (between Kind.UnknownAny Kind.UnknownIntNeg) ks ≡ anyOf isUnknown ks
@@ -88,7 +88,7 @@ scan-unknown =
     scan-run isUnknown 23 4 (unfold says in tt) (unfold says in tt)
     (λ k h. rw (past 28 (23 ∷ 24 ∷ 25 ∷ []) tt k h, past 28 (26 ∷ 27 ∷ []) tt k h))
 
-pub scan-temporal : (ks : List ℕ) → anyOf (between Kind.Date Kind.Time) ks ≡ anyOf isTemporal ks
+scan-temporal : (ks : List ℕ) → anyOf (between Kind.Date Kind.Time) ks ≡ anyOf isTemporal ks
 unfolding isTemporal
 scan-temporal =
     scan-run isTemporal 19 3 (unfold says in tt) (unfold says in tt) (past 23 (19 ∷ 20 ∷ 21 ∷ 22 ∷ []) tt)
@@ -102,7 +102,7 @@ unfolding isDecimalKind
 scan-decimal = scan-run isDecimalKind 15 0 (unfold says in tt) (unfold says in tt) (past 16 (15 ∷ []) tt)
 
 -- either of two
-pub scan-either : (p q : ℕ → Bool) (ks : List ℕ) → anyOf (λ k. p k || q k) ks ≡ (anyOf p ks || anyOf q ks)
+scan-either : (p q : ℕ → Bool) (ks : List ℕ) → anyOf (λ k. p k || q k) ks ≡ (anyOf p ks || anyOf q ks)
 unfolding anyOf
 scan-either p q [] = refl
 scan-either p q (k ∷ ks) = go (p k) (q k) (anyOf p ks) (anyOf q ks) (scan-either p q ks)
