@@ -47,6 +47,27 @@ impl Verdict {
     }
 }
 
+// The walk's verdict on two types that were checked, at the front of the arrays.
+fn walk_verdict(
+    from_kinds: &[u8],
+    from_args: &[u64],
+    to_kinds: &[u8],
+    to_args: &[u64],
+) -> Verdict
+    requires { ⌜ Valid (now «from_kinds») (now «from_args») ⌝ }
+    requires { ⌜ Valid (now «to_kinds») (now «to_args») ⌝ }
+    ensures { λ r. do
+      let from = typeAt (now («from_kinds» .entry)) (now («from_args» .entry))
+      let to = typeAt (now («to_kinds» .entry)) (now («to_args» .entry))
+      ⌜ r ≡ verdict (canCastTo from to) ⌝ }
+{
+    match walk::node_cast(from_kinds, from_args, to_kinds, to_args) {
+        Cast::Yes(_, _) => Verdict::Yes,
+        Cast::No => Verdict::No,
+        Cast::NoVerdict => Verdict::NoVerdict,
+    }
+}
+
 // The verdict on two types that were checked, at the front of the arrays: the scan says yes, or the walk decides.
 pub fn checked_cast(
     from_kinds: &[u8],
@@ -64,14 +85,11 @@ pub fn checked_cast(
     if scan::all_yes(from_kinds, from_args, to_kinds, to_args) {
         return Verdict::Yes;
     }
-    match walk::node_cast(from_kinds, from_args, to_kinds, to_args) {
-        Cast::Yes(_, _) => Verdict::Yes,
-        Cast::No => Verdict::No,
-        Cast::NoVerdict => Verdict::NoVerdict,
-    }
+    walk_verdict(from_kinds, from_args, to_kinds, to_args)
 }
 
-// Whether the cast makes sense: each type is checked once, then both have a verdict.
+// Whether the cast makes sense: each type is checked once, then both have a verdict. The scan is asked here too, before a
+// call for which the slices would be stored: most casts are settled by it.
 pub fn can_cast_to(
     from_kinds: &[u8],
     from_args: &[u64],
@@ -87,7 +105,12 @@ pub fn can_cast_to(
 {
     match flat::check(from_kinds, from_args) {
         Checked::Valid => match flat::check(to_kinds, to_args) {
-            Checked::Valid => checked_cast(from_kinds, from_args, to_kinds, to_args),
+            Checked::Valid => {
+                if scan::all_yes(from_kinds, from_args, to_kinds, to_args) {
+                    return Verdict::Yes;
+                }
+                walk_verdict(from_kinds, from_args, to_kinds, to_args)
+            }
             Checked::Refused(e) => Verdict::Refused(e),
         },
         Checked::Refused(e) => Verdict::Refused(e),
