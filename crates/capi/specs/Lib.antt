@@ -1,4 +1,2 @@
 -- What the contracts of the C entry points cite.
 pub mod Reply
-pub mod Lent
-pub mod Parts

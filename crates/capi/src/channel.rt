@@ -3,10 +3,10 @@ ghost use mathlib.Core.Path.{_≡_};
 ghost use Rattle.flat.specs.Reading.{reading};
 ghost use Rattle.encoded.specs.Encoding.{decoding};
 ghost use Rattle.channels.specs.Merge.{outcomeOf};
-ghost use Rattle.capi.specs.Reply.{mergedReply, outcomeReply};
-use crate::Reply;
+ghost use Rattle.capi.specs.Reply.{outcomeReply};
+use crate::reply::Reply;
+use crate::reply::merged_reply;
 use channels::ChannelTypes;
-use channels::Merged;
 use encoded::Encoding;
 use flat::Flat;
 
@@ -15,15 +15,6 @@ use flat::Flat;
 pub struct TypesReply {
     pub reply: Reply,
     pub types: ChannelTypes,
-}
-
-fn merged_reply(answer: Merged) -> Reply
-    ensures { λ r. ⌜ r ≡ mergedReply answer ⌝ }
-{
-    Reply {
-        number: answer.number(),
-        value: answer.value(),
-    }
 }
 
 // Merges the type of a column into a channel of the lent codes. Gives the code that the channel now holds.
@@ -38,13 +29,14 @@ pub extern "C" fn lz_channel_merge(
       nodes ← ⟦Flat::MAX_NODES⟧ .entry
       deep ← ⟦Flat::MAX_DEPTH⟧ .entry
       w ← ⟦Encoding::ARGUMENT_BYTES⟧ .entry
-      ⌜ record { reply = r; types = record { codes = now (codes .exit) } } ≡ outcomeReply (outcomeOf channels (record { codes = now (codes .entry) }) channel (decoding w nodes deep (now (column .entry)))) ⌝ }
+      let given = decoding w nodes deep (now (column .entry))
+      let outcome = outcomeOf channels (record { codes = now (codes .entry) }) channel given
+      ⌜ record { reply = r; types = record { codes = now (codes .exit) } } ≡ outcomeReply outcome ⌝ }
 {
-    let answer = encoded_join::merge(codes, channel, column);
-    merged_reply(answer)
+    merged_reply(encoded_join::merge(codes, channel, column))
 }
 
-// The same of a flat type, with the codes lent.
+// Merges a column of a flat type into a channel of the lent types. Gives the code that the channel now holds.
 #[no_mangle]
 pub extern "C" fn lz_flat_channel_merge(
     types: &mut ChannelTypes,
@@ -56,13 +48,15 @@ pub extern "C" fn lz_flat_channel_merge(
       channels ← ⟦ChannelTypes::CHANNELS⟧ .entry
       nodes ← ⟦Flat::MAX_NODES⟧ .entry
       deep ← ⟦Flat::MAX_DEPTH⟧ .entry
-      ⌜ record { reply = r; types = now (types .exit) } ≡ outcomeReply (outcomeOf channels (now (types .entry)) channel (reading nodes deep (now (kinds .entry)) (now (args .entry)))) ⌝ }
+      let given = reading nodes deep (now (kinds .entry)) (now (args .entry))
+      let outcome = outcomeOf channels (now (types .entry)) channel given
+      ⌜ record { reply = r; types = now (types .exit) } ≡ outcomeReply outcome ⌝ }
 {
     let answer = channels::merge_in_place(types, channel, kinds, args);
     merged_reply(answer)
 }
 
-// And with the codes by value.
+// Merges a column of a flat type into a channel, with the types by value. Gives the code that the channel now holds.
 #[no_mangle]
 pub extern "C" fn lz_flat_channel_merged(
     types: ChannelTypes,
@@ -74,7 +68,8 @@ pub extern "C" fn lz_flat_channel_merged(
       channels ← ⟦ChannelTypes::CHANNELS⟧ .entry
       nodes ← ⟦Flat::MAX_NODES⟧ .entry
       deep ← ⟦Flat::MAX_DEPTH⟧ .entry
-      ⌜ r ≡ outcomeReply (outcomeOf channels types channel (reading nodes deep (now (kinds .entry)) (now (args .entry)))) ⌝ }
+      let given = reading nodes deep (now (kinds .entry)) (now (args .entry))
+      ⌜ r ≡ outcomeReply (outcomeOf channels types channel given) ⌝ }
 {
     let next = types.merge(channel, kinds, args);
     let answer = next.answer;

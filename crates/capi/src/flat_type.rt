@@ -1,24 +1,24 @@
-// The rules on flat types, for callers that keep types in two arrays.
+// The rules of dtype.rs on flat types, for callers that keep types in two arrays.
 ghost use mathlib.Core.Path.{_≡_};
 ghost use mathlib.Core.Bool.{not};
 ghost use mathlib.Core.Option.{some};
 ghost use lib.Dec.{eqb};
 ghost use lib.ListN.{length};
 ghost use Rattle.flat.specs.Reading.{reading};
-ghost use Rattle.flat.specs.Output.{fitting};
+ghost use Rattle.flat.specs.Output.{fitting, Writes};
 ghost use Rattle.dtype.specs.Equality.{equal};
 ghost use Rattle.dtype.specs.Recursive.{isKnown};
-ghost use Rattle.dtype_inner.specs.Inner.{innerDtype, leafDtype, arrayLeafDtype};
 ghost use Rattle.dtype.specs.Answer.{answerOf, answersOf};
+ghost use Rattle.dtype_inner.specs.Inner.{innerDtype, leafDtype, arrayLeafDtype};
 ghost use Rattle.dtype_inner.specs.Part.{innerOf};
 ghost use Rattle.dtype_cast.specs.Verdict.{castOf};
 ghost use Rattle.dtype_build.specs.Build.{materialized, physical};
-ghost use Rattle.capi.specs.Reply.{answerReply, verdictReply, innerReply, DecodeReply};
-use crate::Reply;
-use crate::answer_reply;
-use crate::inner_reply;
-use crate::verdict_reply;
-use crate::written;
+ghost use Rattle.capi.specs.Reply.{Replies, answerReply, verdictReply, optionalReply, writtenReply};
+use crate::reply::Reply;
+use crate::reply::answer_reply;
+use crate::reply::optional_reply;
+use crate::reply::verdict_reply;
+use crate::reply::written_reply;
 use flat::Flat;
 
 // Whether no type in it is unknown.
@@ -27,7 +27,8 @@ pub extern "C" fn lz_flat_is_known(kinds: &[u8], args: &[u64]) -> Reply
     ensures { λ r. do
       nodes ← ⟦Flat::MAX_NODES⟧ .entry
       deep ← ⟦Flat::MAX_DEPTH⟧ .entry
-      ⌜ r ≡ answerReply (answerOf isKnown (reading nodes deep (now (kinds .entry)) (now (args .entry)))) ⌝ }
+      let given = reading nodes deep (now (kinds .entry)) (now (args .entry))
+      ⌜ r ≡ answerReply (answerOf isKnown given) ⌝ }
 {
     answer_reply(dtype::is_known(kinds, args))
 }
@@ -43,7 +44,9 @@ pub extern "C" fn lz_flat_equal(
     ensures { λ r. do
       nodes ← ⟦Flat::MAX_NODES⟧ .entry
       deep ← ⟦Flat::MAX_DEPTH⟧ .entry
-      ⌜ r ≡ answerReply (answersOf equal (reading nodes deep (now («left_kinds» .entry)) (now («left_args» .entry))) (reading nodes deep (now («right_kinds» .entry)) (now («right_args» .entry)))) ⌝ }
+      let one = reading nodes deep (now («left_kinds» .entry)) (now («left_args» .entry))
+      let other = reading nodes deep (now («right_kinds» .entry)) (now («right_args» .entry))
+      ⌜ r ≡ answerReply (answersOf equal one other) ⌝ }
 {
     answer_reply(dtype_eq::equal(left_kinds, left_args, right_kinds, right_args))
 }
@@ -59,7 +62,9 @@ pub extern "C" fn lz_flat_can_cast_to(
     ensures { λ r. do
       nodes ← ⟦Flat::MAX_NODES⟧ .entry
       deep ← ⟦Flat::MAX_DEPTH⟧ .entry
-      ⌜ r ≡ verdictReply (castOf (reading nodes deep (now («from_kinds» .entry)) (now («from_args» .entry))) (reading nodes deep (now («to_kinds» .entry)) (now («to_args» .entry)))) ⌝ }
+      let from = reading nodes deep (now («from_kinds» .entry)) (now («from_args» .entry))
+      let to = reading nodes deep (now («to_kinds» .entry)) (now («to_args» .entry))
+      ⌜ r ≡ verdictReply (castOf from to) ⌝ }
 {
     verdict_reply(dtype_cast::can_cast_to(from_kinds, from_args, to_kinds, to_args))
 }
@@ -70,34 +75,39 @@ pub extern "C" fn lz_flat_inner_dtype(kinds: &[u8], args: &[u64]) -> Reply
     ensures { λ r. do
       nodes ← ⟦Flat::MAX_NODES⟧ .entry
       deep ← ⟦Flat::MAX_DEPTH⟧ .entry
-      ⌜ r ≡ innerReply (innerOf innerDtype (reading nodes deep (now (kinds .entry)) (now (args .entry)))) ⌝ }
+      let given = reading nodes deep (now (kinds .entry)) (now (args .entry))
+      ⌜ r ≡ optionalReply (innerOf innerDtype given) ⌝ }
 {
-    inner_reply(dtype_inner::inner_dtype(kinds, args))
+    optional_reply(dtype_inner::inner_dtype(kinds, args))
 }
 
-// The type under all Lists and Arrays, likewise.
+// The type under all Lists and Arrays: how many nodes it has, which stand at the end of kinds and args.
 #[no_mangle]
 pub extern "C" fn lz_flat_leaf_dtype(kinds: &[u8], args: &[u64]) -> Reply
     ensures { λ r. do
       nodes ← ⟦Flat::MAX_NODES⟧ .entry
       deep ← ⟦Flat::MAX_DEPTH⟧ .entry
-      ⌜ r ≡ innerReply (innerOf (λ t. some (leafDtype t)) (reading nodes deep (now (kinds .entry)) (now (args .entry)))) ⌝ }
+      let given = reading nodes deep (now (kinds .entry)) (now (args .entry))
+      ⌜ r ≡ optionalReply (innerOf (λ t. some (leafDtype t)) given) ⌝ }
 {
-    inner_reply(dtype_inner::leaf_dtype(kinds, args))
+    optional_reply(dtype_inner::leaf_dtype(kinds, args))
 }
 
-// The type under an Array's consecutive Arrays, likewise.
+// The type under an Array's consecutive Arrays: how many nodes it has, which stand at the end of kinds and args; 0 for
+// None.
 #[no_mangle]
 pub extern "C" fn lz_flat_array_leaf_dtype(kinds: &[u8], args: &[u64]) -> Reply
     ensures { λ r. do
       nodes ← ⟦Flat::MAX_NODES⟧ .entry
       deep ← ⟦Flat::MAX_DEPTH⟧ .entry
-      ⌜ r ≡ innerReply (innerOf arrayLeafDtype (reading nodes deep (now (kinds .entry)) (now (args .entry)))) ⌝ }
+      let given = reading nodes deep (now (kinds .entry)) (now (args .entry))
+      ⌜ r ≡ optionalReply (innerOf arrayLeafDtype given) ⌝ }
 {
-    inner_reply(dtype_inner::array_leaf_dtype(kinds, args))
+    optional_reply(dtype_inner::array_leaf_dtype(kinds, args))
 }
 
-// The type with each unknown type made known, to the front of out_kinds and out_args; any is allowed unless allow_unknown is 0. Gives its number of nodes.
+// The type with each unknown type made known, to the front of out_kinds and out_args; any is allowed unless
+// allow_unknown is 0. Gives its number of nodes.
 #[no_mangle]
 pub extern "C" fn lz_flat_materialize_unknown(
     kinds: &[u8],
@@ -109,12 +119,23 @@ pub extern "C" fn lz_flat_materialize_unknown(
     ensures { λ r. do
       nodes ← ⟦Flat::MAX_NODES⟧ .entry
       deep ← ⟦Flat::MAX_DEPTH⟧ .entry
-      ⌜ DecodeReply (fitting (length (now («out_kinds» .entry))) (length (now («out_args» .entry))) (materialized (not (eqb «allow_unknown» 0)) (reading nodes deep (now (kinds .entry)) (now (args .entry))))) (now («out_kinds» .entry)) (now («out_args» .entry)) (now («out_kinds» .exit)) (now («out_args» .exit)) r ⌝ }
+      let given = reading nodes deep (now (kinds .entry)) (now (args .entry))
+      let new = materialized (not (eqb «allow_unknown» 0)) given
+      let ks = now («out_kinds» .entry)
+      let xs = now («out_args» .entry)
+      let fits = fitting (length ks) (length xs) new
+      ⌜ Replies (Writes fits ks xs (now («out_kinds» .exit)) (now («out_args» .exit))) writtenReply r ⌝ }
 {
-    written(dtype_build::materialize_unknown(kinds, args, allow_unknown != 0, out_kinds, out_args))
+    written_reply(dtype_build::materialize_unknown(
+        kinds,
+        args,
+        allow_unknown != 0,
+        out_kinds,
+        out_args,
+    ))
 }
 
-// Its physical form, likewise.
+// The type's physical form, to the front of out_kinds and out_args. Gives its number of nodes.
 #[no_mangle]
 pub extern "C" fn lz_flat_to_physical(
     kinds: &[u8],
@@ -125,7 +146,12 @@ pub extern "C" fn lz_flat_to_physical(
     ensures { λ r. do
       nodes ← ⟦Flat::MAX_NODES⟧ .entry
       deep ← ⟦Flat::MAX_DEPTH⟧ .entry
-      ⌜ DecodeReply (fitting (length (now («out_kinds» .entry))) (length (now («out_args» .entry))) (physical (reading nodes deep (now (kinds .entry)) (now (args .entry))))) (now («out_kinds» .entry)) (now («out_args» .entry)) (now («out_kinds» .exit)) (now («out_args» .exit)) r ⌝ }
+      let given = reading nodes deep (now (kinds .entry)) (now (args .entry))
+      let new = physical given
+      let ks = now («out_kinds» .entry)
+      let xs = now («out_args» .entry)
+      let fits = fitting (length ks) (length xs) new
+      ⌜ Replies (Writes fits ks xs (now («out_kinds» .exit)) (now («out_args» .exit))) writtenReply r ⌝ }
 {
-    written(dtype_build::to_physical(kinds, args, out_kinds, out_args))
+    written_reply(dtype_build::to_physical(kinds, args, out_kinds, out_args))
 }

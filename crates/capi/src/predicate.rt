@@ -1,51 +1,28 @@
 // The predicates of a type, on an encoded one.
 ghost use mathlib.Core.Path.{_≡_};
-ghost use Rattle.flat.specs.Output.{writtenOf};
 ghost use Rattle.encoded.specs.Encoding.{decoding};
-ghost use Rattle.dtype.specs.Predicate.{root, isTemporal, isFloat, isSignedInteger, isUnsignedInteger, isInteger, isPrimitiveNumeric, isPrimitive, isNested, isString, isUnknown};
+ghost use Rattle.dtype.specs.Predicate.{root, isTemporal, isFloat, isSignedInteger, isUnsignedInteger, isInteger};
+ghost use Rattle.dtype.specs.Predicate.{isPrimitiveNumeric, isPrimitive, isNested, isString, isUnknown};
 ghost use Rattle.dtype.specs.Recursive.{isKnown, isLogical, containsListRecursive, containsUnknown};
 ghost use Rattle.dtype.specs.Predicates.{predicateOf};
 ghost use Rattle.dtype.specs.Answer.{answerOf};
 ghost use Rattle.capi.specs.Reply.{answerReply};
-use crate::Reply;
-use crate::refusal;
-use crate::yes_no;
+use crate::reply::Reply;
+use crate::reply::answer_reply;
 use dtype::predicate::Predicate;
-use dtype::predicate::told_by;
 use encoded::Encoding;
-use flat::Checked;
 use flat::Flat;
-use flat::Written;
 
-// The number of nodes, and so of the kinds that stand after the count.
-fn nodes(encoded: &[u8]) -> Written
+// What a predicate says of the type.
+fn tell(p: Predicate, encoded: &[u8]) -> Reply
     ensures { λ r. do
       nodes ← ⟦Flat::MAX_NODES⟧ .entry
       deep ← ⟦Flat::MAX_DEPTH⟧ .entry
       w ← ⟦Encoding::ARGUMENT_BYTES⟧ .entry
-      ⌜ r ≡ writtenOf (decoding w nodes deep (now (encoded .entry))) ⌝ }
+      let given = decoding w nodes deep (now (encoded .entry))
+      ⌜ r ≡ answerReply (answerOf (predicateOf p) given) ⌝ }
 {
-    match encoded::check(encoded) {
-        Checked::Valid => Written::Nodes(encoded::node_count(encoded)),
-        Checked::Refused(e) => Written::Refused(e),
-    }
-}
-
-// What a predicate says of the type, told by the kinds where they stand.
-fn reply(p: Predicate, encoded: &[u8]) -> Reply
-    ensures { λ r. do
-      nodes ← ⟦Flat::MAX_NODES⟧ .entry
-      deep ← ⟦Flat::MAX_DEPTH⟧ .entry
-      w ← ⟦Encoding::ARGUMENT_BYTES⟧ .entry
-      ⌜ r ≡ answerReply (answerOf (predicateOf p) (decoding w nodes deep (now (encoded .entry)))) ⌝ }
-{
-    if encoded::is_plain(encoded) {
-        return yes_no(told_by(p, &encoded[2..3]));
-    }
-    match nodes(&encoded[0..]) {
-        Written::Nodes(n) => yes_no(told_by(p, &encoded[2..2 + n])),
-        Written::Refused(e) => refusal(e),
-    }
+    answer_reply(encoded_dtype::ask(p, encoded))
 }
 
 // Whether it is a List, an Array or a Struct.
@@ -55,9 +32,10 @@ pub extern "C" fn lz_is_nested(encoded: &[u8]) -> Reply
       nodes ← ⟦Flat::MAX_NODES⟧ .entry
       deep ← ⟦Flat::MAX_DEPTH⟧ .entry
       w ← ⟦Encoding::ARGUMENT_BYTES⟧ .entry
-      ⌜ r ≡ answerReply (answerOf (root isNested) (decoding w nodes deep (now (encoded .entry)))) ⌝ }
+      let given = decoding w nodes deep (now (encoded .entry))
+      ⌜ r ≡ answerReply (answerOf (root isNested) given) ⌝ }
 {
-    reply(Predicate::IsNested, encoded)
+    tell(Predicate::IsNested, encoded)
 }
 
 // Whether it is a primitive numeric type, Boolean, String or Binary.
@@ -67,9 +45,10 @@ pub extern "C" fn lz_is_primitive(encoded: &[u8]) -> Reply
       nodes ← ⟦Flat::MAX_NODES⟧ .entry
       deep ← ⟦Flat::MAX_DEPTH⟧ .entry
       w ← ⟦Encoding::ARGUMENT_BYTES⟧ .entry
-      ⌜ r ≡ answerReply (answerOf (root isPrimitive) (decoding w nodes deep (now (encoded .entry)))) ⌝ }
+      let given = decoding w nodes deep (now (encoded .entry))
+      ⌜ r ≡ answerReply (answerOf (root isPrimitive) given) ⌝ }
 {
-    reply(Predicate::IsPrimitive, encoded)
+    tell(Predicate::IsPrimitive, encoded)
 }
 
 // Whether it is a float or an integer; a Decimal is neither.
@@ -79,89 +58,101 @@ pub extern "C" fn lz_is_primitive_numeric(encoded: &[u8]) -> Reply
       nodes ← ⟦Flat::MAX_NODES⟧ .entry
       deep ← ⟦Flat::MAX_DEPTH⟧ .entry
       w ← ⟦Encoding::ARGUMENT_BYTES⟧ .entry
-      ⌜ r ≡ answerReply (answerOf (root isPrimitiveNumeric) (decoding w nodes deep (now (encoded .entry)))) ⌝ }
+      let given = decoding w nodes deep (now (encoded .entry))
+      ⌜ r ≡ answerReply (answerOf (root isPrimitiveNumeric) given) ⌝ }
 {
-    reply(Predicate::IsPrimitiveNumeric, encoded)
+    tell(Predicate::IsPrimitiveNumeric, encoded)
 }
 
+// Whether it is Date, Datetime, Duration or Time.
 #[no_mangle]
 pub extern "C" fn lz_is_temporal(encoded: &[u8]) -> Reply
     ensures { λ r. do
       nodes ← ⟦Flat::MAX_NODES⟧ .entry
       deep ← ⟦Flat::MAX_DEPTH⟧ .entry
       w ← ⟦Encoding::ARGUMENT_BYTES⟧ .entry
-      ⌜ r ≡ answerReply (answerOf (root isTemporal) (decoding w nodes deep (now (encoded .entry)))) ⌝ }
+      let given = decoding w nodes deep (now (encoded .entry))
+      ⌜ r ≡ answerReply (answerOf (root isTemporal) given) ⌝ }
 {
-    reply(Predicate::IsTemporal, encoded)
+    tell(Predicate::IsTemporal, encoded)
 }
 
-// `Unknown(Float)` is one.
+// Whether it is a float; `Unknown(Float)` is one.
 #[no_mangle]
 pub extern "C" fn lz_is_float(encoded: &[u8]) -> Reply
     ensures { λ r. do
       nodes ← ⟦Flat::MAX_NODES⟧ .entry
       deep ← ⟦Flat::MAX_DEPTH⟧ .entry
       w ← ⟦Encoding::ARGUMENT_BYTES⟧ .entry
-      ⌜ r ≡ answerReply (answerOf (root isFloat) (decoding w nodes deep (now (encoded .entry)))) ⌝ }
+      let given = decoding w nodes deep (now (encoded .entry))
+      ⌜ r ≡ answerReply (answerOf (root isFloat) given) ⌝ }
 {
-    reply(Predicate::IsFloat, encoded)
+    tell(Predicate::IsFloat, encoded)
 }
 
-// `Unknown(Int(_))` is one.
+// Whether it is an integer; `Unknown(Int(_))` is one.
 #[no_mangle]
 pub extern "C" fn lz_is_integer(encoded: &[u8]) -> Reply
     ensures { λ r. do
       nodes ← ⟦Flat::MAX_NODES⟧ .entry
       deep ← ⟦Flat::MAX_DEPTH⟧ .entry
       w ← ⟦Encoding::ARGUMENT_BYTES⟧ .entry
-      ⌜ r ≡ answerReply (answerOf (root isInteger) (decoding w nodes deep (now (encoded .entry)))) ⌝ }
+      let given = decoding w nodes deep (now (encoded .entry))
+      ⌜ r ≡ answerReply (answerOf (root isInteger) given) ⌝ }
 {
-    reply(Predicate::IsInteger, encoded)
+    tell(Predicate::IsInteger, encoded)
 }
 
+// Whether it is Int8 to Int128.
 #[no_mangle]
 pub extern "C" fn lz_is_signed_integer(encoded: &[u8]) -> Reply
     ensures { λ r. do
       nodes ← ⟦Flat::MAX_NODES⟧ .entry
       deep ← ⟦Flat::MAX_DEPTH⟧ .entry
       w ← ⟦Encoding::ARGUMENT_BYTES⟧ .entry
-      ⌜ r ≡ answerReply (answerOf (root isSignedInteger) (decoding w nodes deep (now (encoded .entry)))) ⌝ }
+      let given = decoding w nodes deep (now (encoded .entry))
+      ⌜ r ≡ answerReply (answerOf (root isSignedInteger) given) ⌝ }
 {
-    reply(Predicate::IsSignedInteger, encoded)
+    tell(Predicate::IsSignedInteger, encoded)
 }
 
+// Whether it is UInt8 to UInt128.
 #[no_mangle]
 pub extern "C" fn lz_is_unsigned_integer(encoded: &[u8]) -> Reply
     ensures { λ r. do
       nodes ← ⟦Flat::MAX_NODES⟧ .entry
       deep ← ⟦Flat::MAX_DEPTH⟧ .entry
       w ← ⟦Encoding::ARGUMENT_BYTES⟧ .entry
-      ⌜ r ≡ answerReply (answerOf (root isUnsignedInteger) (decoding w nodes deep (now (encoded .entry)))) ⌝ }
+      let given = decoding w nodes deep (now (encoded .entry))
+      ⌜ r ≡ answerReply (answerOf (root isUnsignedInteger) given) ⌝ }
 {
-    reply(Predicate::IsUnsignedInteger, encoded)
+    tell(Predicate::IsUnsignedInteger, encoded)
 }
 
-// `Unknown(Str)` is one.
+// Whether it is String; `Unknown(Str)` is one.
 #[no_mangle]
 pub extern "C" fn lz_is_string(encoded: &[u8]) -> Reply
     ensures { λ r. do
       nodes ← ⟦Flat::MAX_NODES⟧ .entry
       deep ← ⟦Flat::MAX_DEPTH⟧ .entry
       w ← ⟦Encoding::ARGUMENT_BYTES⟧ .entry
-      ⌜ r ≡ answerReply (answerOf (root isString) (decoding w nodes deep (now (encoded .entry)))) ⌝ }
+      let given = decoding w nodes deep (now (encoded .entry))
+      ⌜ r ≡ answerReply (answerOf (root isString) given) ⌝ }
 {
-    reply(Predicate::IsString, encoded)
+    tell(Predicate::IsString, encoded)
 }
 
+// Whether it is `Unknown(_)`.
 #[no_mangle]
 pub extern "C" fn lz_is_unknown(encoded: &[u8]) -> Reply
     ensures { λ r. do
       nodes ← ⟦Flat::MAX_NODES⟧ .entry
       deep ← ⟦Flat::MAX_DEPTH⟧ .entry
       w ← ⟦Encoding::ARGUMENT_BYTES⟧ .entry
-      ⌜ r ≡ answerReply (answerOf (root isUnknown) (decoding w nodes deep (now (encoded .entry)))) ⌝ }
+      let given = decoding w nodes deep (now (encoded .entry))
+      ⌜ r ≡ answerReply (answerOf (root isUnknown) given) ⌝ }
 {
-    reply(Predicate::IsUnknown, encoded)
+    tell(Predicate::IsUnknown, encoded)
 }
 
 // Whether no type in it is unknown.
@@ -171,9 +162,10 @@ pub extern "C" fn lz_is_known(encoded: &[u8]) -> Reply
       nodes ← ⟦Flat::MAX_NODES⟧ .entry
       deep ← ⟦Flat::MAX_DEPTH⟧ .entry
       w ← ⟦Encoding::ARGUMENT_BYTES⟧ .entry
-      ⌜ r ≡ answerReply (answerOf isKnown (decoding w nodes deep (now (encoded .entry)))) ⌝ }
+      let given = decoding w nodes deep (now (encoded .entry))
+      ⌜ r ≡ answerReply (answerOf isKnown given) ⌝ }
 {
-    reply(Predicate::IsKnown, encoded)
+    tell(Predicate::IsKnown, encoded)
 }
 
 // Whether it differs from its physical form.
@@ -183,29 +175,34 @@ pub extern "C" fn lz_is_logical(encoded: &[u8]) -> Reply
       nodes ← ⟦Flat::MAX_NODES⟧ .entry
       deep ← ⟦Flat::MAX_DEPTH⟧ .entry
       w ← ⟦Encoding::ARGUMENT_BYTES⟧ .entry
-      ⌜ r ≡ answerReply (answerOf isLogical (decoding w nodes deep (now (encoded .entry)))) ⌝ }
+      let given = decoding w nodes deep (now (encoded .entry))
+      ⌜ r ≡ answerReply (answerOf isLogical given) ⌝ }
 {
-    reply(Predicate::IsLogical, encoded)
+    tell(Predicate::IsLogical, encoded)
 }
 
+// Whether a type in it is unknown.
 #[no_mangle]
 pub extern "C" fn lz_contains_unknown(encoded: &[u8]) -> Reply
     ensures { λ r. do
       nodes ← ⟦Flat::MAX_NODES⟧ .entry
       deep ← ⟦Flat::MAX_DEPTH⟧ .entry
       w ← ⟦Encoding::ARGUMENT_BYTES⟧ .entry
-      ⌜ r ≡ answerReply (answerOf containsUnknown (decoding w nodes deep (now (encoded .entry)))) ⌝ }
+      let given = decoding w nodes deep (now (encoded .entry))
+      ⌜ r ≡ answerReply (answerOf containsUnknown given) ⌝ }
 {
-    reply(Predicate::ContainsUnknown, encoded)
+    tell(Predicate::ContainsUnknown, encoded)
 }
 
+// Whether a type in it is a List.
 #[no_mangle]
 pub extern "C" fn lz_contains_list_recursive(encoded: &[u8]) -> Reply
     ensures { λ r. do
       nodes ← ⟦Flat::MAX_NODES⟧ .entry
       deep ← ⟦Flat::MAX_DEPTH⟧ .entry
       w ← ⟦Encoding::ARGUMENT_BYTES⟧ .entry
-      ⌜ r ≡ answerReply (answerOf containsListRecursive (decoding w nodes deep (now (encoded .entry)))) ⌝ }
+      let given = decoding w nodes deep (now (encoded .entry))
+      ⌜ r ≡ answerReply (answerOf containsListRecursive given) ⌝ }
 {
-    reply(Predicate::ContainsListRecursive, encoded)
+    tell(Predicate::ContainsListRecursive, encoded)
 }

@@ -1,10 +1,11 @@
--- Document 01's worked cases, as one table: the cases that it marks [P], calls for every number of its table of refusals, the order of refusals, the bounds
--- of the arguments, the codes of the kinds and the stored sheet. Each row is the place in document 01, what is asked and the answer: `case n` is of the
--- corner n, `refusal n` is a call that is refused by n, and `passes` a call that is not refused. Assumes nothing: these are definitions.
+-- Document 01's worked cases, as one table: the cases that it marks [P], calls for every number of its table of
+-- refusals, the order of refusals, the bounds of the arguments, the codes of the kinds and the stored sheet. Each row
+-- is the place in document 01, what is asked and the answer: `case n` is of the corner n, `refusal n` is a call that is
+-- refused by n, and `not-refused` a call that is not refused. Assumes nothing: these are definitions.
 use mathlib.Core.Path.{_≡_}
 use mathlib.Core.Bool.{Bool, true, false}
 use mathlib.Core.List.{List, [], _∷_, _++_, map}
-use mathlib.Core.Option.{Option, none, some}
+use mathlib.Core.Option.{none, some}
 use Prim.Native.Nat.{ℕ, _+_, _-_, _*_, _^_}
 use lib.IntN.{ℤ, pos, negsuc, negℤ}
 use lib.ListN.{replicate}
@@ -12,7 +13,11 @@ use Rattle.flat.specs.Kind
 use Rattle.flat.specs.Tree.{DataType, leaf, list, array, struct, Fields, empty, field, kindsOf, argsOf}
 use Rattle.flat.specs.Reading.{type}
 use Rattle.flat.specs.Limits.{lists, fieldsOf}
-use Rattle.cases.specs.Question.{Limits, Call, check, check-encoded, get-supertype, materialize-unknown, merge, Asked, supertype, lossless, smallest-dyn-int, can-cast, materialize, merge-all, number-of, root, encoded, decoded, codes, Answered, joined, kind, verdict, result, merged, number, numbers, answer}
+use Rattle.cases.specs.Question.{Limits, answerTo}
+use Rattle.cases.specs.Question.{FlatCall, check, check-encoded, get-supertype, materialize-unknown, merge}
+use Rattle.cases.specs.Question.{Asked, supertype, lossless, smallest-dyn-int, can-cast, materialize, merge-all}
+use Rattle.cases.specs.Question.{number-of, root, encoded, decoded, codes}
+use Rattle.cases.specs.Question.{Answered, joined, kind, verdict, result, merged, number, numbers}
 
 -- a place in document 01: the corner of that number, "Why a call is turned down", or "Flat types and stored sheets"
 pub data Place : Type 0 where
@@ -28,11 +33,11 @@ pub record Case : Type 0 where
 abbrev pub case : ℕ → Asked → Answered → Case
 case n q a = record { place = corner n; asked = q; answered = a }
 
-abbrev pub refusal : ℕ → Call → Case
+abbrev pub refusal : ℕ → FlatCall → Case
 refusal n call = record { place = refusals; asked = number-of call; answered = number n }
 
-abbrev pub passes : Call → Case
-passes = refusal 0
+abbrev pub not-refused : FlatCall → Case
+not-refused = refusal 0
 
 abbrev pub stored : Asked → Answered → Case
 stored q a = record { place = flat-types; asked = q; answered = a }
@@ -58,9 +63,9 @@ gives t = result 0 (some t)
 abbrev pub refused-by : ℕ → Answered
 refused-by n = result n none
 
--- a type without an argument
-abbrev pub of : ℕ → DataType
-of k = leaf k 0
+-- a type without an argument: one node
+abbrev pub lone : ℕ → DataType
+lone k = leaf k 0
 
 -- dyn v
 abbrev pub dyn : ℤ → DataType
@@ -68,11 +73,11 @@ dyn (pos v) = leaf Kind.UnknownIntPos v
 dyn (negsuc v) = leaf Kind.UnknownIntNeg v
 
 -- a Decimal, and a Datetime
-abbrev pub decimal : (precision scale : ℕ) → DataType
-decimal precision scale = leaf Kind.Decimal (256 * scale + precision)
+abbrev pub decimalLeaf : (precision scale : ℕ) → DataType
+decimalLeaf precision scale = leaf Kind.Decimal (256 * scale + precision)
 
-abbrev pub datetime : (zone unit : ℕ) → DataType
-datetime zone unit = leaf Kind.Datetime (4 * zone + unit)
+abbrev pub datetimeLeaf : (zone unit : ℕ) → DataType
+datetimeLeaf zone unit = leaf Kind.Datetime (4 * zone + unit)
 
 -- a Struct of one field, and of two, named from n on
 abbrev pub one : ℕ → DataType → DataType
@@ -82,7 +87,7 @@ abbrev pub two : ℕ → DataType → DataType → DataType
 two n t u = struct (field n t (field (n + 1) u empty))
 
 -- the check of the arrays of a tree
-abbrev pub check-type : DataType → Call
+abbrev pub check-type : DataType → FlatCall
 check-type t = check (kindsOf t) (argsOf t)
 
 -- the [P] cases, for any flags i (implode) and s (primitive to string) and any fields fs
@@ -92,52 +97,55 @@ corners i s fs =
     case 1 (supertype i s (dyn (pos 1)) (dyn (pos 300))) (joins (dyn (pos 1)))
     ∷ case 1 (supertype i s (dyn (pos 300)) (dyn (pos 1))) (joins (dyn (pos 300)))
     -- 2: flags off or on
-    ∷ case 2 (supertype i s (of Kind.UnknownAny) (of Kind.String)) (joins (of Kind.String))
-    ∷ case 2 (supertype i s (of Kind.String) (of Kind.UnknownAny)) (joins (of Kind.UnknownAny))
+    ∷ case 2 (supertype i s (lone Kind.UnknownAny) (lone Kind.String)) (joins (lone Kind.String))
+    ∷ case 2 (supertype i s (lone Kind.String) (lone Kind.UnknownAny)) (joins (lone Kind.UnknownAny))
     -- 3: primitive to string on, then off
-    ∷ case 3 (supertype i true (dyn (pos 5)) (of Kind.UnknownStr)) (joins (of Kind.UnknownAny))
-    ∷ case 3 (supertype i true (of Kind.UnknownStr) (dyn (pos 5))) (joins (of Kind.UnknownStr))
-    ∷ case 3 (supertype i false (dyn (pos 5)) (of Kind.UnknownStr)) (joins (of Kind.UnknownAny))
-    ∷ case 3 (supertype i false (of Kind.UnknownStr) (dyn (pos 5))) (joins (of Kind.UnknownAny))
+    ∷ case 3 (supertype i true (dyn (pos 5)) (lone Kind.UnknownStr)) (joins (lone Kind.UnknownAny))
+    ∷ case 3 (supertype i true (lone Kind.UnknownStr) (dyn (pos 5))) (joins (lone Kind.UnknownStr))
+    ∷ case 3 (supertype i false (dyn (pos 5)) (lone Kind.UnknownStr)) (joins (lone Kind.UnknownAny))
+    ∷ case 3 (supertype i false (lone Kind.UnknownStr) (dyn (pos 5))) (joins (lone Kind.UnknownAny))
     -- 4: the smallest-type helper answers Null below −2^63
-    ∷ case 4 (supertype i s (of Kind.UInt64) (dyn (negℤ (pos 1)))) (joins (of Kind.Int64))
-    ∷ case 4 (supertype i s (of Kind.UInt64) (dyn (negℤ (pos (2 ^ 63 + 1))))) (joins (of Kind.UInt64))
+    ∷ case 4 (supertype i s (lone Kind.UInt64) (dyn (negℤ (pos 1)))) (joins (lone Kind.Int64))
+    ∷ case 4 (supertype i s (lone Kind.UInt64) (dyn (negℤ (pos (2 ^ 63 + 1))))) (joins (lone Kind.UInt64))
     ∷ case 4 (smallest-dyn-int (negℤ (pos (2 ^ 63 + 1)))) (kind Kind.Null)
     -- 5
-    ∷ case 5 (supertype i s (of Kind.UInt128) (of Kind.Int8)) (joins (of Kind.Int128))
-    ∷ case 5 (lossless (of Kind.UInt128) (of Kind.Int8)) no-type
+    ∷ case 5 (supertype i s (lone Kind.UInt128) (lone Kind.Int8)) (joins (lone Kind.Int128))
+    ∷ case 5 (lossless (lone Kind.UInt128) (lone Kind.Int8)) no-type
     -- 7
-    ∷ case 7 (supertype i s (of Kind.Boolean) (of Kind.UnknownFloat)) (joins (of Kind.UnknownAny))
-    ∷ case 7 (supertype i s (of Kind.Date) (dyn (pos 5))) (joins (of Kind.UnknownAny))
+    ∷ case 7 (supertype i s (lone Kind.Boolean) (lone Kind.UnknownFloat)) (joins (lone Kind.UnknownAny))
+    ∷ case 7 (supertype i s (lone Kind.Date) (dyn (pos 5))) (joins (lone Kind.UnknownAny))
     -- 9
-    ∷ case 9 (supertype i s (of Kind.Int64) (dyn (pos (2 ^ 63 - 1)))) (joins (of Kind.Int64))
-    ∷ case 9 (supertype i s (of Kind.Int64) (dyn (pos (2 ^ 63)))) (joins (of Kind.Float64))
+    ∷ case 9 (supertype i s (lone Kind.Int64) (dyn (pos (2 ^ 63 - 1)))) (joins (lone Kind.Int64))
+    ∷ case 9 (supertype i s (lone Kind.Int64) (dyn (pos (2 ^ 63)))) (joins (lone Kind.Float64))
     -- 11: an empty Struct to any Struct; otherwise unequal lengths
     ∷ case 11 (can-cast (struct empty) (struct fs)) yes
-    ∷ case 11 (can-cast (one 1 (of Kind.Int8)) (struct empty)) no
-    ∷ case 11 (can-cast (one 1 (of Kind.Int8)) (two 5 (of Kind.String) (of Kind.Null))) no
-    ∷ case 11 (can-cast (two 1 (of Kind.Null) (of Kind.Int8)) (one 5 (of Kind.Null))) no
+    ∷ case 11 (can-cast (one 1 (lone Kind.Int8)) (struct empty)) no
+    ∷ case 11 (can-cast (one 1 (lone Kind.Int8)) (two 5 (lone Kind.String) (lone Kind.Null))) no
+    ∷ case 11 (can-cast (two 1 (lone Kind.Null) (lone Kind.Int8)) (one 5 (lone Kind.Null))) no
     -- 12: left to right, the first no or no verdict; names don't count
-    ∷ case 12 (can-cast (two 1 (of Kind.Boolean) (of Kind.Int8)) (two 5 (of Kind.Null) (of Kind.String))) no
-    ∷ case 12 (can-cast (two 1 (of Kind.Int8) (of Kind.Boolean)) (two 5 (of Kind.String) (of Kind.Null))) no-verdict
-    ∷ case 12 (can-cast (two 1 (of Kind.Boolean) (of Kind.Int8)) (two 5 (of Kind.String) (of Kind.Int64))) yes
+    ∷ case 12 (can-cast (two 1 (lone Kind.Boolean) (lone Kind.Int8)) (two 5 (lone Kind.Null) (lone Kind.String))) no
+    ∷ case 12 (can-cast (two 1 (lone Kind.Int8) (lone Kind.Boolean)) (two 5 (lone Kind.String) (lone Kind.Null)))
+    no-verdict
+    ∷ case 12 (can-cast (two 1 (lone Kind.Boolean) (lone Kind.Int8)) (two 5 (lone Kind.String) (lone Kind.Int64))) yes
     -- 14
-    ∷ case 14 (can-cast (of Kind.Boolean) (of Kind.Null)) no
-    ∷ case 14 (can-cast (of Kind.Null) (of Kind.Boolean)) yes
+    ∷ case 14 (can-cast (lone Kind.Boolean) (lone Kind.Null)) no
+    ∷ case 14 (can-cast (lone Kind.Null) (lone Kind.Boolean)) yes
     -- 15: the limits of dyn v, then the other unknown kinds; any is kept if allowed, else the whole call is refused
-    ∷ case 15 (materialize false (dyn (pos (2 ^ 31 - 1)))) (gives (of Kind.Int32))
-    ∷ case 15 (materialize false (dyn (pos (2 ^ 31)))) (gives (of Kind.Int64))
-    ∷ case 15 (materialize false (dyn (pos (2 ^ 63)))) (gives (of Kind.UInt64))
-    ∷ case 15 (materialize false (dyn (negℤ (pos (2 ^ 63 + 1))))) (gives (of Kind.Int128))
-    ∷ case 15 (materialize false (of Kind.UnknownFloat)) (gives (of Kind.Float64))
-    ∷ case 15 (materialize false (of Kind.UnknownStr)) (gives (of Kind.String))
-    ∷ case 15 (materialize true (of Kind.UnknownAny)) (gives (of Kind.UnknownAny))
-    ∷ case 15 (materialize false (of Kind.UnknownAny)) (refused-by 7)
-    ∷ case 15 (materialize true (two 1 (of Kind.UnknownStr) (of Kind.UnknownAny))) (gives (two 1 (of Kind.String) (of Kind.UnknownAny)))
-    ∷ case 15 (materialize false (two 1 (of Kind.UnknownStr) (of Kind.UnknownAny))) (refused-by 7)
+    ∷ case 15 (materialize false (dyn (pos (2 ^ 31 - 1)))) (gives (lone Kind.Int32))
+    ∷ case 15 (materialize false (dyn (pos (2 ^ 31)))) (gives (lone Kind.Int64))
+    ∷ case 15 (materialize false (dyn (pos (2 ^ 63)))) (gives (lone Kind.UInt64))
+    ∷ case 15 (materialize false (dyn (negℤ (pos (2 ^ 63 + 1))))) (gives (lone Kind.Int128))
+    ∷ case 15 (materialize false (lone Kind.UnknownFloat)) (gives (lone Kind.Float64))
+    ∷ case 15 (materialize false (lone Kind.UnknownStr)) (gives (lone Kind.String))
+    ∷ case 15 (materialize true (lone Kind.UnknownAny)) (gives (lone Kind.UnknownAny))
+    ∷ case 15 (materialize false (lone Kind.UnknownAny)) (refused-by 7)
+    ∷ case 15 (materialize true (two 1 (lone Kind.UnknownStr) (lone Kind.UnknownAny)))
+    (gives (two 1 (lone Kind.String) (lone Kind.UnknownAny)))
+    ∷ case 15 (materialize false (two 1 (lone Kind.UnknownStr) (lone Kind.UnknownAny))) (refused-by 7)
     -- 18: number and value of every answer, then the code that is left; 12 leaves the code that was held
-    ∷ case 18 (merge-all (of Kind.UInt64 ∷ of Kind.Int8 ∷ of Kind.UInt128 ∷ [])) (merged ((0, 5) ∷ (0, 11) ∷ (12, 0) ∷ []) 11)
-    ∷ case 18 (merge-all (of Kind.UInt128 ∷ of Kind.UInt8 ∷ [])) (merged ((0, 6) ∷ (0, 6) ∷ []) 6)
+    ∷ case 18 (merge-all (lone Kind.UInt64 ∷ lone Kind.Int8 ∷ lone Kind.UInt128 ∷ []))
+    (merged ((0, 5) ∷ (0, 11) ∷ (12, 0) ∷ []) 11)
+    ∷ case 18 (merge-all (lone Kind.UInt128 ∷ lone Kind.UInt8 ∷ [])) (merged ((0, 6) ∷ (0, 6) ∷ []) 6)
     ∷ []
 
 -- the table of refusals: calls for every number, and the nearest calls that are not refused
@@ -145,15 +153,15 @@ abbrev pub causes : Bool → Bool → List Case
 causes i s =
     -- 1: no node; one List over a Struct of 255 fields, and two; lengths that differ
     refusal 1 (check [] [])
-    ∷ passes (check-type (lists 1 (struct (fieldsOf 255 (of Kind.Int8)))))
-    ∷ refusal 1 (check-type (lists 2 (struct (fieldsOf 255 (of Kind.Int8)))))
+    ∷ not-refused (check-type (lists 1 (struct (fieldsOf 255 (lone Kind.Int8)))))
+    ∷ refusal 1 (check-type (lists 2 (struct (fieldsOf 255 (lone Kind.Int8)))))
     ∷ refusal 1 (check (Kind.Int8 ∷ []) [])
     ∷ refusal 1 (check (Kind.Int8 ∷ []) (0 ∷ 0 ∷ []))
     -- 1: a stored length under 2; no node; one byte less than 2 + 9 × n, as many, and one more
     ∷ refusal 1 (check-encoded (1 ∷ []))
     ∷ refusal 1 (check-encoded (0 ∷ 0 ∷ []))
     ∷ refusal 1 (check-encoded (1 ∷ 0 ∷ Kind.Int8 ∷ replicate 7 0))
-    ∷ passes (check-encoded (1 ∷ 0 ∷ Kind.Int8 ∷ replicate 8 0))
+    ∷ not-refused (check-encoded (1 ∷ 0 ∷ Kind.Int8 ∷ replicate 8 0))
     ∷ refusal 1 (check-encoded (1 ∷ 0 ∷ Kind.Int8 ∷ replicate 9 0))
     -- 2
     ∷ refusal 2 (check-type (leaf 32 0))
@@ -161,42 +169,42 @@ causes i s =
     ∷ refusal 3 (check-type (leaf Kind.Int8 1))
     -- 4: a field outside a Struct, no child, a node too many, a Struct's child that is no field
     ∷ refusal 4 (check-type (leaf 31 0))
-    ∷ refusal 4 (check-type (of Kind.List))
+    ∷ refusal 4 (check-type (lone Kind.List))
     ∷ refusal 4 (check (Kind.Int8 ∷ Kind.Int8 ∷ []) (0 ∷ 0 ∷ []))
     ∷ refusal 4 (check (Kind.Struct ∷ Kind.Int8 ∷ []) (1 ∷ 0 ∷ []))
     -- 5: 32 Lists over Int8, and 33
-    ∷ passes (check-type (lists 32 (of Kind.Int8)))
-    ∷ refusal 5 (check-type (lists 33 (of Kind.Int8)))
+    ∷ not-refused (check-type (lists 32 (lone Kind.Int8)))
+    ∷ refusal 5 (check-type (lists 33 (lone Kind.Int8)))
     -- 6: on either side
-    ∷ refusal 6 (get-supertype i s (list (of Kind.Int8)) (of Kind.Int8) 1)
-    ∷ refusal 6 (get-supertype i s (of Kind.Int8) (struct empty) 1)
+    ∷ refusal 6 (get-supertype i s (list (lone Kind.Int8)) (lone Kind.Int8) 1)
+    ∷ refusal 6 (get-supertype i s (lone Kind.Int8) (struct empty) 1)
     -- 7
-    ∷ refusal 7 (materialize-unknown false (list (of Kind.UnknownAny)) 2)
-    ∷ passes (materialize-unknown true (list (of Kind.UnknownAny)) 2)
+    ∷ refusal 7 (materialize-unknown false (list (lone Kind.UnknownAny)) 2)
+    ∷ not-refused (materialize-unknown true (list (lone Kind.UnknownAny)) 2)
     -- 8: room for one node less than the result has; a None needs no room
-    ∷ refusal 8 (get-supertype i s (of Kind.Int8) (of Kind.Int16) 0)
-    ∷ passes (get-supertype i s (of Kind.Int8) (of Kind.Int16) 1)
-    ∷ refusal 8 (materialize-unknown true (list (of Kind.UnknownAny)) 1)
-    ∷ passes (get-supertype i s (datetime 1 0) (datetime 2 0) 0)
+    ∷ refusal 8 (get-supertype i s (lone Kind.Int8) (lone Kind.Int16) 0)
+    ∷ not-refused (get-supertype i s (lone Kind.Int8) (lone Kind.Int16) 1)
+    ∷ refusal 8 (materialize-unknown true (list (lone Kind.UnknownAny)) 1)
+    ∷ not-refused (get-supertype i s (datetimeLeaf 1 0) (datetimeLeaf 2 0) 0)
     -- 9: channel 31, and channel 32
-    ∷ passes (merge 0 31 (of Kind.Int8))
-    ∷ refusal 9 (merge 0 32 (of Kind.Int8))
+    ∷ not-refused (merge 0 31 (lone Kind.Int8))
+    ∷ refusal 9 (merge 0 32 (lone Kind.Int8))
     -- 10: held codes at both ends of 2 to 11
-    ∷ refusal 10 (merge 1 0 (of Kind.Int8))
-    ∷ passes (merge 2 0 (of Kind.Int8))
-    ∷ passes (merge 11 0 (of Kind.Int8))
-    ∷ refusal 10 (merge 12 0 (of Kind.Int8))
+    ∷ refusal 10 (merge 1 0 (lone Kind.Int8))
+    ∷ not-refused (merge 2 0 (lone Kind.Int8))
+    ∷ not-refused (merge 11 0 (lone Kind.Int8))
+    ∷ refusal 10 (merge 12 0 (lone Kind.Int8))
     -- 11: offered codes at both ends of 2 to 11
     ∷ refusal 11 (merge 0 0 (leaf 1 0))
-    ∷ passes (merge 0 0 (leaf 2 0))
-    ∷ passes (merge 0 0 (leaf 11 0))
+    ∷ not-refused (merge 0 0 (leaf 2 0))
+    ∷ not-refused (merge 0 0 (leaf 11 0))
     ∷ refusal 11 (merge 0 0 (leaf 12 0))
     -- 12: unequal integers without an upcast, and equal ones
-    ∷ refusal 12 (merge Kind.Int8 0 (of Kind.UInt128))
-    ∷ passes (merge Kind.UInt128 0 (of Kind.UInt128))
+    ∷ refusal 12 (merge Kind.Int8 0 (lone Kind.UInt128))
+    ∷ not-refused (merge Kind.UInt128 0 (lone Kind.UInt128))
     -- 13: on either side
-    ∷ refusal 13 (get-supertype i s (decimal 10 2) (of Kind.Int8) 1)
-    ∷ refusal 13 (get-supertype i s (of Kind.UInt128) (decimal 10 2) 1)
+    ∷ refusal 13 (get-supertype i s (decimalLeaf 10 2) (lone Kind.Int8) 1)
+    ∷ refusal 13 (get-supertype i s (lone Kind.UInt128) (decimalLeaf 10 2) 1)
     ∷ []
 
 -- the order of refusals: the lowest number that applies
@@ -206,52 +214,53 @@ order i s =
     refusal 1 (check (32 ∷ []) [])
     ∷ refusal 2 (check (Kind.List ∷ 32 ∷ []) (1 ∷ 0 ∷ []))
     ∷ refusal 3 (check (31 ∷ Kind.Int8 ∷ []) (0 ∷ 1 ∷ []))
-    ∷ refusal 4 (check (kindsOf (lists 33 (of Kind.Int8)) ++ (Kind.Int8 ∷ [])) (argsOf (lists 33 (of Kind.Int8)) ++ (0 ∷ [])))
+    ∷ refusal 4 (let t = lists 33 (lone Kind.Int8) in check (kindsOf t ++ (Kind.Int8 ∷ [])) (argsOf t ++ (0 ∷ [])))
     -- the left type through 1 to 5, then the right, then the rest
-    ∷ refusal 5 (get-supertype i s (lists 33 (of Kind.Int8)) (leaf 32 0) 1)
-    ∷ refusal 4 (get-supertype i s (of Kind.Int8) (leaf 31 0) 1)
-    ∷ refusal 2 (get-supertype i s (list (of Kind.Int8)) (leaf 32 0) 1)
+    ∷ refusal 5 (get-supertype i s (lists 33 (lone Kind.Int8)) (leaf 32 0) 1)
+    ∷ refusal 4 (get-supertype i s (lone Kind.Int8) (leaf 31 0) 1)
+    ∷ refusal 2 (get-supertype i s (list (lone Kind.Int8)) (leaf 32 0) 1)
     -- 6, 7 and 13 where there is no room either: a refused call has no result
-    ∷ refusal 6 (get-supertype i s (list (of Kind.Int8)) (list (of Kind.Int8)) 0)
-    ∷ refusal 7 (materialize-unknown false (of Kind.UnknownAny) 0)
-    ∷ refusal 13 (get-supertype i s (decimal 10 2) (of Kind.Int8) 0)
+    ∷ refusal 6 (get-supertype i s (list (lone Kind.Int8)) (list (lone Kind.Int8)) 0)
+    ∷ refusal 7 (materialize-unknown false (lone Kind.UnknownAny) 0)
+    ∷ refusal 13 (get-supertype i s (decimalLeaf 10 2) (lone Kind.Int8) 0)
     -- in a merge 1 to 5, then 9, then 10, then 11
     ∷ refusal 2 (merge 0 32 (leaf 32 0))
-    ∷ refusal 9 (merge 1 32 (of Kind.Boolean))
-    ∷ refusal 10 (merge 1 0 (of Kind.Boolean))
+    ∷ refusal 9 (merge 1 32 (lone Kind.Boolean))
+    ∷ refusal 10 (merge 1 0 (lone Kind.Boolean))
     ∷ []
 
 -- the bounds of the arguments
 abbrev pub bounds : List Case
 bounds =
     -- precision 1 to 38, scale 0 to precision
-    refusal 3 (check-type (decimal 0 0))
-    ∷ passes (check-type (decimal 1 0))
-    ∷ passes (check-type (decimal 1 1))
-    ∷ refusal 3 (check-type (decimal 1 2))
-    ∷ passes (check-type (decimal 38 38))
-    ∷ refusal 3 (check-type (decimal 38 39))
-    ∷ refusal 3 (check-type (decimal 39 0))
+    refusal 3 (check-type (decimalLeaf 0 0))
+    ∷ not-refused (check-type (decimalLeaf 1 0))
+    ∷ not-refused (check-type (decimalLeaf 1 1))
+    ∷ refusal 3 (check-type (decimalLeaf 1 2))
+    ∷ not-refused (check-type (decimalLeaf 38 38))
+    ∷ refusal 3 (check-type (decimalLeaf 38 39))
+    ∷ refusal 3 (check-type (decimalLeaf 39 0))
     -- units 0 to 2, zone below 2^32
-    ∷ passes (check-type (datetime 0 2))
-    ∷ refusal 3 (check-type (datetime 0 3))
-    ∷ passes (check-type (datetime (2 ^ 32 - 1) 2))
-    ∷ refusal 3 (check-type (datetime (2 ^ 32) 0))
-    ∷ passes (check-type (leaf Kind.Duration 2))
+    ∷ not-refused (check-type (datetimeLeaf 0 2))
+    ∷ refusal 3 (check-type (datetimeLeaf 0 3))
+    ∷ not-refused (check-type (datetimeLeaf (2 ^ 32 - 1) 2))
+    ∷ refusal 3 (check-type (datetimeLeaf (2 ^ 32) 0))
+    ∷ not-refused (check-type (leaf Kind.Duration 2))
     ∷ refusal 3 (check-type (leaf Kind.Duration 3))
     -- 0 to 255 fields: with 255 the argument fits, and the fields are missing
-    ∷ passes (check-type (struct empty))
+    ∷ not-refused (check-type (struct empty))
     ∷ refusal 4 (check-type (leaf Kind.Struct 255))
     ∷ refusal 3 (check-type (leaf Kind.Struct 256))
     -- a name below 2^32
-    ∷ passes (check-type (one (2 ^ 32 - 1) (of Kind.Int8)))
-    ∷ refusal 3 (check-type (one (2 ^ 32) (of Kind.Int8)))
+    ∷ not-refused (check-type (one (2 ^ 32 - 1) (lone Kind.Int8)))
+    ∷ refusal 3 (check-type (one (2 ^ 32) (lone Kind.Int8)))
     -- any v and any width
-    ∷ passes (check-type (leaf Kind.UnknownIntPos (2 ^ 64 - 1)))
-    ∷ passes (check-type (leaf Kind.UnknownIntNeg (2 ^ 64 - 1)))
-    ∷ passes (check-type (array (2 ^ 64 - 1) (of Kind.Int8)))
+    ∷ not-refused (check-type (leaf Kind.UnknownIntPos (2 ^ 64 - 1)))
+    ∷ not-refused (check-type (leaf Kind.UnknownIntNeg (2 ^ 64 - 1)))
+    ∷ not-refused (check-type (array (2 ^ 64 - 1) (lone Kind.Int8)))
     -- all others have 0
-    ∷ map (λ (k : ℕ). refusal 3 (check-type (leaf k 1))) (0 ∷ 1 ∷ 2 ∷ 3 ∷ 4 ∷ 5 ∷ 6 ∷ 7 ∷ 8 ∷ 9 ∷ 10 ∷ 11 ∷ 12 ∷ 13 ∷ 14 ∷ 16 ∷ 17 ∷ 18 ∷ 19 ∷ 22 ∷ 23 ∷ 24 ∷ 25 ∷ 28 ∷ [])
+    ∷ map (λ (k : ℕ). refusal 3 (check-type (leaf k 1)))
+    (0 ∷ 1 ∷ 2 ∷ 3 ∷ 4 ∷ 5 ∷ 6 ∷ 7 ∷ 8 ∷ 9 ∷ 10 ∷ 11 ∷ 12 ∷ 13 ∷ 14 ∷ 16 ∷ 17 ∷ 18 ∷ 19 ∷ 22 ∷ 23 ∷ 24 ∷ 25 ∷ 28 ∷ [])
 
 -- the kinds, in the order of their codes
 abbrev pub kinds : List ℕ
@@ -297,11 +306,12 @@ sheet = 0x02 ∷ 0x00 ∷ 0x1C ∷ 0x08 ∷ replicate 16 0
 -- the codes of the kinds; a root by its number, kind and argument, and one that is refused; the stored sheet both ways
 abbrev pub sheets : List Case
 sheets =
-    stored (codes kinds) (numbers (0 ∷ 1 ∷ 2 ∷ 3 ∷ 4 ∷ 5 ∷ 6 ∷ 7 ∷ 8 ∷ 9 ∷ 10 ∷ 11 ∷ 12 ∷ 13 ∷ 14 ∷ 15 ∷ 16 ∷ 17 ∷ 18 ∷ 19 ∷ 20 ∷ 21 ∷ 22 ∷ 23 ∷ 24 ∷ 25 ∷ 26 ∷ 27 ∷ 28 ∷ 29 ∷ 30 ∷ 31 ∷ []))
-    ∷ stored (root (array (2 ^ 64 - 1) (of Kind.Int8))) (numbers (0 ∷ 29 ∷ (2 ^ 64 - 1) ∷ []))
-    ∷ stored (root (of Kind.Array)) (numbers (4 ∷ 0 ∷ 0 ∷ []))
-    ∷ stored (encoded (list (of Kind.Int16))) (numbers sheet)
-    ∷ stored (decoded sheet) (gives (list (of Kind.Int16)))
+    stored (codes kinds) (numbers (0 ∷ 1 ∷ 2 ∷ 3 ∷ 4 ∷ 5 ∷ 6 ∷ 7 ∷ 8 ∷ 9 ∷ 10 ∷ 11 ∷ 12 ∷ 13 ∷ 14 ∷ 15
+    ∷ 16 ∷ 17 ∷ 18 ∷ 19 ∷ 20 ∷ 21 ∷ 22 ∷ 23 ∷ 24 ∷ 25 ∷ 26 ∷ 27 ∷ 28 ∷ 29 ∷ 30 ∷ 31 ∷ []))
+    ∷ stored (root (array (2 ^ 64 - 1) (lone Kind.Int8))) (numbers (0 ∷ 29 ∷ (2 ^ 64 - 1) ∷ []))
+    ∷ stored (root (lone Kind.Array)) (numbers (4 ∷ 0 ∷ 0 ∷ []))
+    ∷ stored (encoded (list (lone Kind.Int16))) (numbers sheet)
+    ∷ stored (decoded sheet) (gives (list (lone Kind.Int16)))
     ∷ []
 
 -- the table, for any flags and any fields
@@ -312,4 +322,5 @@ table i s fs = corners i s fs ++ (causes i s ++ (order i s ++ (bounds ++ sheets)
 abbrev pub CasesHold : (nodes deep channels width : ℕ) → Type 0
 CasesHold nodes deep channels width =
     let l : Limits = record { nodes = nodes; deep = deep; channels = channels; width = width } in
-    (i s : Bool) (fs : Fields) → map (λ (c : Case). answer l (c .asked)) (table i s fs) ≡ map (λ (c : Case). c .answered) (table i s fs)
+    (i s : Bool) (fs : Fields)
+    → map (λ (c : Case). answerTo l (c .asked)) (table i s fs) ≡ map (λ (c : Case). c .answered) (table i s fs)

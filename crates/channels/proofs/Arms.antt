@@ -1,7 +1,6 @@
 -- The arms of a merge, each under the tests that lead to it. Assumes nothing.
-use mathlib.Core.List.{List}
-use mathlib.Core.Path.{_≡_, refl, sym, ap, _∙_}
-use mathlib.Core.Bool.{Bool, true, false, _||_}
+use mathlib.Core.Path.{_≡_, refl, ap, _∙_}
+use mathlib.Core.Bool.{true, false, _||_}
 use Prim.Native.Nat.{ℕ, _≤_, _<_}
 use lib.Dec.{eqb}
 use lib.ListN.{getD}
@@ -26,24 +25,28 @@ module _ (h k : ℕ) where
   unfolding mergedWith
   bad-code p = rw p
 
-  module _ (p : eqb h 0 || isListed h ≡ true) where
-    pub not-integer : isListed k ≡ false → Refused NotInteger ≡ mergedWith h k
+  pub not-integer : eqb h 0 || isListed h ≡ true → isListed k ≡ false → Refused NotInteger ≡ mergedWith h k
+  unfolding mergedWith
+  not-integer p q = rw (p, q)
+
+-- a kind k offered to a channel that holds h, which neither 10 nor 11 refuses
+pub record Taken (h k : ℕ) : Type 0 where
+  pub code : eqb h 0 || isListed h ≡ true
+  pub integer : isListed k ≡ true
+
+module _ {h k : ℕ} (w : Taken h k) where
+  pub first : h ≡ 0 → Held k ≡ mergedWith h k
+  unfolding mergedWith
+  first e = rw (w .code, w .integer, eq-eqb h 0 e)
+
+  module _ (n : h ≡ 0 → ⊥) where
+    pub equal : h ≡ k → Held h ≡ mergedWith h k
     unfolding mergedWith
-    not-integer q = rw (p, q)
+    equal e = rw (w .code, w .integer, ne-eqb h 0 n, eq-eqb h k e)
 
-    module _ (q : isListed k ≡ true) where
-      pub first : h ≡ 0 → Held k ≡ mergedWith h k
-      unfolding mergedWith
-      first e = rw (p, q, eq-eqb h 0 e)
-
-      module _ (n : h ≡ 0 → ⊥) where
-        pub equal : h ≡ k → Held h ≡ mergedWith h k
-        unfolding mergedWith
-        equal e = rw (p, q, ne-eqb h 0 n, eq-eqb h k e)
-
-        pub upcast : (h ≡ k → ⊥) → upcastHeld (upcastOf h k) ≡ mergedWith h k
-        unfolding mergedWith
-        upcast d = rw (p, q, ne-eqb h 0 n, ne-eqb h k d)
+    pub upcast : (h ≡ k → ⊥) → upcastHeld (upcastOf h k) ≡ mergedWith h k
+    unfolding mergedWith
+    upcast d = rw (w .code, w .integer, ne-eqb h 0 n, ne-eqb h k d)
 
 -- ---- a merge
 
@@ -53,9 +56,10 @@ module _ (n : ℕ) (s : ChannelTypes) (ch : ℕ) where
   unfolding outcomeOf
   told r e = ap (outcomeWith s ch) e
 
-  -- of a column told by its root
+  -- a column told by its root
   module _ {column : Root} where
-    pub refused-column : {e : Error} → column ≡ Root.Refused e → outcomeWith s ch (Refused e) ≡ outcomeOf n s ch (rootReading column)
+    pub refused-column : {e : Error} → column ≡ Root.Refused e
+        → outcomeWith s ch (Refused e) ≡ outcomeOf n s ch (rootReading column)
     unfolding mergedOf
     refused-column c = told (rootReading column) (rw c)
 
@@ -64,7 +68,8 @@ module _ (n : ℕ) (s : ChannelTypes) (ch : ℕ) where
       unfolding mergedOf headKind
       no-channel h = told (rootReading column) (rw (c, le-ltb ch n h))
 
-      pub on-channel : {m : Merged} → ch < n → m ≡ mergedWith (getD (s .codes) ch 0) k → outcomeWith s ch m ≡ outcomeOf n s ch (rootReading column)
+      pub on-channel : {m : Merged} → ch < n → m ≡ mergedWith (getD (s .codes) ch 0) k
+          → outcomeWith s ch m ≡ outcomeOf n s ch (rootReading column)
       unfolding mergedOf headKind
       on-channel h e = told (rootReading column) (rw (c, lt-ltb ch n h) e)
 
@@ -74,5 +79,6 @@ module _ (n : ℕ) (s : ChannelTypes) (ch : ℕ) where
   of-root (refused e) = refl
   of-root (type t) = refl
 
-  pub by-root : (r : Reading) {column : Root} {o : Outcome} → column ≡ rootOf r → o ≡ outcomeOf n s ch (rootReading column) → o ≡ outcomeOf n s ch r
+  pub by-root : (r : Reading) {column : Root} {o : Outcome} → column ≡ rootOf r
+      → o ≡ outcomeOf n s ch (rootReading column) → o ≡ outcomeOf n s ch r
   by-root r e m = m ∙ ap (λ (c : Root). outcomeOf n s ch (rootReading c)) e ∙ of-root r

@@ -1,7 +1,8 @@
--- The merges meet the definitions, their contracts are the step of a run, and the rule holds of every list of them. What other crates' proofs cite is `pub`.
+-- The merges meet the definitions, their contracts are the step of a run, and the rule holds of every list of them.
+-- What other crates' proofs cite is `pub`.
 pub mod Arms
 mod Contracts
 mod Pages
 mod Models
-pub mod Rule
+mod Rule
 mod Worked

@@ -1,5 +1,5 @@
--- The codes and the model: every merge has the model's answer and leaves each code where its channel stands; there is one model, and its pages are the types
--- accepted. Assumes nothing.
+-- The codes and the model: every merge has the model's answer and leaves each code where its channel stands; there is
+-- one model, and its pages are the types accepted. Assumes nothing.
 use mathlib.Core.Path.{_≡_, refl, sym, ap, _∙_}
 use mathlib.Core.Bool.{Bool, true, false, cond}
 use mathlib.Core.Logic.{_↔_}
@@ -15,13 +15,15 @@ use Rattle.flat.specs.Tree.{DataType, headKind}
 use Rattle.flat.specs.Reading.{Reading, refused, type}
 use Rattle.flat.specs.declared.error.Error.{Error}
 use Rattle.flat.specs.declared.error.Error.the-variants.{Channel, NoUpcast}
+use Rattle.flat.proofs.Truths.{impossible}
 use Rattle.supertype_numbers.specs.Range.{Listed, Least, Room}
 use Rattle.supertype_numbers.proofs.Ranges.{least-one}
 use Rattle.channels.specs.declared.ChannelTypes.{ChannelTypes}
 use Rattle.channels.specs.declared.Merged.{Merged}
 use Rattle.channels.specs.declared.Merged.the-variants.{Held, Refused}
 use Rattle.channels.specs.Merge.{mergeUnless, mergedWith, mergedOf, codesAfter, started, outcomeOf}
-use Rattle.channels.specs.Model.{Merge, Model, blank, pageWith, numbered, StandsWhere, Stands, Enters, not-a-type, no-channel, not-integer, accepted, no-room, Feeds}
+use Rattle.channels.specs.Model.{Merge, Model, blank, pageWith, numbered, StandsWhere, Stands, Enters, not-a-type}
+use Rattle.channels.specs.Model.{no-channel, not-integer, accepted, no-room, Feeds}
 use Rattle.channels.specs.Rule
 use Rattle.channels.specs.Rule.{Run, kindIn, AllListed}
 use Rattle.channels.proofs.Pages.{Answered, answered, stands-joined}
@@ -39,27 +41,39 @@ Step channels b channel column a codes = (b′ : Model) × Enters channels b cha
 
 module _ {channels : ℕ} {b : Model} {codes : List ℕ} (g : Follow channels b codes) (channel : ℕ) where
   -- an accepted type joins its channel's page, and the other channels stand where they stood
-  joined : (k c : ℕ) → channel < channels → Listed k → Least c (k ∷ b channel) → Follow channels (pageWith b channel k) (set codes channel c)
-  joined k c l w m = record { size = length-set codes channel c ∙ g .size; stands = λ i h. go i h (ℕ-discrete channel i) }
+  joined : (k c : ℕ) → channel < channels → Listed k → Least c (k ∷ b channel)
+      → Follow channels (pageWith b channel k) (set codes channel c)
+  joined k c l w m =
+      record { size = length-set codes channel c ∙ g .size; stands = λ i h. go i h (ℕ-discrete channel i) }
     where
       go : (i : ℕ) → i < channels → Dec (channel ≡ i) → Stands (pageWith b channel k i) (getD (set codes channel c) i 0)
-      go i h (yes e) = rw (eq-eqb channel i e, ← e, getD-set-same codes channel c 0 (rw (g .size) l)) (stands-joined k c (b channel) w m)
+      go i h (yes e) =
+          rw (eq-eqb channel i e, ← e, getD-set-same codes channel c 0 (rw (g .size) l))
+          (stands-joined k c (b channel) w m)
       go i h (no n) = rw (ne-eqb channel i n, getD-set-other codes channel i c 0 (λ e. n (sym e))) (g .stands i h)
 
   -- what the page calls for is what the model does
-  on-page : (t : DataType) {a : Merged} → channel < channels → Answered (b channel) (headKind t) a → Step channels b channel (type t) a (codesAfter codes channel a)
+  on-page : (t : DataType) {a : Merged} → channel < channels → Answered (b channel) (headKind t) a
+      → Step channels b channel (type t) a (codesAfter codes channel a)
   on-page t l (Answered.not-integer n) = (b, not-integer l n, g)
-  on-page t l (Answered.accepted {c = c} i m) = (pageWith b channel (headKind t), accepted l i (c, m .is-listed, m .covers) (stands-joined (headKind t) c (b channel) i m), joined (headKind t) c l i m)
+  on-page t l (Answered.accepted {c = c} i m) =
+      (pageWith b channel (headKind t), accepted l i (c, m .is-listed, m .covers) (stands-joined (headKind t) c (b channel) i m), joined (headKind t) c l i m)
   on-page t l (Answered.no-room i n) = (b, no-room l i n, g)
 
-  step : (column : Reading) → Step channels b channel column (mergedOf channels codes channel column) (codesAfter codes channel (mergedOf channels codes channel column))
+  step : (column : Reading)
+      → Step channels b channel column (mergedOf channels codes channel column)
+      (codesAfter codes channel (mergedOf channels codes channel column))
   unfolding mergedOf
   step (refused e) = (b, not-a-type, g)
   step (type t) = go (ltb channel channels) refl
     where
-      go : (x : Bool) → ltb channel channels ≡ x → (let a = mergeUnless x Channel (mergedWith (getD codes channel 0) (headKind t)) in Step channels b channel (type t) a (codesAfter codes channel a))
+      go : (x : Bool) → ltb channel channels ≡ x
+          → (let a = mergeUnless x Channel (mergedWith (getD codes channel 0) (headKind t)) in
+          Step channels b channel (type t) a (codesAfter codes channel a))
       go false e = (b, no-channel (ltb-false channel channels e), g)
-      go true e = let l = ltb-true channel channels e in on-page t l (answered (b channel) (getD codes channel 0) (headKind t) (g .stands channel l))
+      go true e =
+          let l = ltb-true channel channels e in
+          on-page t l (answered (b channel) (getD codes channel 0) (headKind t) (g .stands channel l))
 
 -- ---- the answer to a column, and what it does to the model
 
@@ -72,7 +86,8 @@ stands-one page {c} {d} = go (numbered page)
     go true p q = least-one p q
 
 -- there is one answer
-one-answer : {channels : ℕ} {b b₁ b₂ : Model} {channel : ℕ} {column : Reading} {a₁ a₂ : Merged} → Enters channels b channel column a₁ b₁ → Enters channels b channel column a₂ b₂ → a₁ ≡ a₂
+one-answer : {channels : ℕ} {b b₁ b₂ : Model} {channel : ℕ} {column : Reading} {a₁ a₂ : Merged}
+    → Enters channels b channel column a₁ b₁ → Enters channels b channel column a₂ b₂ → a₁ ≡ a₂
 one-answer not-a-type not-a-type = refl
 one-answer (no-channel h) (no-channel h′) = refl
 one-answer (no-channel h) (not-integer l n) = absurd (omega arith)
@@ -84,19 +99,21 @@ one-answer (not-integer l n) (accepted l′ i r m) = absurd (n i)
 one-answer (not-integer l n) (no-room l′ i n′) = absurd (n i)
 one-answer (accepted l i r m) (no-channel h) = absurd (omega arith)
 one-answer (accepted l i r m) (not-integer l′ n) = absurd (n i)
-one-answer {b = b} {channel = channel} (accepted {t = t} l i r m) (accepted l′ i′ r′ m′) = ap Held (stands-one (headKind t ∷ b channel) m m′)
+one-answer {b = b} {channel = channel} (accepted {t = t} l i r m) (accepted l′ i′ r′ m′) =
+    ap Held (stands-one (headKind t ∷ b channel) m m′)
 one-answer (accepted l i r m) (no-room l′ i′ n) = absurd (n r)
 one-answer (no-room l i n) (no-channel h) = absurd (omega arith)
 one-answer (no-room l i n) (not-integer l′ n′) = absurd (n′ i)
 one-answer (no-room l i n) (accepted l′ i′ r m) = absurd (n r)
 one-answer (no-room l i n) (no-room l′ i′ n′) = refl
 
--- and it settles the model afterwards
+-- the answer settles the model afterwards
 abbrev modelAfter : Model → ℕ → Reading → Merged → Model
 modelAfter b channel column (Held c) = pageWith b channel (kindIn column)
 modelAfter b channel column (Refused e) = b
 
-enters-after : {channels : ℕ} {b b′ : Model} {channel : ℕ} {column : Reading} {a : Merged} → Enters channels b channel column a b′ → b′ ≡ modelAfter b channel column a
+enters-after : {channels : ℕ} {b b′ : Model} {channel : ℕ} {column : Reading} {a : Merged}
+    → Enters channels b channel column a b′ → b′ ≡ modelAfter b channel column a
 enters-after not-a-type = refl
 enters-after (no-channel h) = refl
 enters-after (not-integer l n) = refl
@@ -104,7 +121,8 @@ enters-after (accepted l i r m) = refl
 enters-after (no-room l i n) = refl
 
 -- the types on a page are listed
-enters-listed : {channels : ℕ} {b b′ : Model} {channel : ℕ} {column : Reading} {a : Merged} → Enters channels b channel column a b′ → (ch : ℕ) → AllListed (b ch) → AllListed (b′ ch)
+enters-listed : {channels : ℕ} {b b′ : Model} {channel : ℕ} {column : Reading} {a : Merged}
+    → Enters channels b channel column a b′ → (ch : ℕ) → AllListed (b ch) → AllListed (b′ ch)
 enters-listed not-a-type ch h = h
 enters-listed (no-channel l) ch h = h
 enters-listed (not-integer l n) ch h = h
@@ -115,37 +133,33 @@ enters-listed {b = b} {channel = channel} (accepted {t = t} l i r m) ch h = go (
     go false = h
 enters-listed (no-room l i n) ch h = h
 
--- an answer told apart by a number, and by its refusal
-abbrev heldOne : Merged → ℕ
-heldOne (Held c) = 0
-heldOne (Refused e) = 1
-
-abbrev errorIn : Merged → Error
-errorIn (Held c) = NoUpcast
-errorIn (Refused e) = e
-
 -- a listed type for one of the channels is refused exactly where there is no room, and by 12 alone
-pub refused-where : {channels : ℕ} {b b′ : Model} {channel : ℕ} {t : DataType} {a : Merged} → Enters channels b channel (type t) a b′ → channel < channels → Listed (headKind t)
+pub refused-where : {channels : ℕ} {b b′ : Model} {channel : ℕ} {t : DataType} {a : Merged}
+    → Enters channels b channel (type t) a b′ → channel < channels → Listed (headKind t)
     → ((a ≡ Refused NoUpcast) ↔ (Room (headKind t ∷ b channel) → ⊥)) × ((e : Error) → a ≡ Refused e → e ≡ NoUpcast)
 refused-where (no-channel h) l i = absurd (omega arith)
 refused-where (not-integer l′ n) l i = absurd (n i)
-refused-where (accepted l′ i′ r m) l i = (((λ x. absurd (let y : _≡_ {A = ℕ} 0 1 = ap heldOne x in omega arith)), (λ n. absurd (n r))), λ e x. sym (ap errorIn x))
-refused-where (no-room l′ i′ n) l i = (((λ x. n), (λ n′. refl)), λ e x. sym (ap errorIn x))
+refused-where (accepted l′ i′ r m) l i = (((λ x. impossible cc), (λ n. absurd (n r))), λ e x. impossible cc)
+refused-where (no-room l′ i′ n) l i = (((λ x. n), (λ n′. refl)), λ e x. cc)
 
 -- ---- a list of merges
 
 module _ {channels : ℕ} where
   -- the model that is fed the merges of a run gives its answers, and the codes follow it
-  pub by-model : {ms : List Merge} {xs : List Merged} {s : ChannelTypes} → Run channels (started channels) ms xs s → (b : Model) × Feeds channels ms xs b × Follow channels b (s .codes)
+  pub by-model : {ms : List Merge} {xs : List Merged} {s : ChannelTypes} → Run channels (started channels) ms xs s
+      → (b : Model) × Feeds channels ms xs b × Follow channels b (s .codes)
   unfolding outcomeOf
-  by-model Run.none = (blank, Feeds.none, record { size = length-replicate channels 0; stands = λ ch l. getD-replicate channels ch 0 0 l })
+  by-model Run.none =
+      (blank, Feeds.none, record { size = length-replicate channels 0; stands = λ ch l. getD-replicate channels ch 0 0 l })
   by-model (Run.next {m = m} {o = o} r h) =
       let f = by-model r in
-      let e : Step channels (f .0) (m .channel) (m .column) (o .answer) (o .types .codes) = rw h (step (f .2) (m .channel) (m .column)) in
+      let e : Step channels (f .0) (m .channel) (m .column) (o .answer) (o .types .codes) = rw h
+      (step (f .2) (m .channel) (m .column)) in
       (e .0, Feeds.next (f .1) (e .1), e .2)
 
   -- the merges settle the answers and the model
-  pub one-model : {ms : List Merge} {xs ys : List Merged} {b b′ : Model} → Feeds channels ms xs b → Feeds channels ms ys b′ → (xs ≡ ys) × (b ≡ b′)
+  pub one-model : {ms : List Merge} {xs ys : List Merged} {b b′ : Model} → Feeds channels ms xs b
+      → Feeds channels ms ys b′ → (xs ≡ ys) × (b ≡ b′)
   one-model Feeds.none Feeds.none = (refl, refl)
   one-model (Feeds.next f e) (Feeds.next f′ e′) =
       let same = one-model f f′ in
@@ -153,12 +167,14 @@ module _ {channels : ℕ} where
       (cc, cc (enters-after e, enters-after e′))
 
   -- a channel's page is the types accepted there
-  pub pages : {ms : List Merge} {xs : List Merged} {b : Model} → Feeds channels ms xs b → (ch : ℕ) → b ch ≡ Rule.accepted ch ms xs
+  pub pages : {ms : List Merge} {xs : List Merged} {b : Model} → Feeds channels ms xs b → (ch : ℕ)
+      → b ch ≡ Rule.accepted ch ms xs
   pages Feeds.none ch = refl
   pages (Feeds.next {a = Refused x} f e) ch = rw (enters-after e) (pages f ch)
   pages (Feeds.next {a = Held c} f e) ch = rw (enters-after e, pages f ch)
 
-  -- and all of them are listed
-  pub all-listed : {ms : List Merge} {xs : List Merged} {b : Model} → Feeds channels ms xs b → (ch : ℕ) → AllListed (b ch)
+  -- all types on a page are listed
+  pub all-listed : {ms : List Merge} {xs : List Merged} {b : Model} → Feeds channels ms xs b → (ch : ℕ)
+      → AllListed (b ch)
   all-listed Feeds.none ch = tt
   all-listed (Feeds.next f e) ch = enters-listed e ch (all-listed f ch)

@@ -1,15 +1,16 @@
--- A merge into one channel: where the channel stands by its page, its answer is the one that the page calls for. Assumes nothing.
+-- A merge into one channel: where the channel stands by its page, its answer is the one that the page calls for.
+-- Assumes nothing.
 use mathlib.Core.Path.{_≡_, refl, sym, subst}
 use mathlib.Core.Bool.{Bool, true, false, cond, _||_}
 use mathlib.Core.List.{List, [], _∷_}
 use Prim.Native.Nat.{ℕ}
 use native.Mathlib.Omega.{arith}
-use lib.Dec.{T, eqb}
-use borrow.Author.Tests.{le-leb, ne-eqb, eqb-true, eqb-false}
-use Rattle.flat.specs.Kind
+use lib.Dec.{eqb}
+use borrow.Author.Tests.{ne-eqb, eqb-true, eqb-false}
 use Rattle.flat.specs.declared.error.Error.the-variants.{NotInteger, NoUpcast}
+use Rattle.flat.proofs.Truths.{never}
 use Rattle.supertype_numbers.specs.Range.{Listed, isListed, Includes, Covers, Least, Room}
-use Rattle.supertype_numbers.proofs.Tests.{to-listed, of-listed}
+use Rattle.supertype_numbers.proofs.Tests.{listed, is-listed, not-listed}
 use Rattle.supertype_lossless.specs.Lossless.{upcastOf}
 use Rattle.supertype_lossless.specs.declared.upcast.Upcast.{Upcast}
 use Rattle.supertype_lossless.specs.declared.upcast.Upcast.the-variants.{To, Nothing}
@@ -25,18 +26,6 @@ pub data Answered (page : List ℕ) (k : ℕ) : Merged → Type 0 where
   accepted : {c : ℕ} → Listed k → Least c (k ∷ page) → Answered page k (Held c)
   no-room : Listed k → ¬ Room (k ∷ page) → Answered page k (Refused NoUpcast)
 
--- ---- what the test of a listed kind says
-
-listed : {k : ℕ} → isListed k ≡ true → Listed k
-listed {k} e = to-listed k (subst T (sym e) tt)
-
-not-listed : {k : ℕ} → isListed k ≡ false → ¬ Listed k
-not-listed {k} e l = subst T e (of-listed k l)
-
-is-listed-true : (k : ℕ) → Listed k → isListed k ≡ true
-unfolding isListed
-is-listed-true k l = rw (le-leb Kind.UInt8 k (l .0), le-leb k Kind.Int128 (l .1))
-
 -- ---- an empty channel
 
 -- a page without a number is included in every type
@@ -44,13 +33,15 @@ pub covers-none : (t : ℕ) (page : List ℕ) → numbered page ≡ false → Co
 covers-none t [] e = tt
 covers-none t (k ∷ ks) e = go (isListed k) refl (λ h. covers-none t ks h) e
   where
-    go : (a : Bool) → isListed k ≡ a → (numbered ks ≡ false → Covers t ks) → (a || numbered ks) ≡ false → Covers t (k ∷ ks)
-    go true f rest h = absurd (subst T h tt)
+    go : (a : Bool) → isListed k ≡ a → (numbered ks ≡ false → Covers t ks) → (a || numbered ks) ≡ false
+        → Covers t (k ∷ ks)
+    go true f rest h = never (sym h)
     go false f rest h = ((λ z i. absurd (not-listed f (i .0))), rest h)
 
 -- a listed type is the least over itself and such a page
 least-itself : {k : ℕ} (page : List ℕ) → numbered page ≡ false → Listed k → Least k (k ∷ page)
-least-itself {k} page e l = record { is-listed = l; covers = ((λ z h. h), covers-none k page e); innermost = λ u i c. c .0 }
+least-itself {k} page e l =
+    record { is-listed = l; covers = ((λ z h. h), covers-none k page e); innermost = λ u i c. c .0 }
 
 on-empty : (page : List ℕ) → numbered page ≡ false → (k : ℕ) → Answered page k (mergedWith 0 k)
 unfolding mergedWith
@@ -70,7 +61,12 @@ covers-all u t (k ∷ ks) i c = ((λ z h. i z (c .0 z h)), covers-all u t ks i (
 module _ {page : List ℕ} {held : ℕ} (m : Least held page) (k : ℕ) where
   -- when it is offered once more, it stays the least
   held-again : held ≡ k → Least held (k ∷ page)
-  held-again e = record { is-listed = m .is-listed; covers = (subst (Includes held) e (λ z h. h), m .covers); innermost = λ u i c. m .innermost u i (c .1) }
+  held-again e =
+      record {
+        is-listed = m .is-listed;
+        covers = (subst (Includes held) e (λ z h. h), m .covers);
+        innermost = λ u i c. m .innermost u i (c .1);
+      }
 
   -- a listed type includes the page exactly where it includes the held type
   with-held : {u : ℕ} → Listed u → Covers u (k ∷ page) → Covers u (held ∷ k ∷ [])
@@ -79,19 +75,32 @@ module _ {page : List ℕ} {held : ℕ} (m : Least held page) (k : ℕ) where
   with-page : {u : ℕ} → Covers u (held ∷ k ∷ []) → Covers u (k ∷ page)
   with-page {u} c = (c .1 .0, covers-all u held page (c .0) (m .covers))
 
-  -- so that the least over the two is the least over the page and k
+  -- the least over the held type and k is the least over the page and k
   least-joined : {c : ℕ} → Least c (held ∷ k ∷ []) → Least c (k ∷ page)
-  least-joined {c} n = record { is-listed = n .is-listed; covers = with-page (n .covers); innermost = λ u i o. n .innermost u i (with-held i o) }
+  least-joined {c} n =
+      record {
+        is-listed = n .is-listed;
+        covers = with-page (n .covers);
+        innermost = λ u i o. n .innermost u i (with-held i o);
+      }
 
   on-held : Answered page k (mergedWith held k)
   unfolding mergedWith
-  on-held = rw (ne-eqb held 0 (omega arith), is-listed-true held (m .is-listed)) (go (isListed k) (eqb held k) (upcastOf held k) refl refl refl)
+  on-held =
+      rw (ne-eqb held 0 (omega arith), is-listed (m .is-listed))
+      (go (isListed k) (eqb held k) (upcastOf held k) refl refl refl)
     where
-      go : (a b : Bool) (u : Upcast) → isListed k ≡ a → eqb held k ≡ b → upcastOf held k ≡ u → Answered page k (mergeUnless a NotInteger (cond b (Held held) (upcastHeld u)))
+      go : (a b : Bool) (u : Upcast) → isListed k ≡ a → eqb held k ≡ b → upcastOf held k ≡ u
+          → Answered page k (mergeUnless a NotInteger (cond b (Held held) (upcastHeld u)))
       go false b u e f g = not-integer (not-listed e)
       go true true u e f g = accepted (listed e) (held-again (eqb-true held k f))
-      go true false (To c) e f g = accepted (listed e) (least-joined (lossless-laws .least held k (m .is-listed) (listed e) (eqb-false held k f) c .0 g))
-      go true false Nothing e f g = no-room (listed e) (λ r. lossless-laws .none held k (m .is-listed) (listed e) (eqb-false held k f) .0 g (r .0, r .1, with-held (r .1) (r .2)))
+      go true false (To c) e f g =
+          accepted (listed e)
+          (least-joined (lossless-laws .least held k (m .is-listed) (listed e) (eqb-false held k f) c .0 g))
+      go true false Nothing e f g =
+          no-room (listed e)
+          (λ r. lossless-laws .none held k (m .is-listed) (listed e) (eqb-false held k f) .0 g
+          (r .0, r .1, with-held (r .1) (r .2)))
 
 pub answered : (page : List ℕ) (held k : ℕ) → Stands page held → Answered page k (mergedWith held k)
 answered page held k = go (numbered page) refl
@@ -100,10 +109,10 @@ answered page held k = go (numbered page) refl
     go false e s = rw s (on-empty page e k)
     go true e s = on-held s k
 
--- where it stands once a listed type has joined
+-- where a channel stands once a listed type has joined its page
 pub stands-joined : (k c : ℕ) (page : List ℕ) → Listed k → Least c (k ∷ page) → Stands (k ∷ page) c
-stands-joined k c page l m = rw (is-listed-true k l) m
+stands-joined k c page l m = rw (is-listed l) m
 
--- and such a page stands at the least
+-- a page that a listed type has joined stands at the least
 pub least-on : (c k : ℕ) (ks : List ℕ) → Listed k → Stands (k ∷ ks) c → Least c (k ∷ ks)
-least-on c k ks l s = rw (is-listed-true k l) at s
+least-on c k ks l s = rw (is-listed l) at s

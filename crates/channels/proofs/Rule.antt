@@ -29,7 +29,7 @@ use Rattle.channels.proofs.Models.{by-model, one-model, pages, all-list
 -- ---- what a merge leaves, whatever the codes are
 
 module _ (codes : List ℕ) (channel : ℕ) where
-  -- as many codes, and those of the other channels
+  -- there are as many codes as before, and those of the other channels are as they were
   after-length : (a : Merged) → length (codesAfter codes channel a) ≡ length codes
   after-length (Held c) = length-set codes channel c
   after-length (Refused e) = refl
@@ -44,38 +44,47 @@ codeAfter held (Held c) = c
 codeAfter held (Refused e) = held
 
 module _ (channels : ℕ) where
-  after-own : (codes : List ℕ) (channel : ℕ) (column : Reading) → length codes ≡ channels → getD (codesAfter codes channel (mergedOf channels codes channel column)) channel 0 ≡ codeAfter (getD codes channel 0) (mergedOf channels codes channel column)
+  after-own : (codes : List ℕ) (channel : ℕ) (column : Reading) → length codes ≡ channels
+      → getD (codesAfter codes channel (mergedOf channels codes channel column)) channel 0
+      ≡ codeAfter (getD codes channel 0) (mergedOf channels codes channel column)
   unfolding mergedOf
   after-own codes channel (refused e) n = refl
   after-own codes channel (type t) n = go (ltb channel channels) refl (mergedWith (getD codes channel 0) (headKind t))
     where
-      go : (x : Bool) → ltb channel channels ≡ x → (a : Merged) → getD (codesAfter codes channel (mergeUnless x Channel a)) channel 0 ≡ codeAfter (getD codes channel 0) (mergeUnless x Channel a)
+      go : (x : Bool) → ltb channel channels ≡ x → (a : Merged)
+          → getD (codesAfter codes channel (mergeUnless x Channel a)) channel 0
+          ≡ codeAfter (getD codes channel 0) (mergeUnless x Channel a)
       go false e a = refl
       go true e (Held c) = getD-set-same codes channel c 0 (rw n (ltb-true channel channels e))
       go true e (Refused x) = refl
 
   -- the answer rests on the channel's own code
-  same-answer : (x y : List ℕ) (channel : ℕ) (column : Reading) → getD x channel 0 ≡ getD y channel 0 → mergedOf channels x channel column ≡ mergedOf channels y channel column
+  same-answer : (x y : List ℕ) (channel : ℕ) (column : Reading) → getD x channel 0 ≡ getD y channel 0
+      → mergedOf channels x channel column ≡ mergedOf channels y channel column
   unfolding mergedOf
   same-answer x y channel (refused e) h = refl
   same-answer x y channel (type t) h = rw h
 
--- the same of a merge
-module _ (channels : ℕ) (s : ChannelTypes) (m : Merge) {o : Outcome} (h : o ≡ outcomeOf channels s (m .channel) (m .column)) where
+-- what a merge leaves, by its outcome
+module _ (channels : ℕ) (s : ChannelTypes) (m : Merge) {o : Outcome}
+    (h : o ≡ outcomeOf channels s (m .channel) (m .column)) where
   keeps-length : length (o .types .codes) ≡ length (s .codes)
   unfolding outcomeOf
   keeps-length = rw h (after-length (s .codes) (m .channel) (mergedOf channels (s .codes) (m .channel) (m .column)))
 
   keeps-other : (ch : ℕ) → (ch ≡ m .channel → ⊥) → codeAt (o .types) ch ≡ codeAt s ch
   unfolding outcomeOf
-  keeps-other ch n = rw h (after-other (s .codes) (m .channel) (mergedOf channels (s .codes) (m .channel) (m .column)) ch n)
+  keeps-other ch n =
+      rw h (after-other (s .codes) (m .channel) (mergedOf channels (s .codes) (m .channel) (m .column)) ch n)
 
-  own-code : length (s .codes) ≡ channels → codeAt (o .types) (m .channel) ≡ codeAfter (codeAt s (m .channel)) (o .answer)
+  own-code : length (s .codes) ≡ channels
+      → codeAt (o .types) (m .channel) ≡ codeAfter (codeAt s (m .channel)) (o .answer)
   unfolding outcomeOf
   own-code n = rw h (after-own channels (s .codes) (m .channel) (m .column) n)
 
 -- the channel's own code after one answer, of codes of one length that agree there
-after-same : (x y : List ℕ) (ch : ℕ) (a : Merged) → length x ≡ length y → getD x ch 0 ≡ getD y ch 0 → getD (codesAfter x ch a) ch 0 ≡ getD (codesAfter y ch a) ch 0
+after-same : (x y : List ℕ) (ch : ℕ) (a : Merged) → length x ≡ length y → getD x ch 0 ≡ getD y ch 0
+    → getD (codesAfter x ch a) ch 0 ≡ getD (codesAfter y ch a) ch 0
 after-same x y ch (Refused e) n h = h
 after-same x y ch (Held c) n h = go (decLt ch (length x))
   where
@@ -87,12 +96,15 @@ after-same x y ch (Held c) n h = go (decLt ch (length x))
     go (no l) = past x (omega arith) ∙ sym (past y (omega arith))
 
 -- one merge into two types, which have the same code at its channel
-same-merge : (channels : ℕ) (s t : ChannelTypes) (m : Merge) {o p : Outcome} → o ≡ outcomeOf channels s (m .channel) (m .column) → p ≡ outcomeOf channels t (m .channel) (m .column)
-    → length (s .codes) ≡ length (t .codes) → codeAt s (m .channel) ≡ codeAt t (m .channel) → (codeAt (o .types) (m .channel) ≡ codeAt (p .types) (m .channel)) × (o .answer ≡ p .answer)
+same-merge : (channels : ℕ) (s t : ChannelTypes) (m : Merge) {o p : Outcome}
+    → o ≡ outcomeOf channels s (m .channel) (m .column) → p ≡ outcomeOf channels t (m .channel) (m .column)
+    → length (s .codes) ≡ length (t .codes) → codeAt s (m .channel) ≡ codeAt t (m .channel)
+    → (codeAt (o .types) (m .channel) ≡ codeAt (p .types) (m .channel)) × (o .answer ≡ p .answer)
 unfolding outcomeOf
 same-merge channels s t m h g n e =
     let a = same-answer channels (s .codes) (t .codes) (m .channel) (m .column) e in
-    rw (h, g, a) (after-same (s .codes) (t .codes) (m .channel) (mergedOf channels (t .codes) (m .channel) (m .column)) n e, refl)
+    rw (h, g, a)
+    (after-same (s .codes) (t .codes) (m .channel) (mergedOf channels (t .codes) (m .channel) (m .column)) n e, refl)
 
 -- an answer is the code after it
 tells : (held : ℕ) (a : Merged) {code : ℕ} → code ≡ codeAfter held a → Tells a code
@@ -110,25 +122,33 @@ module _ {channels : ℕ} where
       let o = outcomeOf channels (r .1) (m .channel) (m .column) in
       (o .answer ∷ r .0, o .types, Run.next {o = o} (r .2) refl)
 
-  run-length : {ms : List Merge} {xs : List Merged} {s₀ s : ChannelTypes} → Run channels s₀ ms xs s → length (s .codes) ≡ length (s₀ .codes)
+  run-length : {ms : List Merge} {xs : List Merged} {s₀ s : ChannelTypes} → Run channels s₀ ms xs s
+      → length (s .codes) ≡ length (s₀ .codes)
   run-length Run.none = refl
   run-length (Run.next {s = s} {m = m} r h) = keeps-length channels s m h ∙ run-length r
 
   -- what was merged before is a run too
-  before : (later ms : List Merge) {xs : List Merged} {s₀ s : ChannelTypes} → Run channels s₀ (later ++ ms) xs s → (ys zs : List Merged) × (t : ChannelTypes) × Run channels s₀ ms zs t × (xs ≡ ys ++ zs)
+  before : (later ms : List Merge) {xs : List Merged} {s₀ s : ChannelTypes} → Run channels s₀ (later ++ ms) xs s
+      → (ys zs : List Merged) × (t : ChannelTypes) × Run channels s₀ ms zs t × (xs ≡ ys ++ zs)
   before [] ms {xs} {s₀} {s} r = ([], xs, s, r, refl)
-  before (m ∷ later) ms (Run.next {o = o} r h) = let e = before later ms r in (o .answer ∷ e .0, e .1, e .2, e .3, ap (o .answer ∷_) (e .4))
+  before (m ∷ later) ms (Run.next {o = o} r h) =
+      let e = before later ms r in (o .answer ∷ e .0, e .1, e .2, e .3, ap (o .answer ∷_) (e .4))
 
-  answers : {ms : List Merge} {xs : List Merged} {s₀ s : ChannelTypes} {m : Merge} {a : Merged} → length (s₀ .codes) ≡ channels → Run channels s₀ (m ∷ ms) (a ∷ xs) s → Tells a (codeAt s (m .channel))
-  answers n (Run.next {s = s} {m = m} {o = o} r h) = tells (codeAt s (m .channel)) (o .answer) (own-code channels s m h (run-length r ∙ n))
+  answers : {ms : List Merge} {xs : List Merged} {s₀ s : ChannelTypes} {m : Merge} {a : Merged}
+      → length (s₀ .codes) ≡ channels → Run channels s₀ (m ∷ ms) (a ∷ xs) s → Tells a (codeAt s (m .channel))
+  answers n (Run.next {s = s} {m = m} {o = o} r h) =
+      tells (codeAt s (m .channel)) (o .answer) (own-code channels s m h (run-length r ∙ n))
 
   -- a merge into another channel leaves this one as it was; one into this channel is in both lists
-  alone : (ch : ℕ) {ms : List Merge} {xs ys : List Merged} {s₀ s t : ChannelTypes} → Run channels s₀ ms xs s → Run channels s₀ (only ch ms) ys t → (codeAt s ch ≡ codeAt t ch) × (answersTo ch ms xs ≡ ys)
+  alone : (ch : ℕ) {ms : List Merge} {xs ys : List Merged} {s₀ s t : ChannelTypes} → Run channels s₀ ms xs s
+      → Run channels s₀ (only ch ms) ys t → (codeAt s ch ≡ codeAt t ch) × (answersTo ch ms xs ≡ ys)
   alone ch Run.none Run.none = (refl, refl)
-  alone ch {s₀ = s₀} (Run.next {ms = ms} {xs = xs} {s = s} {m = m} {o = o} r h) q = go (eqb (m .channel) ch) refl (λ zs u p. alone ch r p) q
+  alone ch {s₀ = s₀} (Run.next {ms = ms} {xs = xs} {s = s} {m = m} {o = o} r h) q =
+      go (eqb (m .channel) ch) refl (λ zs u p. alone ch r p) q
     where
       go : {ys : List Merged} {t : ChannelTypes} (own : Bool) → eqb (m .channel) ch ≡ own
-          → ((zs : List Merged) (u : ChannelTypes) → Run channels s₀ (only ch ms) zs u → (codeAt s ch ≡ codeAt u ch) × (answersTo ch ms xs ≡ zs))
+          → ((zs : List Merged) (u : ChannelTypes) → Run channels s₀ (only ch ms) zs u
+          → (codeAt s ch ≡ codeAt u ch) × (answersTo ch ms xs ≡ zs))
           → Run channels s₀ (cond own (m ∷ only ch ms) (only ch ms)) ys t
           → (codeAt (o .types) ch ≡ codeAt t ch) × (cond own (o .answer ∷ answersTo ch ms xs) (answersTo ch ms xs) ≡ ys)
       go true e rest (Run.next {xs = zs} {s = u} r′ h′) =
@@ -136,7 +156,9 @@ module _ {channels : ℕ} where
           let d : m .channel ≡ ch = eqb-true (m .channel) ch e in
           let a = same-merge channels s u m h h′ (run-length r ∙ sym (run-length r′)) (rw d (b .0)) in
           (rw d at (a .0), cc)
-      go {ys} {t} false e rest r′ = let b = rest ys t r′ in (keeps-other channels s m h ch (λ d. eqb-false (m .channel) ch e (sym d)) ∙ b .0, b .1)
+      go {ys} {t} false e rest r′ =
+          let b = rest ys t r′ in
+          (keeps-other channels s m h ch (λ d. eqb-false (m .channel) ch e (sym d)) ∙ b .0, b .1)
 
 -- ---- lists of merges, from types started empty
 
@@ -149,14 +171,21 @@ covers-where ks c = go (numbered ks) refl
     go true e s = s .covers
 
 module _ {channels : ℕ} where
-  holds : {ms : List Merge} {xs : List Merged} {s : ChannelTypes} → Run channels (started channels) ms xs s → (ch : ℕ) → ch < channels → Stands (accepted ch ms xs) (codeAt s ch)
+  holds : {ms : List Merge} {xs : List Merged} {s : ChannelTypes} → Run channels (started channels) ms xs s → (ch : ℕ)
+      → ch < channels → Stands (accepted ch ms xs) (codeAt s ch)
   holds r ch l = let g = by-model r in rw (pages (g .1) ch) at (g .2 .stands ch l)
 
-  keeps : {ms : List Merge} {xs : List Merged} {s : ChannelTypes} → Run channels (started channels) ms xs s → (ch : ℕ) → ch < channels → AllListed (accepted ch ms xs) × Covers (codeAt s ch) (accepted ch ms xs)
-  keeps {ms} {xs} {s} r ch l = let f = by-model r .1 in (rw (pages f ch) at (all-listed f ch), covers-where (accepted ch ms xs) (codeAt s ch) (holds r ch l))
+  keeps : {ms : List Merge} {xs : List Merged} {s : ChannelTypes} → Run channels (started channels) ms xs s → (ch : ℕ)
+      → ch < channels → AllListed (accepted ch ms xs) × Covers (codeAt s ch) (accepted ch ms xs)
+  keeps {ms} {xs} {s} r ch l =
+      let f = by-model r .1 in
+      (rw (pages f ch) at (all-listed f ch), covers-where (accepted ch ms xs) (codeAt s ch) (holds r ch l))
 
-  refused-when : {ms : List Merge} {xs : List Merged} {m : Merge} {a : Merged} {t : DataType} {b : Model} → Feeds channels (m ∷ ms) (a ∷ xs) b
-      → m .column ≡ type t → Listed (headKind t) → m .channel < channels → ((a ≡ Refused NoUpcast) ↔ ¬ Room (headKind t ∷ accepted (m .channel) ms xs)) × ((e : Error) → a ≡ Refused e → e ≡ NoUpcast)
+  refused-when : {ms : List Merge} {xs : List Merged} {m : Merge} {a : Merged} {t : DataType} {b : Model}
+      → Feeds channels (m ∷ ms) (a ∷ xs) b
+      → m .column ≡ type t → Listed (headKind t) → m .channel < channels
+      → ((a ≡ Refused NoUpcast) ↔ ¬ Room (headKind t ∷ accepted (m .channel) ms xs))
+      × ((e : Error) → a ≡ Refused e → e ≡ NoUpcast)
   refused-when {m = m} (Feeds.next f e) q i l = rw (← pages f (m .channel)) (refused-where (rw q at e) l i)
 
 pub channel-rule : (channels : ℕ) → ChannelRule channels

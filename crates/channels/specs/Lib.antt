@@ -1,4 +1,5 @@
--- The type of each channel: what a merge comes to, the model, the rule over every list of merges, a list worked by hand, and the limit.
+-- The type of each channel: what a merge comes to, the model, the rule over every list of merges, a list worked by
+-- hand, and the limit.
 pub mod Merge
 pub mod Model
 pub mod Rule

@@ -1,4 +1,5 @@
--- Document 01's limit of the channels, which is a parameter: "a channel is valid below 32". Assumes nothing: these are definitions.
+-- Document 01's limit of the channels, which is a parameter: "a channel is valid below 32". Assumes nothing: these are
+-- definitions.
 use mathlib.Core.Path.{_≡_}
 use Prim.Native.Nat.{ℕ}
 use Rattle.flat.specs.Kind

@@ -5,9 +5,8 @@ use Prim.Native.Nat.{ℕ}
 use lib.Dec.{ltb, eqb}
 use lib.ListN.{replicate, getD, set}
 use Rattle.flat.specs.Refusal.{numberOf}
-use Rattle.flat.specs.Tree.{headKind, leaf}
+use Rattle.flat.specs.Tree.{headKind}
 use Rattle.flat.specs.Reading.{Reading, refused, type}
-use Rattle.flat.specs.declared.Root.{Root}
 use Rattle.flat.specs.declared.error.Error.{Error}
 use Rattle.flat.specs.declared.error.Error.the-variants.{Channel, ChannelCode, NotInteger, NoUpcast}
 use Rattle.supertype_numbers.specs.Range.{isListed}
@@ -41,8 +40,9 @@ abbrev pub upcastHeld : Upcast → Merged
 upcastHeld (To c) = Held c
 upcastHeld Nothing = Refused NoUpcast
 
--- A channel that holds `held` is offered a type of the kind k. 10: it holds neither 0 nor 2 to 11. 11: the type is none of 2 to 11. On an empty channel
--- the type is kept; an equal type keeps the held one; otherwise the lossless upcast of held and offered is kept.
+-- A channel that holds `held` is offered a type of the kind k. 10: it holds neither 0 nor 2 to 11. 11: the type is none
+-- of 2 to 11. On an empty channel the type is kept; an equal type keeps the held one; otherwise the lossless upcast of
+-- held and offered is kept.
 unfoldable pub mergedWith : ℕ → ℕ → Merged
 mergedWith held k =
     mergeUnless (eqb held 0 || isListed held) ChannelCode (mergeUnless (isListed k) NotInteger
@@ -53,7 +53,8 @@ mergedWith held k =
 -- The offered type goes through 1 to 5 first. 9: there is no such channel.
 unfoldable pub mergedOf : (channels : ℕ) → List ℕ → ℕ → Reading → Merged
 mergedOf channels codes channel (refused e) = Refused e
-mergedOf channels codes channel (type t) = mergeUnless (ltb channel channels) Channel (mergedWith (getD codes channel 0) (headKind t))
+mergedOf channels codes channel (type t) =
+    mergeUnless (ltb channel channels) Channel (mergedWith (getD codes channel 0) (headKind t))
 
 -- an accepted type's channel holds the code of the answer; a refused call leaves all codes
 abbrev pub codesAfter : List ℕ → ℕ → Merged → List ℕ

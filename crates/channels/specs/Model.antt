@@ -1,5 +1,5 @@
--- The model that the types of the channels are held to, document 01's book: a page of types for each channel. It is fed each merge's channel and type, nothing
--- of the codes or the answers. Assumes nothing: these are definitions.
+-- The model that the types of the channels are held to, document 01's book: a page of types for each channel. It is fed
+-- each merge's channel and type, nothing of the codes or the answers. Assumes nothing: these are definitions.
 use mathlib.Core.Path.{_≡_}
 use mathlib.Core.Bool.{Bool, true, false, cond, _||_}
 use mathlib.Core.List.{List, [], _∷_}
@@ -13,8 +13,8 @@ use Rattle.supertype_numbers.specs.Range.{Listed, isListed, Least, Room}
 use Rattle.channels.specs.declared.Merged.{Merged}
 use Rattle.channels.specs.declared.Merged.the-variants.{Held, Refused}
 
--- a merge, document 01's offer: a channel, and the column whose type is offered. "A column is the type offered, valid where it passes 1 to 5": its arrays read as a
--- type, or are refused
+-- a merge, document 01's offer: a channel, and the column whose type is offered. "A column is the type offered, valid
+-- where it passes 1 to 5": its arrays read as a type, or are refused
 pub record Merge : Type 0 where
   pub channel : ℕ
   pub column : Reading
@@ -45,8 +45,8 @@ abbrev pub StandsWhere : Bool → List ℕ → ℕ → Type 0
 StandsWhere false page c = c ≡ 0
 StandsWhere true page c = Least c page
 
--- "A channel with an empty page stands at code 0, any other at the code of the type that demand 3 names, taken over the types on its page." Only listed types join a
--- page, so that it is empty or has a number (`ChannelRule.least-on`).
+-- "A channel with an empty page stands at code 0, any other at the code of the type that demand 3 names, taken over the
+-- types on its page." Only listed types join a page, so that it is empty or has a number (`ChannelRule.least-on`).
 abbrev pub Stands : List ℕ → ℕ → Type 0
 Stands page c = StandsWhere (numbered page) page c
 
@@ -55,13 +55,16 @@ pub data Enters (channels : ℕ) (b : Model) (channel : ℕ) : Reading → Merge
   -- "An offer that 1 to 5, 9 or 11 turn down answers the lowest such number and changes no page"
   not-a-type : {e : Error} → Enters channels b channel (refused e) (Refused e) b
   no-channel : {t : DataType} → channels ≤ channel → Enters channels b channel (type t) (Refused Channel) b
-  not-integer : {t : DataType} → channel < channels → ¬ Listed (headKind t) → Enters channels b channel (type t) (Refused NotInteger) b
-  -- "Any other is accepted exactly when some listed type's range includes its range and those on its channel's page; its type then joins that page";
-  -- "an accepted offer answers where its channel then stands"
-  accepted : {t : DataType} {c : ℕ} → channel < channels → Listed (headKind t) → Room (headKind t ∷ b channel) → Stands (headKind t ∷ b channel) c
+  not-integer : {t : DataType} → channel < channels → ¬ Listed (headKind t)
+      → Enters channels b channel (type t) (Refused NotInteger) b
+  -- "Any other is accepted exactly when some listed type's range includes its range and those on its channel's page;
+  -- its type then joins that page"; "an accepted offer answers where its channel then stands"
+  accepted : {t : DataType} {c : ℕ} → channel < channels → Listed (headKind t) → Room (headKind t ∷ b channel)
+      → Stands (headKind t ∷ b channel) c
       → Enters channels b channel (type t) (Held c) (pageWith b channel (headKind t))
   -- "Otherwise it answers 12 and no page changes"
-  no-room : {t : DataType} → channel < channels → Listed (headKind t) → ¬ Room (headKind t ∷ b channel) → Enters channels b channel (type t) (Refused NoUpcast) b
+  no-room : {t : DataType} → channel < channels → Listed (headKind t) → ¬ Room (headKind t ∷ b channel)
+      → Enters channels b channel (type t) (Refused NoUpcast) b
 
 -- The model is fed a list of merges, the latest first in the list: its answers, and the model after them.
 pub data Feeds (channels : ℕ) : List Merge → List Merged → Model → Type 0 where

@@ -1,4 +1,5 @@
--- The rule of the channels' types, document 01's season rule (demand 3): one claim about every list of merges. Assumes nothing: these are definitions.
+-- The rule of the channels' types, document 01's season rule (demand 3): one claim about every list of merges. Assumes
+-- nothing: these are definitions.
 use mathlib.Core.Path.{_≡_}
 use mathlib.Core.Bool.{cond}
 use mathlib.Core.Logic.{_↔_}
@@ -20,8 +21,8 @@ use Rattle.channels.specs.Model.{Merge, Model, Stands, Feeds}
 
 -- A list of merges stands with the latest first, so that what was merged before a merge is the rest of the list.
 
--- "each offer given the record as the last one left it and nobody else writing it": a step is what the contract of each form says of a merge
--- (proofs/Contracts.antt, and crates/capi/proofs/Contracts.antt of the C entry points)
+-- "each offer given the record as the last one left it and nobody else writing it": a step is what the contract of each
+-- form says of a merge (proofs/Contracts.antt, and crates/capi/proofs/Contracts.antt of the C entry points)
 pub data Run (channels : ℕ) (s₀ : ChannelTypes) : List Merge → List Merged → ChannelTypes → Type 0 where
   none : Run channels s₀ [] [] s₀
   next : {ms : List Merge} {xs : List Merged} {s : ChannelTypes} {m : Merge} {o : Outcome} → Run channels s₀ ms xs s
@@ -46,7 +47,8 @@ abbrev pub accepted : (ch : ℕ) → List Merge → List Merged → List ℕ
 accepted ch [] xs = []
 accepted ch (m ∷ ms) [] = []
 accepted ch (m ∷ ms) (Refused e ∷ xs) = accepted ch ms xs
-accepted ch (m ∷ ms) (Held c ∷ xs) = cond (eqb (m .channel) ch) (kindIn (m .column) ∷ accepted ch ms xs) (accepted ch ms xs)
+accepted ch (m ∷ ms) (Held c ∷ xs) =
+    cond (eqb (m .channel) ch) (kindIn (m .column) ∷ accepted ch ms xs) (accepted ch ms xs)
 
 abbrev pub AllListed : List ℕ → Type 0
 AllListed [] = Unit {0}
@@ -62,35 +64,46 @@ answersTo ch [] xs = []
 answersTo ch (m ∷ ms) [] = []
 answersTo ch (m ∷ ms) (a ∷ xs) = cond (eqb (m .channel) ch) (a ∷ answersTo ch ms xs) (answersTo ch ms xs)
 
--- The claim, of any number of channels: `ChannelTypes` has 32 (`ChannelLimit`), and `ChannelTypes::empty` gives `started` of them.
+-- The claim, of any number of channels: `ChannelTypes` has 32 (`ChannelLimit`), and `ChannelTypes::empty` gives
+-- `started` of them.
 pub record ChannelRule (channels : ℕ) : Type 0 where
-  -- every list has a run, from any codes, so that nothing is said of nothing; and so has what was merged before, so that what is said of the latest merge of a
-  -- list is said of each
+  -- every list has a run, from any codes, so that nothing is said of nothing; what was merged before has a run too, so
+  -- that what is said of the latest merge of a list is said of each
   pub runs : (s₀ : ChannelTypes) (ms : List Merge) → (xs : List Merged) × (s : ChannelTypes) × Run channels s₀ ms xs s
   pub before : (later ms : List Merge) {xs : List Merged} {s₀ s : ChannelTypes} → Run channels s₀ (later ++ ms) xs s
       → (ys zs : List Merged) × (t : ChannelTypes) × Run channels s₀ ms zs t × (xs ≡ ys ++ zs)
-  -- "After every list each of the 32 codes is where its channel stands in the book, and every offer, accepted or refused, has had the book's answer."
+  -- "After every list each of the 32 codes is where its channel stands in the book, and every offer, accepted or
+  -- refused, has had the book's answer."
   pub by-the-model : {ms : List Merge} {xs : List Merged} {s : ChannelTypes} → Run channels (started channels) ms xs s
-      → (b : Model) × Feeds channels ms xs b × (length (s .codes) ≡ channels) × ((ch : ℕ) → ch < channels → Stands (b ch) (codeAt s ch))
-  -- and there is no other book: the offers settle its answers and its pages
-  pub one-model : {ms : List Merge} {xs ys : List Merged} {b b′ : Model} → Feeds channels ms xs b → Feeds channels ms ys b′ → (xs ≡ ys) × (b ≡ b′)
+      → (b : Model) × Feeds channels ms xs b × (length (s .codes) ≡ channels)
+      × ((ch : ℕ) → ch < channels → Stands (b ch) (codeAt s ch))
+  -- there is no other book: the offers settle its answers and its pages
+  pub one-model : {ms : List Merge} {xs ys : List Merged} {b b′ : Model} → Feeds channels ms xs b
+      → Feeds channels ms ys b′ → (xs ≡ ys) × (b ≡ b′)
   -- "no channel ends with a type that misses a number its accepted columns could hold"
   pub keeps : {ms : List Merge} {xs : List Merged} {s : ChannelTypes} → Run channels (started channels) ms xs s
       → (ch : ℕ) → ch < channels → AllListed (accepted ch ms xs) × Covers (codeAt s ch) (accepted ch ms xs)
-  -- "After it each channel with an accepted column holds the one listed integer type whose range includes all theirs and lies inside every listed type that does
-  -- so; one without is empty."
+  -- "After it each channel with an accepted column holds the one listed integer type whose range includes all theirs
+  -- and lies inside every listed type that does so; one without is empty."
   pub holds : {ms : List Merge} {xs : List Merged} {s : ChannelTypes} → Run channels (started channels) ms xs s
       → (ch : ℕ) → ch < channels → Stands (accepted ch ms xs) (codeAt s ch)
-  -- "with an accepted column": its type is listed, by `keeps`, so that its page has a number and the channel stands at the least
+  -- "with an accepted column": its type is listed, by `keeps`, so that its page has a number and the channel stands at
+  -- the least
   pub least-on : (c k : ℕ) (ks : List ℕ) → Listed k → Stands (k ∷ ks) c → Least c (k ∷ ks)
   pub the-one : {ks : List ℕ} {t u : ℕ} → Least t ks → Least u ks → t ≡ u
-  -- "In it a valid column of a listed integer type, on a valid channel, is refused exactly when no listed type includes its range and those accepted there before."
-  -- It is then refused by 12, and never by another number.
-  pub refused-when : {ms : List Merge} {xs : List Merged} {s : ChannelTypes} {m : Merge} {a : Merged} {t : DataType} → Run channels (started channels) (m ∷ ms) (a ∷ xs) s
-      → m .column ≡ type t → Listed (headKind t) → m .channel < channels → ((a ≡ Refused NoUpcast) ↔ ¬ Room (headKind t ∷ accepted (m .channel) ms xs)) × ((e : Error) → a ≡ Refused e → e ≡ NoUpcast)
+  -- "In it a valid column of a listed integer type, on a valid channel, is refused exactly when no listed type includes
+  -- its range and those accepted there before." It is then refused by 12, and never by another number.
+  pub refused-when : {ms : List Merge} {xs : List Merged} {s : ChannelTypes} {m : Merge} {a : Merged} {t : DataType}
+      → Run channels (started channels) (m ∷ ms) (a ∷ xs) s
+      → m .column ≡ type t → Listed (headKind t) → m .channel < channels
+      → ((a ≡ Refused NoUpcast) ↔ ¬ Room (headKind t ∷ accepted (m .channel) ms xs))
+      × ((e : Error) → a ≡ Refused e → e ≡ NoUpcast)
   -- "Every answer is the code then held or the refusal's number."
-  pub answers : {ms : List Merge} {xs : List Merged} {s₀ s : ChannelTypes} {m : Merge} {a : Merged} → length (s₀ .codes) ≡ channels → Run channels s₀ (m ∷ ms) (a ∷ xs) s
+  pub answers : {ms : List Merge} {xs : List Merged} {s₀ s : ChannelTypes} {m : Merge} {a : Merged}
+      → length (s₀ .codes) ≡ channels → Run channels s₀ (m ∷ ms) (a ∷ xs) s
       → Tells a (codeAt s (m .channel))
-  -- "A channel's code and its offers' answers are the same in such a list and in the one that keeps only its own offers, even from a record not started empty."
-  pub alone : (ch : ℕ) {ms : List Merge} {xs ys : List Merged} {s₀ s t : ChannelTypes} → Run channels s₀ ms xs s → Run channels s₀ (only ch ms) ys t
+  -- "A channel's code and its offers' answers are the same in such a list and in the one that keeps only its own
+  -- offers, even from a record not started empty."
+  pub alone : (ch : ℕ) {ms : List Merge} {xs ys : List Merged} {s₀ s t : ChannelTypes} → Run channels s₀ ms xs s
+      → Run channels s₀ (only ch ms) ys t
       → (codeAt s ch ≡ codeAt t ch) × (answersTo ch ms xs ≡ ys)

@@ -1,4 +1,5 @@
-// The type of each channel, document 01's season record: a column's type is merged into a channel (document 01's offer) without ever losing a number.
+// The type of each channel, document 01's season record: a column's type is merged into a channel (document 01's offer)
+// without ever losing a number.
 mod limits;
 
 ghost use mathlib.Core.Path.{_≡_};
@@ -91,7 +92,8 @@ fn merge_kind(held: u8, kind: u8) -> Merged
 pub fn merge_codes(codes: &mut [u8; ChannelTypes::CHANNELS], channel: usize, column: Root) -> Merged
     ensures { λ a. do
       channels ← ⟦ChannelTypes::CHANNELS⟧ .entry
-      ⌜ record { types = record { codes = now (codes .exit) }; answer = a } ≡ outcomeOf channels (record { codes = now (codes .entry) }) channel (rootReading column) ⌝ }
+      ⌜ record { types = record { codes = now (codes .exit) }; answer = a }
+          ≡ outcomeOf channels (record { codes = now (codes .entry) }) channel (rootReading column) ⌝ }
 {
     match column {
         Root::Refused(e) => Merged::Refused(e),
@@ -131,7 +133,8 @@ impl ChannelTypes {
           channels ← ⟦ChannelTypes::CHANNELS⟧ .entry
           nodes ← ⟦Flat::MAX_NODES⟧ .entry
           deep ← ⟦Flat::MAX_DEPTH⟧ .entry
-          ⌜ r ≡ outcomeOf channels self channel (reading nodes deep (now (kinds .entry)) (now (args .entry))) ⌝ }
+          let column = reading nodes deep (now (kinds .entry)) (now (args .entry))
+          ⌜ r ≡ outcomeOf channels self channel column ⌝ }
     {
         let mut codes = self.codes;
         let answer = merge_codes(&mut codes, channel, flat::check_root(kinds, args));
@@ -140,7 +143,8 @@ impl ChannelTypes {
     }
 }
 
-// The same with the types lent: their codes are lent on, of which a merge reads one and writes one.
+// Merges a column's type into a channel of the lent types: refusals 1 to 5, then 9 to 12. The codes are lent on, of
+// which a merge reads one and writes one.
 pub fn merge_in_place(
     types: &mut ChannelTypes,
     channel: usize,
@@ -151,7 +155,8 @@ pub fn merge_in_place(
       channels ← ⟦ChannelTypes::CHANNELS⟧ .entry
       nodes ← ⟦Flat::MAX_NODES⟧ .entry
       deep ← ⟦Flat::MAX_DEPTH⟧ .entry
-      ⌜ record { types = now (types .exit); answer = a } ≡ outcomeOf channels (now (types .entry)) channel (reading nodes deep (now (kinds .entry)) (now (args .entry))) ⌝ }
+      let column = reading nodes deep (now (kinds .entry)) (now (args .entry))
+      ⌜ record { types = now (types .exit); answer = a } ≡ outcomeOf channels (now (types .entry)) channel column ⌝ }
 {
     merge_codes(&mut types.codes, channel, flat::check_root(kinds, args))
 }

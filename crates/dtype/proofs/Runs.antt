@@ -5,7 +5,8 @@ use Prim.Native.Nat.{ℕ, _+_, _≤_, _<_}
 use lib.Dec.{T}
 use Rattle.flat.proofs.Rules.{run, in-run}
 use Rattle.dtype.specs.Match.{among}
-use Rattle.dtype.specs.Predicate.{isTemporal, isFloat, isUnknownInt, isSignedInteger, isUnsignedInteger, isInteger, isPrimitiveNumeric, isPrimitive, isNested, isString, isUnknown}
+use Rattle.dtype.specs.Predicate.{isTemporal, isFloat, isUnknownInt, isSignedInteger, isUnsignedInteger}
+use Rattle.dtype.specs.Predicate.{isInteger, isPrimitiveNumeric, isPrimitive, isNested, isString, isUnknown}
 
 -- the two are the same
 abbrev pub same : Bool → Bool → Bool
@@ -24,7 +25,7 @@ unfoldable pub says : (ℕ → Bool) → Bool → ℕ → ℕ → Bool
 unfolding among isTemporal isFloat isUnknownInt isSignedInteger isUnsignedInteger isInteger isPrimitiveNumeric isPrimitive isNested isString isUnknown
 says p b lo n = run (λ k. same b (p k)) lo n
 
--- so of each of them
+-- p says b of each kind in such a run
 pub of-run : (p : ℕ → Bool) (b : Bool) (lo n : ℕ) → T (says p b lo n) → (k : ℕ) → (lo ≤ k) × (k < lo + n) → b ≡ p k
 unfolding says
 of-run p b lo n t k h = are-same b (p k) (in-run (λ k. same b (p k)) lo n t k (h .0) (h .1))

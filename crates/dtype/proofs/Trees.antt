@@ -1,8 +1,8 @@
 -- A predicate that looks into a type node by node says of it what a scan says of its kinds. Assumes nothing.
 use mathlib.Core.Path.{_≡_, refl, sym, ap, _∙_}
-use mathlib.Core.Bool.{Bool, true, false, not, cond, _&&_, _||_, or-assoc, or-true, or-false, Bool·not-not, true≢false}
+use mathlib.Core.Bool.{Bool, true, false, not, cond, _&&_, _||_, or-assoc, or-false, Bool·not-not, true≢false}
 use mathlib.Core.List.{List, [], _∷_, _++_, append-assoc, append-nil}
-use Prim.Native.Nat.{ℕ, _≤_}
+use Prim.Native.Nat.{ℕ, _≤_, _<_}
 use native.Mathlib.Omega.{arith}
 use borrow.Author.Tests.{eq-eqb, ne-eqb}
 use lib.Dec.{eqb}
@@ -16,6 +16,7 @@ use Rattle.dtype.specs.Equality.{equalNode, equal, equalFields}
 use Rattle.dtype.specs.Physical.{physicalLeaf, toPhysical, physicalFields}
 use Rattle.dtype.specs.Recursive.{isKnown, allKnown, isLogical, containsListRecursive, anyContainsList, containsUnknown, anyContainsUnknown}
 use Rattle.dtype.specs.Scan.{anyOf, isListKind, isDecimalKind, isLogicalKind}
+use Rattle.dtype.proofs.Pairs.{nodes-same, right-known}
 
 -- f of a type and g of fields: p holds of some node
 pub record Nodewise (p : ℕ → Bool) (f : DataType → Bool) (g : Fields → Bool) : Type 0 where
@@ -42,7 +43,7 @@ module _ {p : ℕ → Bool} {f : DataType → Bool} {g : Fields → Bool} (n : N
         rw (n .on-field name t fs, append-assoc (kindsOf t) (kindsOfs fs) ks, any-type t (r .1) (kindsOfs fs ++ ks), any-fields fs (r .2) ks)
         (ap (λ (b : Bool). p Kind.Field || b) (sym (or-assoc (f t) (g fs) (anyOf p ks))) ∙ sym (or-assoc (p Kind.Field) (f t || g fs) (anyOf p ks)))
 
-  -- so of a valid type
+  -- a scan of a valid type's kinds says what f says of the type
   pub scanned : (nodes deep : ℕ) (ks xs : List ℕ) (t : DataType) → reading nodes deep ks xs ≡ type t → anyOf p ks ≡ f t
   unfolding anyOf
   scanned nodes deep ks xs t e =
@@ -68,28 +69,20 @@ contains-list = record { on-leaf = λ k a h. rw (ne-eqb k Kind.List (omega arith
 -- ---- a type differs from its physical form where some leaf does
 
 -- from a leaf whose kind a test tells apart, and which is no unknown integer
-other-leaf : (p : ℕ → Bool) (k a j : ℕ) → p k ≡ true → p j ≡ false → isUnknownInt j ≡ false → equalNode k a j 0 ≡ false
-unfolding equalNode
-other-leaf p k a j y n u = rw (u, ne-eqb k j (λ e. true≢false (sym y ∙ ap p e ∙ n))) (go (isUnknownInt k))
-  where
-    go : (b : Bool) → ((b && false) || false) ≡ false
-    go true = refl
-    go false = refl
-
-same-leaf : (k a : ℕ) → equalNode k a k a ≡ true
-unfolding equalNode
-same-leaf k a = rw (eq-eqb k k refl, eq-eqb a a refl) (or-true (isUnknownInt k && isUnknownInt k))
+other-leaf : (p : ℕ → Bool) (k a j : ℕ) → p k ≡ true → p j ≡ false → j < Kind.UnknownIntPos → equalNode k a j 0 ≡ false
+other-leaf p k a j y n h = right-known k a j 0 (λ e. true≢false (sym y ∙ ap p e ∙ n)) (omega arith) (omega arith)
 
 logical-leaf : (k a : ℕ) → isLogical (leaf k a) ≡ isLogicalKind k
 unfolding isLogical equal toPhysical physicalLeaf isLogicalKind isDecimalKind isTemporal isUnknownInt among
 logical-leaf k a = go (eqb k Kind.Date) (among (Kind.Datetime ∷ Kind.Duration ∷ Kind.Time ∷ []) k) (eqb k Kind.Decimal) refl refl refl
   where
-    go : (b c d : Bool) → eqb k Kind.Date ≡ b → among (Kind.Datetime ∷ Kind.Duration ∷ Kind.Time ∷ []) k ≡ c → eqb k Kind.Decimal ≡ d →
-        not (ifLeaf false (equalNode k a) (cond b (leaf Kind.Int32 0) (cond c (leaf Kind.Int64 0) (cond d (leaf Kind.Int128 0) (leaf k a))))) ≡ ((b || c) || (d || false))
-    go true c d e f h = rw (other-leaf (λ i. eqb i Kind.Date) k a Kind.Int32 e refl refl)
-    go false true d e f h = rw (other-leaf (among (Kind.Datetime ∷ Kind.Duration ∷ Kind.Time ∷ [])) k a Kind.Int64 f refl refl)
-    go false false true e f h = rw (other-leaf (λ i. eqb i Kind.Decimal) k a Kind.Int128 h refl refl)
-    go false false false e f h = rw (same-leaf k a)
+    go : (b c d : Bool) → eqb k Kind.Date ≡ b → among (Kind.Datetime ∷ Kind.Duration ∷ Kind.Time ∷ []) k ≡ c
+        → eqb k Kind.Decimal ≡ d
+        → not (ifLeaf false (equalNode k a) (cond b (leaf Kind.Int32 0) (cond c (leaf Kind.Int64 0) (cond d (leaf Kind.Int128 0) (leaf k a))))) ≡ ((b || c) || (d || false))
+    go true c d e f h = rw (other-leaf (λ i. eqb i Kind.Date) k a Kind.Int32 e refl (omega arith))
+    go false true d e f h = rw (other-leaf (among (Kind.Datetime ∷ Kind.Duration ∷ Kind.Time ∷ [])) k a Kind.Int64 f refl (omega arith))
+    go false false true e f h = rw (other-leaf (λ i. eqb i Kind.Decimal) k a Kind.Int128 h refl (omega arith))
+    go false false false e f h = rw (nodes-same k a k a refl refl)
 
 pub is-logical : Nodewise isLogicalKind isLogical (λ fs. not (equalFields fs (physicalFields fs)))
 unfolding isLogical equal toPhysical isLogicalKind isDecimalKind isTemporal among

@@ -4,6 +4,7 @@ use Prim.Native.Nat.{ℕ}
 use Rattle.flat.specs.Refusal.{numberOf}
 use Rattle.flat.specs.Tree.{DataType}
 use Rattle.flat.specs.Reading.{Reading, refused, type}
+use Rattle.flat.specs.Both.{bothOf}
 use Rattle.dtype.specs.declared.answer.Answer.{Answer}
 
 abbrev pub yesNo : Bool → Answer
@@ -17,8 +18,7 @@ answerOf p (type t) = yesNo (p t)
 
 -- of two types: the left through 1 to 5, then the right
 abbrev pub answersOf : (DataType → DataType → Bool) → Reading → Reading → Answer
-answersOf p (refused e) right = Answer.Refused e
-answersOf p (type t) right = answerOf (p t) right
+answersOf p = bothOf Answer.Refused (λ t u. yesNo (p t u))
 
 -- document 01's number of an answer, and the value beside it: 0 no, 1 yes
 abbrev pub answerNumber : Answer → ℕ

@@ -6,8 +6,8 @@ use Rattle.flat.specs.Tree.{DataType, leaf, list, array, struct, Fields, empty,
 use Rattle.dtype.specs.Match.{ifLeaf, ifList, ifArray, ifStruct, ifField, isEmpty}
 use Rattle.dtype.specs.Predicate.{isUnknownInt}
 
--- Two nodes: `Unknown(Int(_))` are equal whatever they hold, others where kind and argument are. An argument is a Datetime's unit and zone, a Duration's
--- unit, a Decimal's precision and scale.
+-- Two nodes: `Unknown(Int(_))` are equal whatever they hold, others where kind and argument are. An argument is a
+-- Datetime's unit and zone, a Duration's unit, a Decimal's precision and scale.
 unfoldable pub equalNode : ℕ → ℕ → ℕ → ℕ → Bool
 equalNode k a l b = (isUnknownInt k && isUnknownInt l) || (eqb k l && eqb a b)
 

@@ -1,5 +1,5 @@
--- What every rule of dtype.rs rests on: the source's patterns, the predicates, equality, physical types and units of time, as definitions on trees in the
--- source's order of arms.
+-- What every rule of dtype.rs rests on: the source's patterns, the predicates, equality, physical types and units of
+-- time, as definitions on trees in the source's order of arms.
 pub mod TimeUnit
 pub mod TimeUnits
 pub mod Match

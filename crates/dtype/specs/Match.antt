@@ -1,4 +1,5 @@
--- The source's patterns: `matches!(dtype, A | B)`, and one arm of a match on a type. Assumes nothing: these are definitions.
+-- The source's patterns: `matches!(dtype, A | B)`, and one arm of a match on a type.
+-- Assumes nothing: these are definitions.
 use mathlib.Core.Bool.{Bool, true, false, _||_}
 use mathlib.Core.List.{List, [], _∷_}
 use Prim.Native.Nat.{ℕ}

@@ -19,7 +19,7 @@ physicalLeaf k a =
 unfoldable pub physicalKind : ℕ → ℕ
 physicalKind k = headKind (physicalLeaf k 0)
 
--- children likewise
+-- the physical form of a type: that of every type in it that is not nested
 unfoldable mutual
   pub toPhysical : DataType → DataType
   toPhysical (leaf k a) = physicalLeaf k a

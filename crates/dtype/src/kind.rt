@@ -1,6 +1,8 @@
 // The predicates of dtype.rs that look at a type's root alone, by its kind.
 ghost use mathlib.Core.Path.{_≡_};
-ghost use Rattle.dtype.specs.Predicate.{isTemporal, isFloat, isUnknownInt, isSignedInteger, isUnsignedInteger, isInteger, isPrimitiveNumeric, isPrimitive, isNested, isString, isUnknown};
+ghost use Rattle.dtype.specs.Predicate.{isTemporal, isFloat, isUnknownInt, isSignedInteger, isUnsignedInteger};
+ghost use Rattle.dtype.specs.Predicate.{isInteger, isPrimitiveNumeric, isPrimitive, isNested, isString};
+ghost use Rattle.dtype.specs.Predicate.{isUnknown};
 use flat::kind::Kind;
 
 pub fn is_temporal(kind: u8) -> bool

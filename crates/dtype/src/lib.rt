@@ -1,5 +1,6 @@
-// src/datatypes of the crate: the predicates of a flat type (dtype.rs), units of time, and what every rule of dtype.rs rests on. Equality, inner types,
-// casts and the types that are built anew have a crate each (dtype_…), so that a proof stays quick to check.
+// src/datatypes of the crate: the predicates of a flat type (dtype.rs), units of time, and what every rule of dtype.rs
+// rests on. Equality, inner types, casts and the types that are built anew have a crate each (dtype_…), so that a proof
+// stays quick to check.
 pub mod answer;
 pub mod kind;
 pub mod node;
@@ -10,7 +11,8 @@ pub mod time_units;
 
 ghost use mathlib.Core.Path.{_≡_};
 ghost use Rattle.flat.specs.Reading.{reading};
-ghost use Rattle.dtype.specs.Predicate.{root, isTemporal, isFloat, isSignedInteger, isUnsignedInteger, isInteger, isPrimitiveNumeric, isPrimitive, isNested, isString, isUnknown};
+ghost use Rattle.dtype.specs.Predicate.{root, isTemporal, isFloat, isSignedInteger, isUnsignedInteger, isInteger};
+ghost use Rattle.dtype.specs.Predicate.{isPrimitiveNumeric, isPrimitive, isNested, isString, isUnknown};
 ghost use Rattle.dtype.specs.Recursive.{isKnown, isLogical, containsListRecursive, containsUnknown};
 ghost use Rattle.dtype.specs.Predicates.{predicateOf};
 ghost use Rattle.dtype.specs.Answer.{answerOf};

@@ -1,4 +1,5 @@
-// The predicates of dtype.rs by name, and how the kinds of a valid type tell them: by the root's kind, or by a scan of them all.
+// The predicates of dtype.rs by name, and how the kinds of a valid type tell them: by the root's kind, or by a scan of
+// them all.
 ghost use mathlib.Core.Path.{_≡_};
 ghost use Prim.Native.Nat.{_<_};
 ghost use lib.ListN.{length};

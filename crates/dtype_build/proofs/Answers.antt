@@ -7,47 +7,86 @@ use lib.ListN.{length, take}
 use lib.Seq.{take-at}
 use Rattle.flat.specs.Tree.{DataType, size, kindsOf, argsOf}
 use Rattle.flat.specs.Walk.{Valid, typeAt}
-use Rattle.flat.specs.Reading.{refused, type, reading, checkedOf}
-use Rattle.flat.specs.declared.Checked.the-variants as answer
+use Rattle.flat.specs.Reading.{Reading, refused, type, reading}
+use Rattle.flat.specs.Output.{fitting, Writes}
+use Rattle.flat.specs.declared.Written.{Written}
+use Rattle.flat.specs.declared.error.Error.{Error}
 use Rattle.flat.specs.declared.error.Error.the-variants.{Unknown}
 use Rattle.flat.proofs.Sizes.{length-kinds, length-args}
-use Rattle.flat.proofs.Meaning.{check-passed}
+use Rattle.flat.proofs.Meaning.{Passed}
+use Rattle.flat.proofs.Outputs.{writes-refused}
 use Rattle.dtype_build.specs.Build.{orUnknown, materialized, physical}
 use Rattle.dtype.specs.Physical.{physicalLeaf}
 use Rattle.dtype_build.specs.Leaf.{materializedLeaf, mapLeaves, hasAny, BuiltType}
 use Rattle.dtype_build.proofs.Forms.{physical-is, known-is, noneIf}
 
--- Two arrays that the check found valid: a type stands at their front, and nothing after it.
-module _ (nodes deep : ℕ) (ks xs : List ℕ) (v : answer.Valid ≡ checkedOf (reading nodes deep ks xs)) where
-  pub valid : Valid ks xs
-  valid = check-passed v .valid
+-- ---- a refusal
+pub physical-refused : {r : Reading} {e : Error} → r ≡ refused e → physical r ≡ refused e
+unfolding physical
+physical-refused h = rw h
 
-  flat-kinds : ks ≡ kindsOf (typeAt ks xs)
-  flat-kinds = let p = check-passed v in p .form .kinds ∙ ap kindsOf (sym (p .front))
+pub materialized-refused : (allow : Bool) {r : Reading} {e : Error} → r ≡ refused e → materialized allow r ≡ refused e
+unfolding materialized
+materialized-refused allow h = rw h
 
-  pub whole : size (typeAt ks xs) ≡ length ks
-  whole = let p = check-passed v in ap size (p .front) ∙ p .whole
+-- a refusal is given whatever room there is
+pub refusal : (k a : ℕ) {r : Reading} {e : Error} {K A : List ℕ} → r ≡ refused e →
+    Writes (fitting k a r) K A K A (Written.Refused e)
+unfolding fitting
+refusal k a h = writes-refused (rw h)
+
+-- ---- a type
+
+-- Two arrays that the check passed, by the limits nodes and deep: a type stands at their front, and nothing after it.
+pub record Whole : Type 0 where
+  pub nodes : ℕ
+  pub deep : ℕ
+  pub ks : List ℕ
+  pub xs : List ℕ
+  pub passed : Passed nodes deep ks xs
+
+module _ (p : Whole) where
+  open Whole p using (nodes, deep, ks, xs, passed)
+
+  -- what `build` requires
+  pub whole-requires : Valid ks xs × (size (typeAt ks xs) ≡ length ks)
+  whole-requires = (passed .valid, ap size (passed .front) ∙ passed .whole)
 
   reads : reading nodes deep ks xs ≡ type (typeAt ks xs)
-  reads = let p = check-passed v in p .reads ∙ ap type (sym (p .front))
+  reads = passed .reads ∙ ap type (sym (passed .front))
 
   pub physical-type : physical (reading nodes deep ks xs) ≡ type (mapLeaves physicalLeaf (typeAt ks xs))
   unfolding physical
   physical-type = ap physical reads ∙ ap type (sym (physical-is (typeAt ks xs)))
 
-  module _ (allow : Bool) where
-    by-any : (b : Bool) → (hasAny ks && not allow) ≡ b → materialized allow (reading nodes deep ks xs) ≡ orUnknown (noneIf b (mapLeaves materializedLeaf (typeAt ks xs)))
+  -- b is the answer of any_refused
+  module _ (allow : Bool) {b : Bool} (e : b ≡ (hasAny ks && not allow)) where
+    known : materialized allow (reading nodes deep ks xs) ≡
+        orUnknown (noneIf b (mapLeaves materializedLeaf (typeAt ks xs)))
     unfolding materialized
-    by-any b e = ap (materialized allow) reads ∙ ap orUnknown (known-is allow (typeAt ks xs) ∙ ap (λ (c : Bool). noneIf c (mapLeaves materializedLeaf (typeAt ks xs))) (ap (λ (l : List ℕ). hasAny l && not allow) (sym flat-kinds) ∙ e))
+    known =
+        let k : ks ≡ kindsOf (typeAt ks xs) = passed .form .kinds ∙ ap kindsOf (sym (passed .front)) in
+        let a : (hasAny (kindsOf (typeAt ks xs)) && not allow) ≡ b =
+        ap (λ (l : List ℕ). hasAny l && not allow) (sym k) ∙ sym e in
+        rw (reads, known-is allow (typeAt ks xs), a)
 
-    pub known-none : (hasAny ks && not allow) ≡ true → materialized allow (reading nodes deep ks xs) ≡ refused Unknown
-    known-none = by-any true
+    pub known-none : b ≡ true → materialized allow (reading nodes deep ks xs) ≡ refused Unknown
+    known-none h = known ∙ rw h
 
-    pub known-type : (hasAny ks && not allow) ≡ false → materialized allow (reading nodes deep ks xs) ≡ type (mapLeaves materializedLeaf (typeAt ks xs))
-    known-type = by-any false
+    pub known-type : b ≡ false →
+        materialized allow (reading nodes deep ks xs) ≡ type (mapLeaves materializedLeaf (typeAt ks xs))
+    known-type h = known ∙ rw h
+
+-- what is written of a reading is written of one that is equal to it
+pub writes-as : (k a : ℕ) {r r′ : Reading} {K A K′ A′ : List ℕ} {w : Written} → r ≡ r′ →
+    Writes (fitting k a r′) K A K′ A′ w → Writes (fitting k a r) K A K′ A′ w
+writes-as k a e w = rw e w
 
 -- What a caller of the walk finds at the front of the two arrays: the flat form of the type that was built.
-pub front : (t : DataType) {K A K′ A′ : List ℕ} {r : ℕ} → BuiltType t K A K′ A′ r → (r ≡ size t) × (take r K′ ≡ kindsOf t) × (take r A′ ≡ argsOf t)
+pub front : (t : DataType) {K A K′ A′ : List ℕ} {r : ℕ} → BuiltType t K A K′ A′ r →
+    (r ≡ size t) × (take r K′ ≡ kindsOf t) × (take r A′ ≡ argsOf t)
 front t {r = r} b =
     let n = b .nodes ∙ length-kinds t in
-    (n, ap (take r) (b .kinds) ∙ take-at (kindsOf t) _ r (sym (b .nodes)), ap (take r) (b .args) ∙ take-at (argsOf t) _ r (length-args t ∙ sym n))
+    let kinds = ap (take r) (b .kinds) ∙ take-at (kindsOf t) _ r (sym (b .nodes)) in
+    let args = ap (take r) (b .args) ∙ take-at (argsOf t) _ r (length-args t ∙ sym n) in
+    (n, kinds, args)

@@ -1,5 +1,5 @@
--- What the walk builds: the physical form of a type, and its known form where it has one. Both have the type's shape, and are valid types where it is one.
--- Assumes nothing.
+-- What the walk builds: the physical form of a type, and its known form where it has one. Both have the type's shape, and
+-- are valid types where it is one. Assumes nothing.
 use mathlib.Core.Path.{_≡_, refl, sym, ap, ap₂, _∙_}
 use mathlib.Core.Bool.{Bool, true, false, cond, not, _&&_, _||_, or-assoc}
 use mathlib.Core.List.{List, [], _∷_, _++_}
@@ -156,6 +156,6 @@ module _ (form : Form) where
     ruled-fields empty r = tt
     ruled-fields (field name t fs) r = (r .0, ruled-map t (r .1), ruled-fields fs (r .2))
 
-  -- so a valid type is built anew as one
+  -- what is built anew of a valid type is a valid type
   pub is-type : {nodes deep : ℕ} {t : DataType} → IsType nodes deep t → IsType nodes deep (mapLeaves (leafOf form) t)
   is-type {nodes} {deep} {t} v = record { ruled = ruled-map t (v .ruled); within = rw size-map (v .within); shallow = rw depth-map (v .shallow) }

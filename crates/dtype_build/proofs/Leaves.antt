@@ -59,7 +59,7 @@ unfolding materializedLeaf materialize isUnknownInt among headKind
 materialized-same k a s f p n = rw (ne-eqb k Kind.UnknownStr s, ne-eqb k Kind.UnknownFloat f, ne-eqb k Kind.UnknownIntPos p, ne-eqb k Kind.UnknownIntNeg n)
 
 -- ---- what a rule makes of a leaf
--- of each integer type that a dyn integer becomes
+-- what holds of each integer type that a dyn integer may become holds of the one that it becomes
 dyn-each : (P : ℕ → Type 0) → P Kind.Int32 → P Kind.Int64 → P Kind.UInt64 → P Kind.Int128 → (v : ℤ) → P (materializeDynInt v)
 unfolding materializeDynInt
 dyn-each P a b c d v = go (holds Kind.Int32 v) (holds Kind.Int64 v) (holds Kind.UInt64 v)
@@ -71,7 +71,7 @@ dyn-each P a b c d v = go (holds Kind.Int32 v) (holds Kind.Int64 v) (holds Kind.
     go false false false = d
 
 module _ (k a : ℕ) where
-  -- a leaf: it keeps its argument where it keeps its kind, and else has 0; and it keeps document 01's rules
+  -- t is a leaf that keeps its argument where it keeps its kind, and else has 0; and it keeps document 01's rules
   record Leaf (t : DataType) : Type 0 where
     is : t ≡ leaf (headKind t) (keptArg k (headKind t) a)
     ruled : Ruled (leaf k a) → Ruled t

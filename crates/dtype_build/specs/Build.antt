@@ -12,10 +12,12 @@ abbrev pub orUnknown : Option DataType → Reading
 orUnknown none = refused Unknown
 orUnknown (some t) = type t
 
+-- what `materialize_unknown` comes to: refusals 1 to 5, then 7, or the type
 unfoldable pub materialized : Bool → Reading → Reading
 materialized allow (refused e) = refused e
 materialized allow (type t) = orUnknown (materializeUnknown allow t)
 
+-- what `to_physical` comes to: refusals 1 to 5, or the type
 unfoldable pub physical : Reading → Reading
 physical (refused e) = refused e
 physical (type t) = type (toPhysical t)

@@ -1,5 +1,5 @@
--- The types that are built anew differ from the old in their leaves alone: `map_leaves` of dtype.rs, and its two rules. Assumes nothing: these are
--- definitions.
+-- The types that are built anew differ from the old in their leaves alone: `map_leaves` of dtype.rs, and its two rules.
+-- Assumes nothing: these are definitions.
 use mathlib.Core.Path.{_≡_}
 use mathlib.Core.Bool.{Bool, cond}
 use mathlib.Core.List.{List}
@@ -7,7 +7,8 @@ use Prim.Native.Nat.{ℕ, _≤_}
 use lib.Dec.{eqb}
 use lib.ListN.{length}
 use Rattle.flat.specs.Kind
-use Rattle.flat.specs.Tree.{DataType, leaf, list, array, struct, Fields, empty, field, kindsOf, kindsOfs, argsOf, argsOfs}
+use Rattle.flat.specs.Tree.{DataType, leaf, list, array, struct, Fields, empty, field}
+use Rattle.flat.specs.Tree.{kindsOf, kindsOfs, argsOf, argsOfs}
 use Rattle.flat.specs.Walk.{withDefault}
 use Rattle.flat.specs.Output.{over}
 use Rattle.dtype_build.specs.Materialize.{materialize}
@@ -50,16 +51,17 @@ pub record HasRoom (n : ℕ) (K A : List ℕ) : Type 0 where
   pub kinds : n ≤ length K
   pub args : n ≤ length A
 
--- What a walk leaves that builds nodes of the kinds ks and the arguments xs: their number, and the two lent arrays, K and A before it and K′ and A′
--- after it.
+-- What a walk leaves that builds nodes of the kinds ks and the arguments xs: their number, and the two lent arrays, K
+-- and A before it and K′ and A′ after it.
 pub record Built (ks xs K A K′ A′ : List ℕ) (r : ℕ) : Type 0 where
   pub nodes : r ≡ length ks
   pub kinds : K′ ≡ over ks K
   pub args : A′ ≡ over xs A
 
--- of a type, and of fields
+-- what a walk leaves that builds a type
 abbrev pub BuiltType : DataType → (K A K′ A′ : List ℕ) → ℕ → Type 0
 BuiltType t = Built (kindsOf t) (argsOf t)
 
+-- what a walk leaves that builds fields
 abbrev pub BuiltFields : Fields → (K A K′ A′ : List ℕ) → ℕ → Type 0
 BuiltFields fs = Built (kindsOfs fs) (argsOfs fs)

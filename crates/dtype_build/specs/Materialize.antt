@@ -1,4 +1,5 @@
--- What becomes of unknown types: `UnknownKind::materialize` and `materialize_unknown` of dtype.rs. Assumes nothing: these are definitions.
+-- What becomes of unknown types: `UnknownKind::materialize` and `materialize_unknown` of dtype.rs. Assumes nothing:
+-- these are definitions.
 use mathlib.Core.Bool.{Bool, true, false, cond}
 use mathlib.Core.Option.{Option, none, some}
 use Prim.Native.Nat.{ℕ}
@@ -17,7 +18,7 @@ materialize k a =
     (cond (eqb k Kind.UnknownStr) (some (leaf Kind.String 0))
     none))
 
--- t where there is none and unknown types are allowed
+-- the known type; where there is none, t itself if unknown types are allowed
 abbrev pub orKept : Bool → DataType → Option DataType → Option DataType
 orKept allow t (some known) = some known
 orKept true t none = some t
@@ -34,4 +35,5 @@ unfoldable mutual
   -- field after field: the first error is the whole call's
   pub materializeFields : Bool → Fields → Option Fields
   materializeFields allow empty = some empty
-  materializeFields allow (field name t fs) = bindO (materializeUnknown allow t) (λ u. mapO (field name u) (materializeFields allow fs))
+  materializeFields allow (field name t fs) =
+      bindO (materializeUnknown allow t) (λ u. mapO (field name u) (materializeFields allow fs))

@@ -6,11 +6,13 @@ ghost use Rattle.dtype_build.specs.Leaf.{materializedLeaf, leafOf, keptA
 use flat::kind::Kind;
 use supertype_numbers::dyn_int::materialize_dyn_int;
 
+// The form that a type is built in: the answer of `to_physical`, or that of `materialize_unknown`.
 pub enum Form {
     Physical,
     Materialized,
 }
 
+// The kind of a leaf in its physical form.
 fn physical_kind(k: u8) -> u8
     ensures { λ r. ⌜ r ≡ physicalKind k ⌝ }
 {
@@ -22,6 +24,7 @@ fn physical_kind(k: u8) -> u8
     }
 }
 
+// The kind of a leaf once its type is known: of an unknown type that is known, and else its own.
 fn materialized_kind(k: u8, a: u64) -> u8
     ensures { λ r. ⌜ r ≡ headKind (materializedLeaf k a) ⌝ }
 {
@@ -43,7 +46,8 @@ pub fn kind_form(form: Form, k: u8, a: u64) -> u8
     }
 }
 
-// Its argument: a leaf whose kind stays keeps it, one whose kind changes has 0.
+// The argument of a leaf of the kind k and the argument a, once its kind is new: one that keeps its kind keeps it, and
+// any other has 0.
 fn argument_form(k: u8, new: u8, a: u64) -> u64
     ensures { λ r. ⌜ r ≡ keptArg k new a ⌝ }
 {
@@ -53,7 +57,12 @@ fn argument_form(k: u8, new: u8, a: u64) -> u64
 // Writes a leaf in the given form to the front of out_kinds and out_args.
 pub fn leaf_form(form: Form, k: u8, a: u64, out_kinds: &mut [u8], out_args: &mut [u64])
     requires { ⌜ HasRoom 1 (now «out_kinds») (now «out_args») ⌝ }
-    ensures { λ _. ⌜ BuiltType (leafOf form k a) (now («out_kinds» .entry)) (now («out_args» .entry)) (now («out_kinds» .exit)) (now («out_args» .exit)) 1 ⌝ }
+    ensures { λ _. do
+      let K = now («out_kinds» .entry)
+      let A = now («out_args» .entry)
+      let K′ = now («out_kinds» .exit)
+      let A′ = now («out_args» .exit)
+      ⌜ BuiltType (leafOf form k a) K A K′ A′ 1 ⌝ }
 {
     let new = kind_form(form, k, a);
     out_kinds[0] = new;

@@ -1,7 +1,6 @@
 // Types that are built anew: `materialize_unknown` and `to_physical` of dtype.rs.
-pub mod datatype;
-pub mod field;
 pub mod leaf;
+pub mod walk;
 
 ghost use mathlib.Core.Path.{_≡_};
 ghost use mathlib.Core.Bool.{not, _&&_};
@@ -20,7 +19,7 @@ use flat::error::Error;
 use flat::kind::Kind;
 use leaf::Form;
 
-// Builds a type that was checked, in the given form: refusal 8.
+// Builds a type that was checked, in the given form, at the front of out_kinds and out_args: refusal 8 alone.
 fn build(
     form: Form,
     kinds: &[u8],
@@ -29,7 +28,13 @@ fn build(
     out_args: &mut [u64],
 ) -> Written
     requires { ⌜ Valid (now kinds) (now args) × (size (typeAt (now kinds) (now args)) ≡ length (now kinds)) ⌝ }
-    ensures { λ r. ⌜ Writes (fitting (length (now («out_kinds» .entry))) (length (now («out_args» .entry))) (type (mapLeaves (leafOf form) (typeAt (now (kinds .entry)) (now (args .entry)))))) (now («out_kinds» .entry)) (now («out_args» .entry)) (now («out_kinds» .exit)) (now («out_args» .exit)) r ⌝ }
+    ensures { λ r. do
+      let built = mapLeaves (leafOf form) (typeAt (now (kinds .entry)) (now (args .entry)))
+      let K = now («out_kinds» .entry)
+      let A = now («out_args» .entry)
+      let K′ = now («out_kinds» .exit)
+      let A′ = now («out_args» .exit)
+      ⌜ Writes (fitting (length K) (length A) (type built)) K A K′ A′ r ⌝ }
 {
     if out_kinds.len() < kinds.len() {
         return Written::Refused(Error::OutputTooShort);
@@ -42,11 +47,11 @@ fn build(
         leaf::leaf_form(form, kinds[0], args[0], out_kinds, out_args);
         return Written::Nodes(1);
     }
-    let n = datatype::node_form(form, kinds, args, out_kinds, out_args);
+    let n = walk::node_form(form, kinds, args, out_kinds, out_args);
     Written::Nodes(n)
 }
 
-// Whether any stands in a type and is not allowed.
+// Whether the unknown type any stands in a type and is not allowed.
 pub fn any_refused(kinds: &[u8], allow_unknown: bool) -> bool
     ensures { λ r. ⌜ r ≡ (hasAny (now (kinds .entry)) && not «allow_unknown») ⌝ }
 {
@@ -56,7 +61,7 @@ pub fn any_refused(kinds: &[u8], allow_unknown: bool) -> bool
     scan::any_between(kinds, Kind::UNKNOWN_ANY, Kind::UNKNOWN_ANY)
 }
 
-// The type with each unknown type made known, to the front of out_kinds and out_args: refusals 1 to 5, 7, then 8.
+// Writes the type with each unknown type made known to the front of out_kinds and out_args: refusals 1 to 5, 7, then 8.
 pub fn materialize_unknown(
     kinds: &[u8],
     args: &[u64],
@@ -67,7 +72,12 @@ pub fn materialize_unknown(
     ensures { λ r. do
       nodes ← ⟦Flat::MAX_NODES⟧ .entry
       deep ← ⟦Flat::MAX_DEPTH⟧ .entry
-      ⌜ Writes (fitting (length (now («out_kinds» .entry))) (length (now («out_args» .entry))) (materialized «allow_unknown» (reading nodes deep (now (kinds .entry)) (now (args .entry))))) (now («out_kinds» .entry)) (now («out_args» .entry)) (now («out_kinds» .exit)) (now («out_args» .exit)) r ⌝ }
+      let known = materialized «allow_unknown» (reading nodes deep (now (kinds .entry)) (now (args .entry)))
+      let K = now («out_kinds» .entry)
+      let A = now («out_args» .entry)
+      let K′ = now («out_kinds» .exit)
+      let A′ = now («out_args» .exit)
+      ⌜ Writes (fitting (length K) (length A) known) K A K′ A′ r ⌝ }
 {
     match flat::check(kinds, args) {
         Checked::Refused(e) => Written::Refused(e),
@@ -80,7 +90,7 @@ pub fn materialize_unknown(
     }
 }
 
-// Its physical form: refusals 1 to 5, then 8.
+// Writes the type's physical form to the front of out_kinds and out_args: refusals 1 to 5, then 8.
 pub fn to_physical(
     kinds: &[u8],
     args: &[u64],
@@ -90,7 +100,12 @@ pub fn to_physical(
     ensures { λ r. do
       nodes ← ⟦Flat::MAX_NODES⟧ .entry
       deep ← ⟦Flat::MAX_DEPTH⟧ .entry
-      ⌜ Writes (fitting (length (now («out_kinds» .entry))) (length (now («out_args» .entry))) (physical (reading nodes deep (now (kinds .entry)) (now (args .entry))))) (now («out_kinds» .entry)) (now («out_args» .entry)) (now («out_kinds» .exit)) (now («out_args» .exit)) r ⌝ }
+      let form = physical (reading nodes deep (now (kinds .entry)) (now (args .entry)))
+      let K = now («out_kinds» .entry)
+      let A = now («out_args» .entry)
+      let K′ = now («out_kinds» .exit)
+      let A′ = now («out_args» .exit)
+      ⌜ Writes (fitting (length K) (length A) form) K A K′ A′ r ⌝ }
 {
     match flat::check(kinds, args) {
         Checked::Refused(e) => Written::Refused(e),

@@ -2,6 +2,6 @@
 mod Arms
 mod Pairs
 mod Steps
-mod Entry
+pub mod Entry
 pub mod Structs
 pub mod Scans

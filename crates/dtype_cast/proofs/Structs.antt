@@ -5,59 +5,59 @@ use mathlib.Core.Option.{Option, none, some}
 use Prim.Native.Nat.{ℕ, suc}
 use native.Mathlib.Omega.{arith}
 use borrow.Author.Tests.{eq-eqb, ne-eqb}
-use Rattle.flat.specs.Tree.{DataType, struct, Fields, empty, field, count, headKind}
-use Rattle.dtype.specs.Match.{among}
-use Rattle.dtype.specs.Predicate.{isUnknownInt, isPrimitiveNumeric, isFloat, isInteger, isSignedInteger, isUnsignedInteger}
-use Rattle.dtype_cast.specs.Cast.{andThen, castsWithBoolean, canCastTo, fieldsCast}
-use Rattle.dtype_cast.specs.Walk.{equalLeaves, earlyOf}
+use Rattle.flat.specs.Tree.{DataType, struct, Fields, empty, field, count}
+use Rattle.dtype_cast.specs.Cast.{andThen, canCastTo, fieldsCast}
 use Rattle.dtype_cast.specs.Laws.{append, AllCast, no-fields, one-more, CastLaws}
-use Rattle.dtype_cast.proofs.Arms.{arms, by-roots}
-use Rattle.dtype_cast.proofs.Pairs.{struct-arms}
-
--- the roots of two Structs leave it open
-by-arms : (fs gs : Fields) → canCastTo (struct fs) (struct gs) ≡ arms (struct fs) (struct gs)
-unfolding earlyOf equalLeaves headKind castsWithBoolean isPrimitiveNumeric isFloat isInteger isSignedInteger isUnsignedInteger isUnknownInt among
-by-arms fs gs = by-roots (struct fs) (struct gs) tt
+use Rattle.dtype_cast.proofs.Arms.{structs-arm, struct-arms}
 
 no-field : (gs : Fields) → canCastTo (struct empty) (struct gs) ≡ some true
-no-field gs = by-arms empty gs
+no-field gs = structs-arm empty gs
 
-other-count : (fs gs : Fields) → (count fs ≡ 0 → ⊥) → (count fs ≡ count gs → ⊥) → canCastTo (struct fs) (struct gs) ≡ some false
-other-count fs gs z q = by-arms fs gs ∙ struct-arms fs gs z ∙ rw (ne-eqb (count fs) (count gs) q)
+other-count : (fs gs : Fields) → (count fs ≡ 0 → ⊥) → (count fs ≡ count gs → ⊥)
+    → canCastTo (struct fs) (struct gs) ≡ some false
+other-count fs gs z q = structs-arm fs gs ∙ struct-arms fs gs z ∙ rw (ne-eqb (count fs) (count gs) q)
 
--- as many fields, and one at least: the walk over them answers
-same-count : (fs gs : Fields) → (count fs ≡ 0 → ⊥) → count fs ≡ count gs → canCastTo (struct fs) (struct gs) ≡ fieldsCast fs gs
-same-count fs gs z q = by-arms fs gs ∙ struct-arms fs gs z ∙ rw (eq-eqb (count fs) (count gs) q)
+-- Of Structs with as many fields, and one at least, the fields decide.
+same-count : (fs gs : Fields) → (count fs ≡ 0 → ⊥) → count fs ≡ count gs
+    → canCastTo (struct fs) (struct gs) ≡ fieldsCast fs gs
+same-count fs gs z q = structs-arm fs gs ∙ struct-arms fs gs z ∙ rw (eq-eqb (count fs) (count gs) q)
 
--- what is not a yes decides
+-- A verdict that is not a yes decides.
 decides : (q rest : Option Bool) → (q ≡ some true → ⊥) → andThen q rest ≡ q
 decides none rest f = refl
 decides (some false) rest f = refl
 decides (some true) rest f = absurd (f refl)
 
--- fields after fields that all cast: as many, and what the walk answers is what it answers for those
+-- Fields after fields that all cast: as many on both sides, and they decide.
 module _ (fs gs : Fields) (q : count fs ≡ count gs) where
   counts : {before before′ : Fields} → AllCast before before′ → count (append before fs) ≡ count (append before′ gs)
   unfolding append count
   counts no-fields = q
   counts (one-more name other e rest) = ap suc (counts rest)
 
-  goes-on : {before before′ : Fields} → AllCast before before′ → fieldsCast (append before fs) (append before′ gs) ≡ fieldsCast fs gs
+  goes-on : {before before′ : Fields} → AllCast before before′
+      → fieldsCast (append before fs) (append before′ gs) ≡ fieldsCast fs gs
   unfolding append canCastTo
   goes-on no-fields = refl
   goes-on (one-more name other e rest) = rw e (goes-on rest)
 
--- there is a field
-some-field : (before : Fields) (name : ℕ) (t : DataType) (after : Fields) → count (append before (field name t after)) ≡ 0 → ⊥
+-- Where a field stands among others, there is one.
+some-field : (before : Fields) (name : ℕ) (t : DataType) (after : Fields)
+    → count (append before (field name t after)) ≡ 0 → ⊥
 unfolding append count
 some-field empty name t after e = absurd (omega arith)
 some-field (field n u before) name t after e = absurd (omega arith)
 
-first-decides : {before before′ : Fields} → AllCast before before′ → (name other : ℕ) (t u : DataType) (after after′ : Fields) → count after ≡ count after′ → (canCastTo t u ≡ some true → ⊥) → canCastTo (struct (append before (field name t after))) (struct (append before′ (field other u after′))) ≡ canCastTo t u
+first-decides : {before before′ : Fields} → AllCast before before′
+    → (name other : ℕ) (t u : DataType) (after after′ : Fields) → count after ≡ count after′
+    → (canCastTo t u ≡ some true → ⊥)
+    → canCastTo (struct (append before (field name t after))) (struct (append before′ (field other u after′)))
+    ≡ canCastTo t u
 unfolding canCastTo count
 first-decides {before} {before′} a name other t u after after′ q f =
     let p : count (field name t after) ≡ count (field other u after′) = ap suc q in
-    same-count _ _ (some-field before name t after) (counts _ _ p a) ∙ goes-on _ _ p a ∙ decides (canCastTo t u) (fieldsCast after after′) f
+    same-count _ _ (some-field before name t after) (counts _ _ p a) ∙ goes-on _ _ p a
+    ∙ decides (canCastTo t u) (fieldsCast after after′) f
 
 fields-cast : {fs gs : Fields} → AllCast fs gs → (count fs ≡ count gs) × (fieldsCast fs gs ≡ some true)
 unfolding canCastTo count
@@ -72,4 +72,9 @@ all-cast {fs} {gs} (one-more name other e rest) =
     same-count fs gs (λ z. absurd (omega arith)) (a .0) ∙ a .1
 
 pub cast-laws : CastLaws
-cast-laws = record { no-field = no-field; other-count = other-count; first-decides = first-decides; all-cast = all-cast }
+cast-laws = record {
+  no-field = no-field;
+  other-count = other-count;
+  first-decides = first-decides;
+  all-cast = all-cast;
+}

@@ -14,7 +14,8 @@ use Rattle.dtype.specs.Equality.{equal}
 unfoldable pub castsWithBoolean : ℕ → Bool
 castsWithBoolean k = isPrimitiveNumeric k || among (Kind.Decimal ∷ Kind.String ∷ Kind.Binary ∷ []) k
 
--- what stands before the arms of nested types: equal types, two primitive numeric types, Null, then Boolean on either side
+-- What stands before the arms of nested types: equal types, two primitive numeric types, Null, then Boolean on either
+-- side.
 unfoldable pub beforeNested : DataType → DataType → Option Bool → Option Bool
 beforeNested from to rest =
     cond (equal from to) (some true)
@@ -34,10 +35,13 @@ unfoldable mutual
   pub canCastTo : DataType → DataType → Option Bool
   canCastTo (leaf k a) to = beforeNested (leaf k a) to none
   canCastTo (list t) to = beforeNested (list t) to (ifList none (canCastTo t) to)
-  canCastTo (array w t) to = beforeNested (array w t) to (ifArray none (λ v u. cond (eqb w v) (canCastTo t u) (some false)) to)
+  canCastTo (array w t) to =
+      beforeNested (array w t) to
+      (ifArray none (λ v u. cond (eqb w v) (canCastTo t u) (some false)) to)
   canCastTo (struct fs) to =
       beforeNested (struct fs) to
-      (ifStruct none (λ gs. cond (isEmpty fs) (some true) (cond (eqb (count fs) (count gs)) (fieldsCast fs gs) (some false))) to)
+      (ifStruct none
+      (λ gs. cond (isEmpty fs) (some true) (cond (eqb (count fs) (count gs)) (fieldsCast fs gs) (some false))) to)
 
   -- fields left to right; names don't count
   pub fieldsCast : Fields → Fields → Option Bool

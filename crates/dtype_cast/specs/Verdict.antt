@@ -3,7 +3,8 @@ use mathlib.Core.Bool.{Bool, true, false}
 use mathlib.Core.Option.{Option, none, some}
 use Prim.Native.Nat.{ℕ}
 use Rattle.flat.specs.Refusal.{numberOf}
-use Rattle.flat.specs.Reading.{Reading, refused, type}
+use Rattle.flat.specs.Reading.{Reading}
+use Rattle.flat.specs.Both.{bothOf}
 use Rattle.dtype_cast.specs.Cast.{canCastTo}
 use Rattle.dtype_cast.specs.declared.Verdict.{Verdict}
 
@@ -13,19 +14,18 @@ verdict none = Verdict.NoVerdict
 verdict (some false) = Verdict.No
 verdict (some true) = Verdict.Yes
 
--- of two types: the first through 1 to 5, then the second
+-- the answer on two types: the first through 1 to 5, then the second, then the verdict
 abbrev pub castOf : Reading → Reading → Verdict
-castOf (refused e) to = Verdict.Refused e
-castOf (type t) (refused e) = Verdict.Refused e
-castOf (type t) (type u) = verdict (canCastTo t u)
+castOf = bothOf Verdict.Refused (λ t u. verdict (canCastTo t u))
 
--- document 01's number of an answer, and the value beside it: 0 no, 1 yes, 2 no verdict
+-- document 01's number of an answer
 abbrev pub verdictNumber : Verdict → ℕ
 verdictNumber Verdict.No = 0
 verdictNumber Verdict.Yes = 0
 verdictNumber Verdict.NoVerdict = 0
 verdictNumber (Verdict.Refused e) = numberOf e
 
+-- the value beside the number: 0 no, 1 yes, 2 no verdict
 abbrev pub verdictValue : Verdict → ℕ
 verdictValue Verdict.No = 0
 verdictValue Verdict.Yes = 1

@@ -8,13 +8,14 @@ use dtype::kind::is_primitive_numeric;
 use dtype::node::equal_node;
 use flat::kind::Kind;
 
+// The verdict that two roots give, or that they leave it open.
 pub enum Early {
     Yes,
     No,
     Open,
 }
 
-// Equality of two leaves.
+// Whether two nodes are equal types that are not nested.
 fn equal_leaves(k: u8, a: u64, l: u8, b: u64) -> bool
     ensures { λ r. ⌜ r ≡ equalLeaves k a l b ⌝ }
 {
@@ -24,6 +25,7 @@ fn equal_leaves(k: u8, a: u64, l: u8, b: u64) -> bool
     equal_node(k, a, l, b)
 }
 
+// Two primitive numeric types.
 pub fn both_numeric(k: u8, l: u8) -> bool
     ensures { λ r. ⌜ r ≡ (isPrimitiveNumeric k && isPrimitiveNumeric l) ⌝ }
 {
@@ -45,6 +47,7 @@ fn casts_with_boolean(kind: u8) -> bool
     }
 }
 
+// A test that decides.
 fn decided(yes: bool) -> Early
     ensures { λ r. ⌜ r ≡ decided yes ⌝ }
 {

@@ -1,4 +1,5 @@
--- What is equal to a valid type, node by node, is a valid type: so the check of one of two types that are alike serves both. Assumes nothing.
+-- What is equal to a valid type, node by node, is a valid type: so the check of one of two types that are alike serves
+-- both. Assumes nothing.
 use mathlib.Core.Path.{_≡_, refl, sym, ap, ap₂, _∙_}
 use mathlib.Core.Bool.{Bool, true, false, _&&_, _||_, and-false, and-eq-true-iff}
 use mathlib.Core.List.{List, [], _∷_, _++_, append-assoc, append-nil}
@@ -9,15 +10,17 @@ use lib.ListN.{length}
 use borrow.Author.Tests.{eq-eqb, eqb-true}
 use Rattle.flat.specs.Kind
 use Rattle.flat.specs.Argument.{argumentFits, argumentRule}
-use Rattle.flat.specs.Tree.{DataType, leaf, list, array, struct, Fields, empty, field, size, sizes, depth, depths, count, kindsOf, kindsOfs, argsOf, argsOfs}
+use Rattle.flat.specs.Tree.{DataType, leaf, list, array, struct, Fields, empty, field, size, sizes, depth, depths}
+use Rattle.flat.specs.Tree.{count, kindsOf, kindsOfs, argsOf, argsOfs}
 use Rattle.flat.specs.Reading.{Ruled, RuledFields, IsType, type, reading}
+use Rattle.flat.proofs.Truths.{never}
 use Rattle.flat.proofs.Meaning.{passes}
 use Rattle.dtype.specs.Match.{among}
 use Rattle.dtype.specs.Predicate.{isUnknownInt}
 use Rattle.dtype.specs.Equality.{equalNode, equal, equalFields}
 use Rattle.dtype_eq.specs.Nodes.{startsWith}
 use Rattle.dtype.proofs.Pairs.{same-node}
-use Rattle.dtype_eq.proofs.Scans.{never, equal-size}
+use Rattle.dtype_eq.proofs.Scans.{equal-size}
 
 -- the first node of ls and ys, which is equal to the node k, a, and what stands after it
 record First (k a : ℕ) (ks xs ls ys : List ℕ) : Type 0 where
@@ -61,7 +64,8 @@ leaf-ruled k a l b r e = go (isUnknownInt l) refl
         let s = and-eq-true-iff (eqb k l) (eqb a b) .0 f in
         rw (← eqb-true k l (s .0), ← eqb-true a b (s .1)) r
 
--- A type stands at the front of ls and ys that keeps the rules, is equal to t and as deep; what stands after it goes on as ks and xs do.
+-- A type stands at the front of ls and ys that keeps the rules, is equal to t and as deep; what stands after it goes on
+-- as ks and xs do.
 record Alike (t : DataType) (ks xs ls ys : List ℕ) : Type 0 where
   tree : DataType
   ls′ : List ℕ
@@ -75,7 +79,8 @@ record Alike (t : DataType) (ks xs ls ys : List ℕ) : Type 0 where
   even : length ls′ ≡ length ys′
   long : length ls ≡ size t + length ls′
 
--- So do fields.
+-- Fields stand at the front of ls and ys that keep the rules, are equal to fs and as deep; what stands after them goes
+-- on as ks and xs do.
 record AlikeFields (fs : Fields) (ks xs ls ys : List ℕ) : Type 0 where
   fields : Fields
   ls′ : List ℕ

@@ -1,5 +1,5 @@
--- What the scans say of two valid types: a type's nodes stand in one piece, and no type stands at the front of another, so node by node is tree by tree.
--- Assumes nothing.
+-- What the scans say of two valid types: a type's nodes stand in one piece, and no type stands at the front of another,
+-- so node by node is tree by tree. Assumes nothing.
 use mathlib.Core.Path.{_≡_, refl, sym, ap, ap₂, _∙_}
 use mathlib.Core.Bool.{Bool, true, false, _&&_, _||_, and-true, and-false, and-assoc, and-eq-true-iff, or-false, or-assoc}
 use mathlib.Core.List.{List, [], _∷_, _++_, append-assoc, append-nil}
@@ -9,8 +9,10 @@ use lib.Dec.{eqb, eqb·zero-suc, eqb·suc-zero, eqb·suc-suc}
 use lib.ListN.{length}
 use borrow.Author.Tests.{eq-eqb, eqb-true}
 use Rattle.flat.specs.Kind
-use Rattle.flat.specs.Tree.{DataType, leaf, list, array, struct, Fields, empty, field, count, size, sizes, kindsOf, kindsOfs, argsOf, argsOfs}
+use Rattle.flat.specs.Tree.{DataType, leaf, list, array, struct, Fields, empty, field, count, size, sizes}
+use Rattle.flat.specs.Tree.{kindsOf, kindsOfs, argsOf, argsOfs}
 use Rattle.flat.specs.Reading.{Ruled, RuledFields}
+use Rattle.flat.proofs.Truths.{never}
 use Rattle.flat.proofs.Sizes.{length-kinds, length-args}
 use Rattle.flat.proofs.Meaning.{Holds}
 use Rattle.dtype.specs.Match.{among}
@@ -116,9 +118,6 @@ module _ (u : DataType) (s : Ruled u) where
           occurs-fields fs (r .2) ks xs,
           or-assoc,
         )
-
-pub never : {A : Type 0} → false ≡ true → A
-never e = absurd (let z : _≡_ {A = ℕ} 0 1 = cc in omega arith)
 
 -- two lists that are the same to a scan are equal
 pub same-lists : (xs ys : List ℕ) → sameList xs ys ≡ true → xs ≡ ys

@@ -17,7 +17,9 @@ pub fn equal(left_kinds: &[u8], left_args: &[u64], right_kinds: &[u8], right_arg
     ensures { λ r. do
       nodes ← ⟦Flat::MAX_NODES⟧ .entry
       deep ← ⟦Flat::MAX_DEPTH⟧ .entry
-      ⌜ r ≡ answersOf equal (reading nodes deep (now («left_kinds» .entry)) (now («left_args» .entry))) (reading nodes deep (now («right_kinds» .entry)) (now («right_args» .entry))) ⌝ }
+      let left = reading nodes deep (now («left_kinds» .entry)) (now («left_args» .entry))
+      let right = reading nodes deep (now («right_kinds» .entry)) (now («right_args» .entry))
+      ⌜ r ≡ answersOf equal left right ⌝ }
 {
     // two plain leaves are compared at once
     if flat::is_plain(left_kinds, left_args) {
@@ -49,7 +51,9 @@ pub fn contains_dtype_recursive(
     ensures { λ r. do
       nodes ← ⟦Flat::MAX_NODES⟧ .entry
       deep ← ⟦Flat::MAX_DEPTH⟧ .entry
-      ⌜ r ≡ answersOf containsDtypeRecursive (reading nodes deep (now («left_kinds» .entry)) (now («left_args» .entry))) (reading nodes deep (now («right_kinds» .entry)) (now («right_args» .entry))) ⌝ }
+      let left = reading nodes deep (now («left_kinds» .entry)) (now («left_args» .entry))
+      let right = reading nodes deep (now («right_kinds» .entry)) (now («right_args» .entry))
+      ⌜ r ≡ answersOf containsDtypeRecursive left right ⌝ }
 {
     match flat::check(left_kinds, left_args) {
         Checked::Valid => {}

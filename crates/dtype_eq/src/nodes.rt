@@ -4,10 +4,17 @@ ghost use lib.ListN.{length};
 ghost use Rattle.dtype_eq.specs.Nodes.{sameList, startsWith, alike, occurs};
 use dtype::node::equal_node;
 
-// Whether the pattern's nodes stand at the front. Of two valid types: whether they are equal, since no type stands at the front of another.
+// Whether the pattern's nodes stand at the front. Of two valid types: whether they are equal, since no type stands at
+// the front of another.
 pub fn starts_with(kinds: &[u8], args: &[u64], pattern_kinds: &[u8], pattern_args: &[u64]) -> bool
-    requires { ⌜ (length (now kinds) ≡ length (now args)) × (length (now «pattern_kinds») ≡ length (now «pattern_args»)) ⌝ }
-    ensures { λ r. ⌜ r ≡ startsWith (now (kinds .entry)) (now (args .entry)) (now («pattern_kinds» .entry)) (now («pattern_args» .entry)) ⌝ }
+    requires { do
+      let even = length (now kinds) ≡ length (now args)
+      let pattern = length (now «pattern_kinds») ≡ length (now «pattern_args»)
+      ⌜ even × pattern ⌝ }
+    ensures { λ r. do
+      let ks = now (kinds .entry)
+      let xs = now (args .entry)
+      ⌜ r ≡ startsWith ks xs (now («pattern_kinds» .entry)) (now («pattern_args» .entry)) ⌝ }
 {
     if kinds.len() < pattern_kinds.len() {
         return false;
@@ -38,7 +45,7 @@ pub fn same_bytes(bytes: &[u8], others: &[u8]) -> bool
     same
 }
 
-// Likewise of arguments.
+// Whether two runs of arguments, of one length, are the same: `same_bytes` for numbers of 64 bits.
 fn same_args(args: &[u64], other_args: &[u64]) -> bool
     requires { ⌜ length (now args) ≡ length (now «other_args») ⌝ }
     ensures { λ r. ⌜ r ≡ sameList (now (args .entry)) (now («other_args» .entry)) ⌝ }
@@ -57,7 +64,10 @@ fn same_args(args: &[u64], other_args: &[u64]) -> bool
 // Whether the other nodes are as many, and each equal to the node in its place.
 pub fn alike(kinds: &[u8], args: &[u64], other_kinds: &[u8], other_args: &[u64]) -> bool
     requires { ⌜ length (now kinds) ≡ length (now args) ⌝ }
-    ensures { λ r. ⌜ r ≡ alike (now (kinds .entry)) (now (args .entry)) (now («other_kinds» .entry)) (now («other_args» .entry)) ⌝ }
+    ensures { λ r. do
+      let ks = now (kinds .entry)
+      let xs = now (args .entry)
+      ⌜ r ≡ alike ks xs (now («other_kinds» .entry)) (now («other_args» .entry)) ⌝ }
 {
     if kinds.len() != other_kinds.len() {
         return false;
@@ -74,10 +84,17 @@ pub fn alike(kinds: &[u8], args: &[u64], other_kinds: &[u8], other_args: &[u64])
     starts_with(kinds, args, other_kinds, other_args)
 }
 
-// Whether the pattern's nodes stand somewhere. Of two valid types: whether the first contains the second, since a type's nodes stand in one piece.
+// Whether the pattern's nodes stand somewhere. Of two valid types: whether the first contains the second, since a
+// type's nodes stand in one piece.
 pub fn occurs(kinds: &[u8], args: &[u64], pattern_kinds: &[u8], pattern_args: &[u64]) -> bool
-    requires { ⌜ (length (now kinds) ≡ length (now args)) × (length (now «pattern_kinds») ≡ length (now «pattern_args»)) ⌝ }
-    ensures { λ r. ⌜ r ≡ occurs (now (kinds .entry)) (now (args .entry)) (now («pattern_kinds» .entry)) (now («pattern_args» .entry)) ⌝ }
+    requires { do
+      let even = length (now kinds) ≡ length (now args)
+      let pattern = length (now «pattern_kinds») ≡ length (now «pattern_args»)
+      ⌜ even × pattern ⌝ }
+    ensures { λ r. do
+      let ks = now (kinds .entry)
+      let xs = now (args .entry)
+      ⌜ r ≡ occurs ks xs (now («pattern_kinds» .entry)) (now («pattern_args» .entry)) ⌝ }
 {
     if kinds.len() < pattern_kinds.len() {
         return false;

@@ -1,8 +1,9 @@
--- An inner or leaf type stands at the end of the type's flat form, and the kinds alone tell how many nodes it has. Assumes nothing.
+-- An inner or leaf type stands at the end of the type's flat form, and the kinds alone tell how many nodes it has.
+-- Assumes nothing.
 use mathlib.Core.Path.{_≡_, refl, sym, _∙_}
 use mathlib.Core.List.{List, []}
 use mathlib.Core.Option.{Option, none, some}
-use Prim.Native.Nat.{ℕ, suc, _+_, _-_, _≤_}
+use Prim.Native.Nat.{ℕ, suc, _+_, _-_}
 use native.Mathlib.Omega.{arith}
 use borrow.Author.Tests.{ne-eqb}
 use lib.ListN.{length, drop, drop-of-length-le}
@@ -14,7 +15,7 @@ use Rattle.dtype_inner.specs.Inner.{innerDtype, leafDtype, pastArrays, a
 use Rattle.dtype.specs.Scan.{between}
 use Rattle.dtype_inner.specs.Nodes.{leading, innerNodes, leafNodes, arrayLeafNodes}
 use Rattle.dtype_inner.specs.Part.{nodesFound, partKinds, partArgs, Last}
-use Rattle.dtype_inner.proofs.Fronts.{below}
+use Rattle.dtype.proofs.Scans.{is-below}
 
 -- u is t without its first j nodes
 record Ends (j : ℕ) (t u : DataType) : Type 0 where
@@ -37,7 +38,7 @@ under-array e = record { nodes = omega (arith, e .nodes); kinds = e .kinds; args
 -- the Lists and Arrays at the front
 leaf-ends : (t : DataType) → Ruled t → Ends (leading Kind.List Kind.Array (kindsOf t)) t (leafDtype t)
 unfolding leafDtype leading between kindsOf Ruled
-leaf-ends (leaf k a) r = rw (below Kind.List Kind.Array k (omega (arith, r .0))) all
+leaf-ends (leaf k a) r = rw (is-below Kind.List Kind.Array k (omega (arith, r .0))) all
 leaf-ends (list t) r = under-list (leaf-ends t r)
 leaf-ends (array w t) r = under-array (leaf-ends t r)
 leaf-ends (struct fs) r = all
@@ -45,7 +46,7 @@ leaf-ends (struct fs) r = all
 -- the Arrays at the front
 past-ends : (t : DataType) → Ruled t → Ends (leading Kind.Array Kind.Array (kindsOf t)) t (pastArrays t)
 unfolding pastArrays leading between kindsOf Ruled
-past-ends (leaf k a) r = rw (below Kind.Array Kind.Array k (omega (arith, r .0))) all
+past-ends (leaf k a) r = rw (is-below Kind.Array Kind.Array k (omega (arith, r .0))) all
 past-ends (list t) r = all
 past-ends (array w t) r = under-array (past-ends t r)
 past-ends (struct fs) r = all
@@ -63,7 +64,8 @@ found-none : (t : DataType) → Found t none 0
 found-none t = record { nodes = refl; kinds = last-none (kindsOf t); args = last-none (argsOf t) }
 
 last-some : (j n : ℕ) {l these : List ℕ} → length l ≡ j + n → length these ≡ n → drop j l ≡ these → Last n l these
-last-some j n {l} {these} h s e = record { within = omega arith; size = s; shows = let i : length l - n ≡ j = omega arith in rw i e }
+last-some j n {l} {these} h s e =
+    record { within = omega arith; size = s; shows = let i : length l - n ≡ j = omega arith in rw i e }
 
 found-some : {j n : ℕ} {t u : DataType} → Ends j t u → n ≡ length (kindsOf t) - j → Found t (some u) n
 found-some {j} {n} {t} {u} e q =
@@ -80,7 +82,7 @@ pub record Finds (f : DataType → Option DataType) (g : List ℕ → ℕ) : Typ
 
 inner-found : (t : DataType) → Ruled t → Found t (innerDtype t) (innerNodes (kindsOf t))
 unfolding innerDtype innerNodes between kindsOf Ruled
-inner-found (leaf k a) r = rw (below Kind.List Kind.Array k (omega (arith, r .0))) (found-none (leaf k a))
+inner-found (leaf k a) r = rw (is-below Kind.List Kind.Array k (omega (arith, r .0))) (found-none (leaf k a))
 inner-found (list t) r = found-some (under-list all) (omega arith)
 inner-found (array w t) r = found-some (under-array {w = w} all) (omega arith)
 inner-found (struct fs) r = found-none (struct fs)
@@ -94,9 +96,11 @@ finds-leaf = record { finds = λ t r. found-some (leaf-ends t r) refl }
 
 array-leaf-found : (t : DataType) → Ruled t → Found t (arrayLeafDtype t) (arrayLeafNodes (kindsOf t))
 unfolding arrayLeafDtype arrayLeafNodes leading between kindsOf Ruled
-array-leaf-found (leaf k a) r = rw (below Kind.Array Kind.Array k (omega (arith, r .0))) (found-none (leaf k a))
+array-leaf-found (leaf k a) r = rw (is-below Kind.Array Kind.Array k (omega (arith, r .0))) (found-none (leaf k a))
 array-leaf-found (list t) r = found-none (list t)
-array-leaf-found (array w t) r = rw (ne-eqb (suc (leading Kind.Array Kind.Array (kindsOf t))) 0 (λ e. omega arith)) (found-some (under-array {w = w} (past-ends t r)) refl)
+array-leaf-found (array w t) r =
+    rw (ne-eqb (suc (leading Kind.Array Kind.Array (kindsOf t))) 0 (λ e. omega arith))
+    (found-some (under-array {w = w} (past-ends t r)) refl)
 array-leaf-found (struct fs) r = found-none (struct fs)
 
 pub finds-array-leaf : Finds arrayLeafDtype arrayLeafNodes

@@ -1,4 +1,5 @@
--- How many nodes an inner or leaf type has, told from the kinds of the whole alone. Assumes nothing: these are definitions.
+-- How many nodes an inner or leaf type has, told from the kinds of the whole alone.
+-- Assumes nothing: these are definitions.
 use mathlib.Core.Bool.{cond}
 use mathlib.Core.List.{List, [], _∷_}
 use Prim.Native.Nat.{ℕ, suc, _-_}

@@ -7,25 +7,26 @@ use Prim.Native.Nat.{ℕ, _+_, _-_, _*_, _≤_}
 use lib.Dec.{eqb}
 use lib.ListN.{length, drop}
 use denote.Ref.{RefT, ptr, now}
-use Rattle.flat.specs.Refusal.{numberOf}
 use Rattle.flat.specs.Tree.{DataType, size, kindsOf, argsOf}
+use Rattle.flat.specs.Reader.{mapO}
 use Rattle.flat.specs.Reading.{Reading, refused, type}
+use Rattle.flat.specs.Output.{optionalOf}
 use Rattle.flat.specs.declared.Checked.{Checked}
 use Rattle.flat.specs.declared.Optional.{Optional}
 
 -- What a call finds in a type; there is none where the call is refused.
 abbrev pub found : (DataType → Option DataType) → Reading → Option DataType
-found inner (refused e) = none
-found inner (type t) = inner t
+found part (refused e) = none
+found part (type t) = part t
 
--- which of the three it is: Some with its number of nodes, None, or the refusal
-abbrev pub some-nodes : Option DataType → Optional
-some-nodes none = Optional.Nothing
-some-nodes (some t) = Optional.Some (size t)
+-- the part of a type as a type, or the refusal; nothing where the type has no such part
+abbrev pub partReading : (DataType → Option DataType) → Reading → Option Reading
+partReading part (refused e) = some (refused e)
+partReading part (type t) = mapO type (part t)
 
+-- which of the three it is: Some with the part's number of nodes, None, or the refusal
 abbrev pub innerOf : (DataType → Option DataType) → Reading → Optional
-innerOf inner (refused e) = Optional.Refused e
-innerOf inner (type t) = some-nodes (inner t)
+innerOf part r = optionalOf (partReading part r)
 
 -- the nodes, the kinds and the arguments of what was found, and nothing where there is none
 abbrev pub nodesFound : Option DataType → ℕ

@@ -1,4 +1,5 @@
--- The shape of an Array type as a record: a count and as many places as a type is deep, unused places zero. Assumes nothing: these are definitions.
+-- The shape of an Array type as a record: a count and as many places as a type is deep, unused places zero.
+-- Assumes nothing: these are definitions.
 use mathlib.Core.List.{List, [], _++_}
 use mathlib.Core.Option.{Option, none, some}
 use Prim.Native.Nat.{ℕ}

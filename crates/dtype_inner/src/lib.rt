@@ -87,7 +87,7 @@ pub fn array_leaf_nodes(kinds: &[u8]) -> usize
 }
 
 // The answer that a check and a number of nodes come to.
-fn answer(checked: Checked, n: usize) -> Optional
+fn part_answer(checked: Checked, n: usize) -> Optional
     ensures { λ r. ⌜ r ≡ partAnswer checked n ⌝ }
 {
     match checked {
@@ -108,7 +108,7 @@ pub fn inner_dtype(kinds: &[u8], args: &[u64]) -> Optional
       deep ← ⟦Flat::MAX_DEPTH⟧ .entry
       ⌜ r ≡ innerOf innerDtype (reading nodes deep (now (kinds .entry)) (now (args .entry))) ⌝ }
 {
-    answer(flat::check(kinds, args), inner_nodes(kinds))
+    part_answer(flat::check(kinds, args), inner_nodes(kinds))
 }
 
 // The inner type's kinds, a part of `kinds`; empty where there is none.
@@ -116,18 +116,20 @@ pub fn inner_dtype_kinds<'a>(kinds: &'a [u8], args: &[u64]) -> &'a [u8]
     ensures { λ r. do
       nodes ← ⟦Flat::MAX_NODES⟧ .entry
       deep ← ⟦Flat::MAX_DEPTH⟧ .entry
-      ⌜ EndOf 1 (partKinds (found innerDtype (reading nodes deep (now (kinds .entry)) (now (args .entry))))) (kinds .entry) r ⌝ }
+      let inner = found innerDtype (reading nodes deep (now (kinds .entry)) (now (args .entry)))
+      ⌜ EndOf 1 (partKinds inner) (kinds .entry) r ⌝ }
 {
     let at = kinds.len() - inner_dtype(kinds, args).value() as usize;
     &kinds[at..]
 }
 
-// Its arguments, a part of `args`.
+// The inner type's arguments, a part of `args`; empty where there is none.
 pub fn inner_dtype_args<'a>(kinds: &[u8], args: &'a [u64]) -> &'a [u64]
     ensures { λ r. do
       nodes ← ⟦Flat::MAX_NODES⟧ .entry
       deep ← ⟦Flat::MAX_DEPTH⟧ .entry
-      ⌜ EndOf 8 (partArgs (found innerDtype (reading nodes deep (now (kinds .entry)) (now (args .entry))))) (args .entry) r ⌝ }
+      let inner = found innerDtype (reading nodes deep (now (kinds .entry)) (now (args .entry)))
+      ⌜ EndOf 8 (partArgs inner) (args .entry) r ⌝ }
 {
     let at = args.len() - inner_dtype(kinds, args).value() as usize;
     &args[at..]
@@ -140,7 +142,7 @@ pub fn leaf_dtype(kinds: &[u8], args: &[u64]) -> Optional
       deep ← ⟦Flat::MAX_DEPTH⟧ .entry
       ⌜ r ≡ innerOf (λ t. some (leafDtype t)) (reading nodes deep (now (kinds .entry)) (now (args .entry))) ⌝ }
 {
-    answer(flat::check(kinds, args), leaf_nodes(kinds))
+    part_answer(flat::check(kinds, args), leaf_nodes(kinds))
 }
 
 // The leaf type's kinds, a part of `kinds`; empty where the call is refused.
@@ -148,18 +150,20 @@ pub fn leaf_dtype_kinds<'a>(kinds: &'a [u8], args: &[u64]) -> &'a [u8]
     ensures { λ r. do
       nodes ← ⟦Flat::MAX_NODES⟧ .entry
       deep ← ⟦Flat::MAX_DEPTH⟧ .entry
-      ⌜ EndOf 1 (partKinds (found (λ t. some (leafDtype t)) (reading nodes deep (now (kinds .entry)) (now (args .entry))))) (kinds .entry) r ⌝ }
+      let leaf = found (λ t. some (leafDtype t)) (reading nodes deep (now (kinds .entry)) (now (args .entry)))
+      ⌜ EndOf 1 (partKinds leaf) (kinds .entry) r ⌝ }
 {
     let at = kinds.len() - leaf_dtype(kinds, args).value() as usize;
     &kinds[at..]
 }
 
-// Its arguments, a part of `args`.
+// The leaf type's arguments, a part of `args`; empty where the call is refused.
 pub fn leaf_dtype_args<'a>(kinds: &[u8], args: &'a [u64]) -> &'a [u64]
     ensures { λ r. do
       nodes ← ⟦Flat::MAX_NODES⟧ .entry
       deep ← ⟦Flat::MAX_DEPTH⟧ .entry
-      ⌜ EndOf 8 (partArgs (found (λ t. some (leafDtype t)) (reading nodes deep (now (kinds .entry)) (now (args .entry))))) (args .entry) r ⌝ }
+      let leaf = found (λ t. some (leafDtype t)) (reading nodes deep (now (kinds .entry)) (now (args .entry)))
+      ⌜ EndOf 8 (partArgs leaf) (args .entry) r ⌝ }
 {
     let at = args.len() - leaf_dtype(kinds, args).value() as usize;
     &args[at..]
@@ -172,26 +176,28 @@ pub fn array_leaf_dtype(kinds: &[u8], args: &[u64]) -> Optional
       deep ← ⟦Flat::MAX_DEPTH⟧ .entry
       ⌜ r ≡ innerOf arrayLeafDtype (reading nodes deep (now (kinds .entry)) (now (args .entry))) ⌝ }
 {
-    answer(flat::check(kinds, args), array_leaf_nodes(kinds))
+    part_answer(flat::check(kinds, args), array_leaf_nodes(kinds))
 }
 
-// That type's kinds, a part of `kinds`; empty where there is none.
+// The kinds of the type under an Array's consecutive Arrays, a part of `kinds`; empty where there is none.
 pub fn array_leaf_dtype_kinds<'a>(kinds: &'a [u8], args: &[u64]) -> &'a [u8]
     ensures { λ r. do
       nodes ← ⟦Flat::MAX_NODES⟧ .entry
       deep ← ⟦Flat::MAX_DEPTH⟧ .entry
-      ⌜ EndOf 1 (partKinds (found arrayLeafDtype (reading nodes deep (now (kinds .entry)) (now (args .entry))))) (kinds .entry) r ⌝ }
+      let leaf = found arrayLeafDtype (reading nodes deep (now (kinds .entry)) (now (args .entry)))
+      ⌜ EndOf 1 (partKinds leaf) (kinds .entry) r ⌝ }
 {
     let at = kinds.len() - array_leaf_dtype(kinds, args).value() as usize;
     &kinds[at..]
 }
 
-// Its arguments, a part of `args`.
+// The arguments of the type under an Array's consecutive Arrays, a part of `args`; empty where there is none.
 pub fn array_leaf_dtype_args<'a>(kinds: &[u8], args: &'a [u64]) -> &'a [u64]
     ensures { λ r. do
       nodes ← ⟦Flat::MAX_NODES⟧ .entry
       deep ← ⟦Flat::MAX_DEPTH⟧ .entry
-      ⌜ EndOf 8 (partArgs (found arrayLeafDtype (reading nodes deep (now (kinds .entry)) (now (args .entry))))) (args .entry) r ⌝ }
+      let leaf = found arrayLeafDtype (reading nodes deep (now (kinds .entry)) (now (args .entry)))
+      ⌜ EndOf 8 (partArgs leaf) (args .entry) r ⌝ }
 {
     let at = args.len() - array_leaf_dtype(kinds, args).value() as usize;
     &args[at..]

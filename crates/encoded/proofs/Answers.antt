@@ -1,6 +1,6 @@
--- What the answers tell, and what answers come to: bytes of the right length hold as many kinds and arguments as their count says, any others are refused
--- by 1; where a check answers Valid, there is a tree, and its root; and `decode` and `encode` leave its arrays or bytes, or all as it was.
--- Assumes nothing.
+-- What the answers tell, and what answers come to: bytes of the right length hold as many kinds and arguments as
+-- their count says, any others are refused by 1; where a check answers Valid, there is a tree, and its root; and
+-- `decode` and `encode` leave its arrays or bytes, or all as it was. Assumes nothing.
 use mathlib.Core.Path.{_≡_, refl, sym, ap, _∙_}
 use mathlib.Core.Bool.{Bool, true, false, cond, and-eq-true-iff}
 use mathlib.Core.List.{List, _++_}
@@ -16,15 +16,17 @@ use Rattle.flat.specs.Tree.{DataType, size, kindsOf, argsOf}
 use Rattle.flat.specs.Reading.{Reading, refused, type, unless, reading, checkedOf, rootOf, RootFits}
 use Rattle.flat.specs.declared.Checked.{Checked}
 use Rattle.flat.specs.declared.Checked.the-variants.{Valid}
-use Rattle.flat.specs.Output.{over, Writes}
+use Rattle.flat.specs.Output.{over, fitting}
 use Rattle.flat.specs.declared.error.Error.{Error}
 use Rattle.flat.specs.declared.error.Error.the-variants.{Length, OutputTooShort}
+use Rattle.flat.proofs.Truths.{impossible}
 use Rattle.flat.proofs.Sizes.{length-kinds}
-use Rattle.flat.proofs.Meaning.{Holds, holds, checked-type, check-passed}
+use Rattle.flat.proofs.Meaning.{Holds, holds, checked-type, checked-refused, check-passed}
 use Rattle.flat.proofs.Roots.{root-read}
-use Rattle.flat.proofs.Outputs.{writes-type}
-use Rattle.encoded.specs.Encoding.{number, argsFrom, encoding, encodedSize, countIn, kindsIn, argsIn, sizeFits, decoding}
-use Rattle.encoded.specs.Answer.{nodesIn, fittingBytes, bytesOver, Encodes, Puts}
+use Rattle.flat.proofs.Outputs.{writes-refused, writes-type, few-kinds, few-args, room}
+use Rattle.encoded.specs.Encoding.{number, argsFrom, encoding, encodedSize, countIn, kindsIn, argsIn, sizeFits}
+use Rattle.encoded.specs.Encoding.{decoding}
+use Rattle.encoded.specs.Answer.{nodesIn, fittingBytes, bytesOver, Encodes, DecodeEnsures, Puts}
 use Rattle.flat.specs.declared.Root.{Root}
 use Rattle.flat.specs.declared.Written.{Written}
 use Rattle.encoded.specs.declared.Encoded.{Encoded}
@@ -53,19 +55,23 @@ module _ {w nodes n : ℕ} {s : List ℕ} (z : Sized w nodes n s) where
   unfolding kindsIn
   kinds-part = rw (← z .count, add-sub-cancel-left)
 
-  -- the arguments in the part after it
+  -- the arguments in the part of s after the kinds
   pub args-part : argsFrom w n (take (length s - (2 + n)) (drop (2 + n) s)) ≡ argsIn w s
   unfolding argsIn
   args-part = rw (part-to-end, ← z .count)
 
   pub kinds-length : length (kindsIn s) ≡ n
-  kinds-length = rw (← kinds-part, add-sub-cancel-left) (length-take-le n (drop 2 s) (rw length-drop (omega (arith, z .size, size-parts w n))))
+  kinds-length =
+      rw (← kinds-part, add-sub-cancel-left)
+      (length-take-le n (drop 2 s) (rw length-drop (omega (arith, z .size, size-parts w n))))
 
   pub args-length : length (argsIn w s) ≡ n
   args-length = rw (← args-part, argsFrom-length)
 
-  -- those arguments, read to the front of xs
-  pub args-read : (rest : List ℕ) {xs : List ℕ} → xs ≡ argsFrom w n (take (length s - (2 + n)) (drop (2 + n) s)) ++ rest → take n xs ≡ argsIn w s
+  -- the arguments of s, read to the front of xs
+  pub args-read :
+      (rest : List ℕ) {xs : List ℕ} → xs ≡ argsFrom w n (take (length s - (2 + n)) (drop (2 + n) s)) ++ rest
+      → take n xs ≡ argsIn w s
   args-read rest e = rw (e, args-part, take-at (argsIn w s) rest n args-length)
 
   pub decoding-sized : (deep : ℕ) → decoding w nodes deep s ≡ reading nodes deep (kindsIn s) (argsIn w s)
@@ -85,7 +91,7 @@ pub nodes-sized : {w nodes n : ℕ} {s : List ℕ} → Sized w nodes n s → nod
 unfolding nodesIn
 nodes-sized z = rw (size-fits z) (sym (z .count))
 
--- in any case
+-- the number of nodes is never over the limit
 pub nodes-few : (w nodes : ℕ) (s : List ℕ) → nodesIn w nodes s ≤ nodes
 unfolding nodesIn
 nodes-few w nodes s = go (sizeFits w nodes s) refl
@@ -94,7 +100,7 @@ nodes-few w nodes s = go (sizeFits w nodes s) refl
     go true f = sized w nodes s f .few
     go false f = omega arith
 
--- where it is 0
+-- where the number of nodes is 0
 pub nodes-none : (w nodes : ℕ) (s : List ℕ) {n : ℕ} → n ≡ nodesIn w nodes s → n ≡ 0 → sizeFits w nodes s ≡ false
 unfolding nodesIn
 nodes-none w nodes s e h = go (sizeFits w nodes s) refl (sym h ∙ e)
@@ -103,7 +109,8 @@ nodes-none w nodes s e h = go (sizeFits w nodes s) refl (sym h ∙ e)
     go true f e = absurd (omega (arith, sized w nodes s f .some))
     go false f e = refl
 
-pub decoding-none : (w nodes deep : ℕ) (s : List ℕ) {n : ℕ} → n ≡ nodesIn w nodes s → n ≡ 0 → decoding w nodes deep s ≡ refused Length
+pub decoding-none :
+    (w nodes deep : ℕ) (s : List ℕ) {n : ℕ} → n ≡ nodesIn w nodes s → n ≡ 0 → decoding w nodes deep s ≡ refused Length
 unfolding decoding
 decoding-none w nodes deep s e h = rw (nodes-none w nodes s e h)
 
@@ -119,38 +126,49 @@ pub record EncodedForm (w nodes deep n : ℕ) (s : List ℕ) : Type 0 where
   pub tree-size : size tree ≡ n
 
 -- bytes that are a type have the right length
-pub decoded-fits : (w nodes deep : ℕ) (s : List ℕ) (t : DataType) → decoding w nodes deep s ≡ type t → sizeFits w nodes s ≡ true
+pub decoded-fits :
+    (w nodes deep : ℕ) (s : List ℕ) (t : DataType) → decoding w nodes deep s ≡ type t → sizeFits w nodes s ≡ true
 unfolding decoding
 decoded-fits w nodes deep s t e = go (sizeFits w nodes s) e
   where
     go : (b : Bool) → unless b Length (reading nodes deep (kindsIn s) (argsIn w s)) ≡ type t → b ≡ true
     go true e = refl
-    go false e = absurd (let z : _≡_ {A = ℕ} 0 1 = cc in omega arith)
+    go false e = impossible cc
 
--- and hold its flat form
-pub decoded-holds : (w nodes deep : ℕ) (s : List ℕ) (t : DataType) → decoding w nodes deep s ≡ type t → Holds nodes deep (kindsIn s) (argsIn w s) t
-decoded-holds w nodes deep s t e = holds nodes deep (kindsIn s) (argsIn w s) t (sym (decoding-sized (sized w nodes s (decoded-fits w nodes deep s t e)) deep) ∙ e)
+-- bytes that are a type hold its flat form
+pub decoded-holds :
+    (w nodes deep : ℕ) (s : List ℕ) (t : DataType) → decoding w nodes deep s ≡ type t
+    → Holds nodes deep (kindsIn s) (argsIn w s) t
+decoded-holds w nodes deep s t e =
+    holds nodes deep (kindsIn s) (argsIn w s) t
+    (sym (decoding-sized (sized w nodes s (decoded-fits w nodes deep s t e)) deep) ∙ e)
 
-pub type-form : {w nodes deep : ℕ} {s : List ℕ} (t : DataType) → decoding w nodes deep s ≡ type t → EncodedForm w nodes deep (size t) s
+pub type-form :
+    {w nodes deep : ℕ} {s : List ℕ} (t : DataType) → decoding w nodes deep s ≡ type t
+    → EncodedForm w nodes deep (size t) s
 type-form {w} {nodes} {deep} {s} t e =
     let z = sized w nodes s (decoded-fits w nodes deep s t e) in
     let h = decoded-holds w nodes deep s t e in
     let n : countIn s ≡ size t = sym (kinds-length z) ∙ ap length (h .kinds) ∙ length-kinds t in
     record { sized = rw n at z; tree = t; reads = e; kinds = h .kinds; args = h .args; tree-size = refl }
 
-pub encoded-form : {w nodes deep n : ℕ} {s : List ℕ} {a : Checked} → a ≡ Valid → a ≡ checkedOf (decoding w nodes deep s) → n ≡ countIn s → EncodedForm w nodes deep n s
+pub encoded-form :
+    {w nodes deep n : ℕ} {s : List ℕ} {a : Checked} → a ≡ Valid → a ≡ checkedOf (decoding w nodes deep s)
+    → n ≡ countIn s → EncodedForm w nodes deep n s
 encoded-form {w} {nodes} {deep} {n} {s} v e c =
     let r = checked-type (decoding w nodes deep s) (sym v ∙ e) in
     let f : EncodedForm w nodes deep (size (r .0)) s = type-form (r .0) (r .1) in
     rw (f .sized .count ∙ sym c) at f
 
--- so too where n is what `node_count` answers
-pub counted-form : {w nodes deep n : ℕ} {s : List ℕ} {a : Checked} → a ≡ Valid → a ≡ checkedOf (decoding w nodes deep s) → n ≡ nodesIn w nodes s → EncodedForm w nodes deep n s
-counted-form {w} {nodes} {deep} {n} {s} v e c = let f : EncodedForm w nodes deep (countIn s) s = encoded-form v e refl in encoded-form v e (c ∙ nodes-sized (f .sized))
+-- the form of the bytes with the number of nodes that `node_count` answers
+pub counted-form :
+    {w nodes deep n m : ℕ} {s : List ℕ} → EncodedForm w nodes deep n s → m ≡ nodesIn w nodes s
+    → EncodedForm w nodes deep m s
+counted-form f c = rw (sym (c ∙ nodes-sized (f .sized))) at f
 
 -- ---- the root, where a check answers Valid
 
--- where its two values stand in the bytes
+-- where the root's kind and argument stand in the bytes
 pub form-root : {w nodes deep n : ℕ} {s : List ℕ} → EncodedForm w nodes deep n s → (Root.Node (getD s 2 0) (number (take w (drop (2 + n) s))) ≡ rootOf (decoding w nodes deep s)) × RootFits (Root.Node (getD s 2 0) (number (take w (drop (2 + n) s))))
 form-root {w} {nodes} {deep} {n} {s} f =
     let z = f .sized in
@@ -161,22 +179,55 @@ form-root {w} {nodes} {deep} {n} {s} f =
 
 -- ---- what `decode` and `encode` come to
 
--- the two parts of s, over the front of the two arrays
-pub decodes-type : {w nodes deep n : ℕ} {s : List ℕ} {r : Reading} {ks xs ks′ xs′ : List ℕ} (f : EncodedForm w nodes deep n s) → r ≡ type (f .tree)
-    → ks′ ≡ over (take (2 + n - 2) (drop 2 s)) ks → xs′ ≡ argsFrom w n (take (length s - (2 + n)) (drop (2 + n) s)) ++ drop n xs → Writes r ks xs ks′ xs′ (Written.Nodes n)
-decodes-type f h k a = let z = f .sized in writes-type h (sym (f .tree-size)) (rw (← f .kinds, ← kinds-part z) k) (rw (← f .args, args-length z, ← args-part z) a)
+pub decodes-refused :
+    (w nodes deep : ℕ) (s : List ℕ) {ks xs : List ℕ} {a : Checked} {e : Error}
+    → a ≡ Checked.Refused e
+    → a ≡ checkedOf (decoding w nodes deep s)
+    → DecodeEnsures w nodes deep s ks xs ks xs (Written.Refused e)
+unfolding fitting
+decodes-refused w nodes deep s {e = e} v h =
+    writes-refused (rw (checked-refused (decoding w nodes deep s) e (sym v ∙ h)))
 
-pub encodes-refused : {w : ℕ} {r : Reading} {e : Error} {out : List ℕ} → r ≡ refused e → Encodes w r out out (Encoded.Refused e)
+module _ {w nodes deep n : ℕ} {s ks xs : List ℕ} (f : EncodedForm w nodes deep n s) where
+  pub decodes-few-kinds : length ks < n → DecodeEnsures w nodes deep s ks xs ks xs (Written.Refused OutputTooShort)
+  decodes-few-kinds h =
+      writes-refused (ap (fitting (length ks) (length xs)) (f .reads) ∙ few-kinds _ _ (f .tree) (rw (f .tree-size) h))
+
+  pub decodes-few-args :
+      n ≤ length ks → length xs < n → DecodeEnsures w nodes deep s ks xs ks xs (Written.Refused OutputTooShort)
+  decodes-few-args g h = writes-refused (ap (fitting (length ks) (length xs)) (f .reads) ∙ few-args _ _ (f .tree) (rw (f .tree-size) g) (rw (f .tree-size) h))
+
+  -- the two parts of s, over the front of the two arrays
+  pub decodes-type :
+      {ks′ xs′ : List ℕ}
+      → n ≤ length ks
+      → n ≤ length xs
+      → ks′ ≡ over (take (2 + n - 2) (drop 2 s)) ks
+      → xs′ ≡ argsFrom w n (take (length s - (2 + n)) (drop (2 + n) s)) ++ drop n xs
+      → DecodeEnsures w nodes deep s ks xs ks′ xs′ (Written.Nodes n)
+  decodes-type g h k a =
+      let z = f .sized in
+      let fits = ap (fitting (length ks) (length xs)) (f .reads) ∙ room _ _ (f .tree) (rw (f .tree-size) g) (rw (f .tree-size) h) in
+      writes-type fits (sym (f .tree-size)) (rw (← f .kinds, ← kinds-part z) k)
+      (rw (← f .args, args-length z, ← args-part z) a)
+
+pub encodes-refused :
+    {w : ℕ} {r : Reading} {e : Error} {out : List ℕ} → r ≡ refused e → Encodes w r out out (Encoded.Refused e)
 unfolding bytesOver
 encodes-refused h = rw h (record { answers = refl; bytes = refl })
 
 -- what `put` leaves of a tree's two arrays is what `encode` leaves of the tree
-pub puts-type : (t : DataType) {w : ℕ} {ks xs out out′ : List ℕ} {a : Encoded} → ks ≡ kindsOf t → xs ≡ argsOf t → Puts w ks xs out out′ a → Encodes w (fittingBytes w (length out) (type t)) out out′ a
+pub puts-type :
+    (t : DataType) {w : ℕ} {ks xs out out′ : List ℕ} {a : Encoded} → ks ≡ kindsOf t → xs ≡ argsOf t
+    → Puts w ks xs out out′ a → Encodes w (fittingBytes w (length out) (type t)) out out′ a
 unfolding fittingBytes bytesOver
 puts-type t {w} {ks} {xs} {out} {out′} {a} k x p =
     let n : length ks ≡ size t = ap length k ∙ length-kinds t in
     go (leb (encodedSize w (size t)) (length out)) (rw n at (p .answers)) (rw (n, k, x) at (p .bytes))
   where
-    go : (b : Bool) → a ≡ cond b (Encoded.Bytes (encodedSize w (size t))) (Encoded.Refused OutputTooShort) → out′ ≡ cond b (over (encoding w (kindsOf t) (argsOf t)) out) out → Encodes w (unless b OutputTooShort (type t)) out out′ a
+    go :
+        (b : Bool) → a ≡ cond b (Encoded.Bytes (encodedSize w (size t))) (Encoded.Refused OutputTooShort)
+        → out′ ≡ cond b (over (encoding w (kindsOf t) (argsOf t)) out) out
+        → Encodes w (unless b OutputTooShort (type t)) out out′ a
     go true e f = record { answers = e; bytes = f }
     go false e f = record { answers = e; bytes = f }

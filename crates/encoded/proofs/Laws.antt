@@ -1,32 +1,55 @@
--- Laws of encoded types, at any width w of an argument: a list that is written from the front, numbers as bytes, runs of arguments, and the whole.
--- Assumes nothing.
-use mathlib.Core.Path.{_≡_, refl, sym, ap}
+-- Laws of encoded types, at any width w of an argument: a list that is written from the front, numbers as bytes, runs
+-- of arguments, and the whole. Assumes nothing.
+use mathlib.Core.Path.{_≡_, refl, sym, ap, _∙_}
 use mathlib.Core.List.{List, [], _∷_, _++_, append-assoc, append-nil}
 use Prim.Native.Nat.{ℕ, zero, suc, _+_, _-_, _*_, _/_, _%_, _^_, _≤_, _<_}
-use native.Mathlib.Nat.{zero-add, zero-mul, suc-mul, add-comm, add-suc, pow-suc, mul-comm, add-mul, one-mul, div-lt-iff-lt-mul}
+use native.Mathlib.Nat.{zero-add, zero-mul, suc-mul, add-comm, add-suc, pow-suc, mul-comm, add-mul, one-mul}
+use native.Mathlib.Nat.{div-lt-iff-lt-mul}
 use native.Mathlib.Numerals.{add-one}
 use native.Mathlib.Omega.{arith}
 use lib.Dec.{lit<}
-use lib.ListN.{length, getD, take, drop, set, length-append, length-take, length-drop, take-append-drop}
-use lib.Seq.{drop-cons, drop-drop, drop-length, length-take-le, take-at, drop-at, paste-suc, ext-getD, getD-take, getD-drop}
+use lib.ListN.{length, getD, take, drop, set, length-append, length-take, length-drop, length-set, take-append-drop}
+use lib.Seq.{drop-cons, drop-drop, drop-length, length-take-le, take-at, take-add, take-length, drop-at, paste-suc}
+use lib.Seq.{ext-getD, getD-take, getD-drop}
 use borrow.Rule.Slice.PartAt.{part-to-end}
 use Rattle.encoded.specs.Encoding.{littleEndian, number, argBytes, argsFrom, encoding, encodedSize}
 use Rattle.encoded.specs.RoundTrip.{Below}
 
 -- ---- a list that is written from the front
 
--- a list d, with the first i elements of s over its front: one element more
-pub store-next : (s d : List ℕ) (i : ℕ) → i < length s → i < length d → set (take i s ++ drop i d) i (getD s i 0) ≡ take (i + 1) s ++ drop (i + 1) d
-store-next s d i h k = rw add-one (simp zero-add at (paste-suc d 0 s i 0 (omega arith) h))
+-- The first i elements of s were written over the front of d, which is d′ now.
+pub record Copied (s d d′ : List ℕ) (i : ℕ) : Type 0 where
+  pub here : i ≤ length s
+  pub even : length d′ ≡ length d
+  pub is : d′ ≡ take i s ++ drop i d
+
+pub copied-none : {s d : List ℕ} → Copied s d d 0
+copied-none = record { here = omega arith; even = refl; is = refl }
+
+module _ {s d d′ : List ℕ} {i : ℕ} (c : Copied s d d′ i) where
+  pub copied-one : {v : ℕ} → i < length s → i < length d → v ≡ getD s i 0 → Copied s d (set d′ i v) (i + 1)
+  copied-one h k e =
+      record {
+        here = omega arith;
+        even = simp length-set (c .even);
+        is = rw (e, c .is, add-one) (simp zero-add at (paste-suc d 0 s i 0 (omega arith) h));
+      }
+
+  pub copied-all : length s ≤ i → d′ ≡ s ++ drop (length s) d
+  copied-all h = let end : i ≡ length s = omega arith in rw (c .is, end, take-length)
 
 -- nothing stands past a part that goes to the end
 rest-none : (d : List ℕ) (at : ℕ) → drop (length d - at) (drop at d) ≡ []
 rest-none d at = rw (← length-drop, drop-length)
 
--- a list d that is p and then what is left of q, whose part from the end of p on is lent and comes back as y, with b at its front: b follows p
-pub write-next : (d p q b y : List ℕ) (at k : ℕ) → d ≡ p ++ drop at q → length p ≡ at → y ≡ b ++ drop k (take (length d - at) (drop at d))
+-- a list d that is p and then what is left of q, whose part from the end of p on is lent and comes back as y, with b
+-- at its front: b follows p
+pub write-next :
+    (d p q b y : List ℕ) (at k : ℕ) → d ≡ p ++ drop at q → length p ≡ at
+    → y ≡ b ++ drop k (take (length d - at) (drop at d))
     → take at d ++ (y ++ drop (length d - at) (drop at d)) ≡ (p ++ b) ++ drop (at + k) q
-write-next d p q b y at k e n f = rw (rest-none, f, part-to-end, append-nil, e, take-at, drop-at, drop-drop, append-assoc)
+write-next d p q b y at k e n f =
+    rw (rest-none, f, part-to-end, append-nil, e, take-at, drop-at, drop-drop, append-assoc)
 
 -- ---- numbers as bytes
 
@@ -41,10 +64,12 @@ abbrev pub bytesAt : ℕ → List ℕ → ℕ → ℕ → ℕ
 bytesAt zero s at k = 0
 bytesAt (suc w) s at k = getD s (at + k) 0 + 256 * bytesAt w s at (suc k)
 
-pub number-bytes : (w : ℕ) (s : List ℕ) (at k : ℕ) → at + k + w ≤ length s → number (take w (drop (at + k) s)) ≡ bytesAt w s at k
+pub number-bytes :
+    (w : ℕ) (s : List ℕ) (at k : ℕ) → at + k + w ≤ length s → number (take w (drop (at + k) s)) ≡ bytesAt w s at k
 unfolding number
 number-bytes zero s at k h = refl
-number-bytes (suc w) s at k h = rw (drop-cons s (at + k) 0 (omega arith), ← add-suc, number-bytes w s at (suc k) (omega arith))
+number-bytes (suc w) s at k h =
+    rw (drop-cons s (at + k) 0 (omega arith), ← add-suc, number-bytes w s at (suc k) (omega arith))
 
 pub littleEndian-length : (w v : ℕ) → length (littleEndian w v) ≡ w
 unfolding littleEndian
@@ -55,7 +80,8 @@ littleEndian-length (suc w) v = ap suc (littleEndian-length w (v / 256))
 pub number-littleEndian : (w v : ℕ) → v < 256 ^ w → number (littleEndian w v) ≡ v
 unfolding number littleEndian
 number-littleEndian zero v h = omega arith
-number-littleEndian (suc w) v h = rw (number-littleEndian w (v / 256) (div-lt-iff-lt-mul (lit< tt) .1 (rw pow-suc at h))) (omega arith)
+number-littleEndian (suc w) v h =
+    rw (number-littleEndian w (v / 256) (div-lt-iff-lt-mul (lit< tt) .1 (rw pow-suc at h))) (omega arith)
 
 -- bytes that are read as a number are written back
 pub littleEndian-number : (bs : List ℕ) → Below 256 bs → littleEndian (length bs) (number bs) ≡ bs
@@ -72,7 +98,8 @@ unfolding number
 number-below zero [] h f = omega arith
 number-below zero (b ∷ bs) h f = absurd (omega arith)
 number-below (suc w) [] h f = rw pow-suc (omega (arith, number-below w [] (omega arith) f))
-number-below (suc w) (b ∷ bs) h f = rw pow-suc (omega (arith, f 0 (omega arith), number-below w bs (omega arith) (λ i k. f (suc i) (omega arith))))
+number-below (suc w) (b ∷ bs) h f =
+    rw pow-suc (omega (arith, f 0 (omega arith), number-below w bs (omega arith) (λ i k. f (suc i) (omega arith))))
 
 -- ---- runs of arguments
 
@@ -82,7 +109,8 @@ argsFrom-length w zero bs = refl
 argsFrom-length w (suc n) bs = ap suc (argsFrom-length w n (drop w bs))
 
 -- an argument is the number in its own w bytes
-pub argsFrom-at : (w n : ℕ) (bs : List ℕ) (i : ℕ) → i < n → getD (argsFrom w n bs) i 0 ≡ number (take w (drop (i * w) bs))
+pub argsFrom-at :
+    (w n : ℕ) (bs : List ℕ) (i : ℕ) → i < n → getD (argsFrom w n bs) i 0 ≡ number (take w (drop (i * w) bs))
 unfolding argsFrom
 argsFrom-at w zero bs i h = absurd (omega arith)
 argsFrom-at w (suc n) bs zero h = rw zero-mul
@@ -94,11 +122,34 @@ argBytes-length w [] = sym (zero-mul w)
 argBytes-length w (a ∷ xs) = rw (length-append, littleEndian-length, argBytes-length w xs, suc-mul, add-comm w)
 
 -- an argument's own w bytes are those of its number
-pub argBytes-at : (w : ℕ) (xs : List ℕ) (i : ℕ) → i < length xs → take w (drop (i * w) (argBytes w xs)) ≡ littleEndian w (getD xs i 0)
+pub argBytes-at :
+    (w : ℕ) (xs : List ℕ) (i : ℕ) → i < length xs → take w (drop (i * w) (argBytes w xs)) ≡ littleEndian w (getD xs i 0)
 unfolding argBytes
 argBytes-at w [] i h = absurd (omega arith)
 argBytes-at w (a ∷ xs) zero h = simp (zero-mul, take-at, littleEndian-length)
-argBytes-at w (a ∷ xs) (suc i) h = rw (suc-mul, add-comm (i * w) w, ← drop-drop (i * w) w) (simp (drop-at, littleEndian-length) (argBytes-at w xs i (omega arith)))
+argBytes-at w (a ∷ xs) (suc i) h =
+    rw (suc-mul, add-comm (i * w) w, ← drop-drop (i * w) w)
+    (simp (drop-at, littleEndian-length) (argBytes-at w xs i (omega arith)))
+
+-- the bytes of the arguments xs were written up to the i-th: one argument more, to the part of d′ that was lent
+pub args-next :
+    (xs : List ℕ) (i : ℕ) {d d′ y : List ℕ}
+    → Copied (argBytes 8 xs) d d′ (i * 8)
+    → i < length xs
+    → y ≡ littleEndian 8 (getD xs i 0) ++ drop 8 (take (length d′ - i * 8) (drop (i * 8) d′))
+    → length (take (i * 8) d′ ++ (y ++ drop (length d′ - i * 8) (drop (i * 8) d′))) ≡ length d′
+    → Copied (argBytes 8 xs) d (take (i * 8) d′ ++ (y ++ drop (length d′ - i * 8) (drop (i * 8) d′))) ((i + 1) * 8)
+args-next xs i {d} {d′} {y} c h e l =
+    let all = argBytes 8 xs in
+    let long = argBytes-length 8 xs in
+    let next : (i + 1) * 8 ≡ i * 8 + 8 = omega arith in
+    record {
+      here = omega arith;
+      even = l ∙ c .even;
+      is =
+          rw (next, take-add (i * 8) 8 all, argBytes-at 8 xs i h)
+          (write-next d′ (take (i * 8) all) d (littleEndian 8 (getD xs i 0)) y (i * 8) 8 (c .is) (length-take-le (i * 8) all (c .here)) e);
+    }
 
 -- arguments that fit w bytes each are read back from them
 pub argsFrom-argBytes : (w : ℕ) (xs : List ℕ) → Below (256 ^ w) xs → argsFrom w (length xs) (argBytes w xs) ≡ xs
@@ -132,12 +183,15 @@ args-below w n bs f i h =
 pub size-parts : (w n : ℕ) → encodedSize w n ≡ 2 + n + n * w
 size-parts w n = rw (add-mul, one-mul, mul-comm w n) (omega arith)
 
-pub encoding-length : (w : ℕ) (ks xs : List ℕ) → length xs ≡ length ks → length (encoding w ks xs) ≡ encodedSize w (length ks)
+pub encoding-length :
+    (w : ℕ) (ks xs : List ℕ) → length xs ≡ length ks → length (encoding w ks xs) ≡ encodedSize w (length ks)
 unfolding encoding
-encoding-length w ks xs e = rw (length-append, length-append, littleEndian-length, argBytes-length, e, size-parts) (omega arith)
+encoding-length w ks xs e =
+    rw (length-append, length-append, littleEndian-length, argBytes-length, e, size-parts) (omega arith)
 
 -- the count, the kinds and the arguments, one after the other over the front of out
 pub encoding-over : (w : ℕ) (ks xs out : List ℕ) → length xs ≡ length ks
     → ((littleEndian 2 (length ks) ++ ks) ++ argBytes w xs) ++ drop (2 + length ks + length xs * w) out ≡ encoding w ks xs ++ drop (length (encoding w ks xs)) out
 unfolding encoding
-encoding-over w ks xs out e = rw (encoding-length w ks xs e, size-parts, e, append-assoc (littleEndian 2 (length ks)) ks)
+encoding-over w ks xs out e =
+    rw (encoding-length w ks xs e, size-parts, e, append-assoc (littleEndian 2 (length ks)) ks)

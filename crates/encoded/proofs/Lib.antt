@@ -1,6 +1,7 @@
--- Laws that several proofs of `encoding` cite, what an answer tells, and the round trips.
+-- Laws that several proofs of `encoded` cite, what an answer tells, and the round trips.
 pub mod Laws
 pub mod Answers
 pub mod Plain
 pub mod Opening
 pub mod RoundTrip
+pub mod Finding

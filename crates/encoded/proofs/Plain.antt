@@ -1,6 +1,6 @@
 -- Bytes that are one plain leaf: what the test comes to, and what it tells. Assumes nothing.
 use mathlib.Core.Path.{_≡_, refl, sym, ap, _∙_}
-use mathlib.Core.Bool.{Bool, true, false, _&&_, and-eq-true-iff}
+use mathlib.Core.Bool.{Bool, true, false, _&&_}
 use mathlib.Core.List.{List, [], _∷_}
 use Prim.Native.Nat.{ℕ, _≤_, _<_}
 use native.Mathlib.Omega.{arith}
@@ -12,10 +12,12 @@ use Rattle.flat.specs.Argument.{plainLeaf}
 use Rattle.flat.specs.Tree.{leaf, headKind, headArg}
 use Rattle.flat.specs.Reading.{type, onePlain, rootOf, RootFits}
 use Rattle.flat.specs.declared.Root.{Root}
+use Rattle.flat.proofs.Truths.{both-true}
 use Rattle.flat.proofs.Plain.{kinds-told, plain-fits, PlainType, plain-type}
 use Rattle.encoded.specs.Encoding.{number, argsFrom, kindsIn, argsIn, sizeFits, decoding}
 use Rattle.encoded.specs.Answer.{nodesIn, plainIn}
-use Rattle.encoded.proofs.Answers.{Sized, sized, size-fits, kinds-part, args-part, kinds-length, decoding-sized, nodes-some, nodes-sized}
+use Rattle.encoded.proofs.Answers.{Sized, sized, size-fits, kinds-part, args-part, kinds-length, decoding-sized}
+use Rattle.encoded.proofs.Answers.{nodes-some, nodes-sized}
 
 -- ---- bytes of one node
 pub nodes-one : {w nodes n : ℕ} {s : List ℕ} → n ≡ nodesIn w nodes s → n ≡ 1 → Sized w nodes 1 s
@@ -29,12 +31,12 @@ module _ {w nodes : ℕ} {s : List ℕ} (z : Sized w nodes 1 s) where
   unfolding argsFrom
   one-arg = rw (← args-part z, part-to-end)
 
-  -- the test of that node is the test of the bytes
+  -- the test of the one node is the test of the bytes
   pub one-told : plainLeaf (getD s 2 0) (number (take w (drop 3 s))) ≡ plainIn w nodes s
   unfolding plainIn onePlain
   one-told = rw (size-fits z, one-kind, one-arg)
 
--- any other number of nodes
+-- bytes of any other number of nodes are no plain leaf
 pub others-told : (w nodes : ℕ) (s : List ℕ) {n : ℕ} → n ≡ nodesIn w nodes s → (n ≡ 1 → ⊥) → false ≡ plainIn w nodes s
 unfolding plainIn
 others-told w nodes s e h = go (sizeFits w nodes s) refl
@@ -57,7 +59,7 @@ pub record PlainBytes (w nodes : ℕ) (s : List ℕ) : Type 0 where
 pub plain-bytes : {w nodes : ℕ} {s : List ℕ} → plainIn w nodes s ≡ true → PlainBytes w nodes s
 unfolding plainIn onePlain
 plain-bytes {w} {nodes} {s} e =
-    let both = and-eq-true-iff (sizeFits w nodes s) (onePlain (kindsIn s) (argsIn w s)) .0 e in
+    let both = both-true (sizeFits w nodes s) (onePlain (kindsIn s) (argsIn w s)) e in
     let z = sized w nodes s (both .0) in
     let p : (deep : ℕ) → PlainType nodes deep (kindsIn s) (argsIn w s) = λ deep. plain-type nodes deep _ _ (omega (arith, z .some, z .few)) (both .1) in
     let one : Sized w nodes 1 s = rw (sym (kinds-length z) ∙ ap length (p 0 .kinds)) at z in
@@ -73,7 +75,7 @@ plain-bytes {w} {nodes} {s} e =
       reads = λ deep. rw (decoding-sized one, k) (rw k at (p deep .reads));
     }
 
--- its root
+-- the root of a plain leaf
 pub plain-root : {w nodes : ℕ} (deep : ℕ) {s : List ℕ} → PlainBytes w nodes s
     → (Root.Node (getD s 2 0) 0 ≡ rootOf (decoding w nodes deep s)) × RootFits (Root.Node (getD s 2 0) 0)
 unfolding headKind headArg

@@ -1,4 +1,5 @@
--- The answers of the calls on encoded types, and the bytes that `encode` leaves. Assumes nothing: these are definitions.
+-- The answers of the calls on encoded types, and the bytes that `encode` leaves. Assumes nothing: these are
+-- definitions.
 use mathlib.Core.Path.{_≡_}
 use mathlib.Core.Bool.{Bool, cond, _&&_}
 use mathlib.Core.List.{List}
@@ -22,7 +23,8 @@ nodesIn w nodes s = cond (sizeFits w nodes s) (countIn s) 0
 unfoldable pub plainIn : ℕ → ℕ → List ℕ → Bool
 plainIn w nodes s = sizeFits w nodes s && onePlain (kindsIn s) (argsIn w s)
 
--- The lent arguments after `open`. They are read before they are checked, so bytes of the right length leave theirs even where they are refused.
+-- The lent arguments after `open`. They are read before they are checked, so bytes of the right length leave theirs
+-- even where they are refused.
 unfoldable pub argsOpened : ℕ → ℕ → List ℕ → List ℕ → List ℕ
 argsOpened w nodes s xs = cond (sizeFits w nodes s) (over (argsIn w s) xs) xs
 
@@ -41,16 +43,17 @@ abbrev pub encodedOf : ℕ → Reading → Encoded
 encodedOf w (refused e) = Encoded.Refused e
 encodedOf w (type t) = Encoded.Bytes (encodedSize w (size t))
 
--- its number, and the value beside it
+-- document 01's number of an answer
 abbrev pub encodedNumber : Encoded → ℕ
 encodedNumber (Encoded.Bytes n) = 0
 encodedNumber (Encoded.Refused e) = numberOf e
 
+-- the value beside the number: how many bytes were written
 abbrev pub encodedValue : Encoded → ℕ
 encodedValue (Encoded.Bytes n) = n
 encodedValue (Encoded.Refused e) = 0
 
--- the lent bytes after the call: the type's bytes over what they held, or all as they were where the call was refused
+-- the lent bytes after `encode`: the type's bytes over what they held, or all as they were where the call was refused
 unfoldable pub bytesOver : ℕ → Reading → List ℕ → List ℕ
 bytesOver w (refused e) out = out
 bytesOver w (type t) out = over (encoding w (kindsOf t) (argsOf t)) out
@@ -62,13 +65,18 @@ pub record Encodes (w : ℕ) (r : Reading) (out out′ : List ℕ) (answer : Enc
 
 -- What `encode` ensures of the two arrays ks and xs, and of the lent bytes.
 abbrev pub EncodeEnsures : (w nodes deep : ℕ) (ks xs out out′ : List ℕ) → Encoded → Type 0
-EncodeEnsures w nodes deep ks xs out out′ answer = Encodes w (fittingBytes w (length out) (reading nodes deep ks xs)) out out′ answer
+EncodeEnsures w nodes deep ks xs out out′ answer =
+    Encodes w (fittingBytes w (length out) (reading nodes deep ks xs)) out out′ answer
 
 -- What `decode` ensures of the bytes s, and of the two lent arrays, ks and xs before the call and ks′ and xs′ after it.
 abbrev pub DecodeEnsures : (w nodes deep : ℕ) (s ks xs ks′ xs′ : List ℕ) → Written → Type 0
-DecodeEnsures w nodes deep s ks xs ks′ xs′ answer = Writes (fitting (length ks) (length xs) (decoding w nodes deep s)) ks xs ks′ xs′ answer
+DecodeEnsures w nodes deep s ks xs ks′ xs′ answer =
+    Writes (fitting (length ks) (length xs) (decoding w nodes deep s)) ks xs ks′ xs′ answer
 
 -- What `put` comes to, of two arrays that need not be a type: their bytes, or 8 where these don't fit.
 pub record Puts (w : ℕ) (ks xs out out′ : List ℕ) (answer : Encoded) : Type 0 where
-  pub answers : answer ≡ cond (leb (encodedSize w (length ks)) (length out)) (Encoded.Bytes (encodedSize w (length ks))) (Encoded.Refused OutputTooShort)
+  pub answers :
+      answer
+      ≡ cond (leb (encodedSize w (length ks)) (length out)) (Encoded.Bytes (encodedSize w (length ks)))
+      (Encoded.Refused OutputTooShort)
   pub bytes : out′ ≡ cond (leb (encodedSize w (length ks)) (length out)) (over (encoding w ks xs) out) out

@@ -1,5 +1,6 @@
--- Encoded types, document 01's stored sheets: the node count in 2 bytes, low byte first, then a kind byte for each node, then an argument for each node,
--- of w bytes, low byte first. The width w and the two limits are parameters. Assumes nothing: these are definitions.
+-- Encoded types, document 01's stored sheets: the node count in 2 bytes, low byte first, then a kind byte for each
+-- node, then an argument for each node, of w bytes, low byte first. The width w and the two limits are parameters.
+-- Assumes nothing: these are definitions.
 use mathlib.Core.Bool.{Bool, _&&_}
 use mathlib.Core.List.{List, [], _∷_, _++_}
 use Prim.Native.Nat.{ℕ, zero, suc, _+_, _*_, _/_, _%_}
@@ -36,19 +37,22 @@ encoding w ks xs = littleEndian 2 (length ks) ++ (ks ++ argBytes w xs)
 abbrev pub encodedSize : ℕ → ℕ → ℕ
 encodedSize w n = 2 + (w + 1) * n
 
--- the parts of an encoded type: the count, the kinds, the arguments
+-- the count that an encoded type begins with
 unfoldable pub countIn : List ℕ → ℕ
 countIn s = number (take 2 s)
 
+-- the kinds of an encoded type
 unfoldable pub kindsIn : List ℕ → List ℕ
 kindsIn s = take (countIn s) (drop 2 s)
 
+-- the arguments of an encoded type
 unfoldable pub argsIn : ℕ → List ℕ → List ℕ
 argsIn w s = argsFrom w (countIn s) (drop (2 + countIn s) s)
 
 -- 1: stored length under 2, no node, over the limit, or not 2 + (w + 1) × n
 unfoldable pub sizeFits : ℕ → ℕ → List ℕ → Bool
-sizeFits w nodes s = leb 2 (length s) && ltb 0 (countIn s) && leb (countIn s) nodes && eqb (length s) (encodedSize w (countIn s))
+sizeFits w nodes s =
+    leb 2 (length s) && ltb 0 (countIn s) && leb (countIn s) nodes && eqb (length s) (encodedSize w (countIn s))
 
 -- what bytes are: exactly one type, or refused by a number from 1 to 5
 unfoldable pub decoding : ℕ → ℕ → ℕ → List ℕ → Reading

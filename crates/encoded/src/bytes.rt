@@ -5,6 +5,7 @@ ghost use Prim.Native.Nat.{_+_, _*_, _≤_, _<_};
 ghost use lib.ListN.{length, take, drop};
 ghost use Rattle.encoded.specs.Encoding.{littleEndian, number, argBytes, argsFrom, countIn};
 
+// A byte as a wider number.
 fn wide(x: u8) -> u64
     ensures { λ r. ⌜ (r ≡ x) × (r < 256) ⌝ }
 {
@@ -70,7 +71,9 @@ pub fn put_count(s: &mut [u8], n: usize)
 // Copies src to the front of dst.
 pub fn copy(src: &[u8], dst: &mut [u8])
     requires { ⌜ length (now src) ≤ length (now dst) ⌝ }
-    ensures { λ _. ⌜ now (dst .exit) ≡ now (src .entry) ++ drop (length (now (src .entry))) (now (dst .entry)) ⌝ }
+    ensures { λ _. do
+      let bytes = now (src .entry)
+      ⌜ now (dst .exit) ≡ bytes ++ drop (length bytes) (now (dst .entry)) ⌝ }
 {
     let mut i = 0;
     while i < src.len() {
@@ -94,7 +97,9 @@ pub fn read_args(src: &[u8], n: usize, args: &mut [u64])
 // Writes the arguments to the front of out.
 pub fn write_args(args: &[u64], out: &mut [u8])
     requires { ⌜ length (now args) * 8 ≤ length (now out) ⌝ }
-    ensures { λ _. ⌜ now (out .exit) ≡ argBytes 8 (now (args .entry)) ++ drop (length (now (args .entry)) * 8) (now (out .entry)) ⌝ }
+    ensures { λ _. do
+      let xs = now (args .entry)
+      ⌜ now (out .exit) ≡ argBytes 8 xs ++ drop (length xs * 8) (now (out .entry)) ⌝ }
 {
     let mut i = 0;
     while i < args.len() {

@@ -1,4 +1,5 @@
-// Encoded types (document 01's stored sheets): checked, decoded to the two arrays of a flat type, and encoded from them.
+// Encoded types (document 01's stored sheets): checked, decoded to the two arrays of a flat type, and encoded from
+// them.
 mod bytes;
 mod round_trip;
 
@@ -8,9 +9,12 @@ ghost use lib.ListN.{length};
 ghost use Rattle.flat.specs.Reading.{checkedOf, rootOf, RootFits};
 ghost use Rattle.flat.specs.Output.{over};
 ghost use Rattle.encoded.specs.Encoding.{argsIn, decoding};
-ghost use Rattle.encoded.specs.Answer.{nodesIn, plainIn, encodedNumber, encodedValue, Opens, EncodeEnsures, DecodeEnsures, Puts};
+ghost use Rattle.encoded.specs.Found.{encodedFound};
+ghost use Rattle.encoded.specs.Answer.{nodesIn, plainIn, encodedNumber, encodedValue};
+ghost use Rattle.encoded.specs.Answer.{Opens, EncodeEnsures, DecodeEnsures, Puts};
 use flat::Checked;
 use flat::Flat;
+use flat::Optional;
 use flat::Root;
 use flat::Written;
 use flat::argument;
@@ -20,11 +24,14 @@ use flat::error::Error;
 pub struct Encoding {}
 
 impl Encoding {
+    // How many bytes an argument takes.
     pub const ARGUMENT_BYTES: usize = 8;
 
-    // The arguments of a type of at most FEW nodes, or of at most SOME, are read to a smaller array: a larger one takes longer to clear than to use.
+    // The arguments of a type of at most FEW nodes are read to a small array: a larger one takes longer to clear than
+    // to use.
     pub const FEW: usize = 24;
 
+    // The arguments of a type of at most SOME nodes are read to an array of middle size.
     pub const SOME: usize = 64;
 }
 
@@ -52,6 +59,16 @@ impl Encoded {
         match self {
             Encoded::Bytes(n) => n as u64,
             Encoded::Refused(_) => 0,
+        }
+    }
+
+    // The answer of a call that may find nothing, where it encoded what it found.
+    pub fn found(self) -> Optional
+        ensures { λ r. ⌜ r ≡ encodedFound self ⌝ }
+    {
+        match self {
+            Encoded::Bytes(n) => Optional::Some(n),
+            Encoded::Refused(e) => Optional::Refused(e),
         }
     }
 }
@@ -97,12 +114,16 @@ fn check_with(encoded: &[u8], n: usize, args: &mut [u64]) -> Checked
     requires { do
       nodes ← ⟦Flat::MAX_NODES⟧
       w ← ⟦Encoding::ARGUMENT_BYTES⟧
-      ⌜ (n ≡ nodesIn w nodes (now encoded)) × (n ≡ 0 → ⊥) × (n ≤ length (now args)) ⌝ }
+      let counted = nodesIn w nodes (now encoded)
+      let room = length (now args)
+      ⌜ (n ≡ counted) × (n ≡ 0 → ⊥) × (n ≤ room) ⌝ }
     ensures { λ r. do
       nodes ← ⟦Flat::MAX_NODES⟧ .entry
       deep ← ⟦Flat::MAX_DEPTH⟧ .entry
       w ← ⟦Encoding::ARGUMENT_BYTES⟧ .entry
-      ⌜ (r ≡ checkedOf (decoding w nodes deep (now (encoded .entry)))) × (now (args .exit) ≡ over (argsIn w (now (encoded .entry))) (now (args .entry))) ⌝ }
+      let s = now (encoded .entry)
+      let read = over (argsIn w s) (now (args .entry))
+      ⌜ (r ≡ checkedOf (decoding w nodes deep s)) × (now (args .exit) ≡ read) ⌝ }
 {
     let m = 2 + n;
     bytes::read_args(&encoded[m..], n, args);
@@ -115,7 +136,8 @@ fn check_nodes(encoded: &[u8]) -> Checked
       nodes ← ⟦Flat::MAX_NODES⟧ .entry
       deep ← ⟦Flat::MAX_DEPTH⟧ .entry
       w ← ⟦Encoding::ARGUMENT_BYTES⟧ .entry
-      ⌜ r ≡ checkedOf (decoding w nodes deep (now (encoded .entry))) ⌝ }
+      let is = decoding w nodes deep (now (encoded .entry))
+      ⌜ r ≡ checkedOf is ⌝ }
 {
     let n = node_count(encoded);
     if n == 0 {
@@ -139,7 +161,8 @@ pub fn check(encoded: &[u8]) -> Checked
       nodes ← ⟦Flat::MAX_NODES⟧ .entry
       deep ← ⟦Flat::MAX_DEPTH⟧ .entry
       w ← ⟦Encoding::ARGUMENT_BYTES⟧ .entry
-      ⌜ r ≡ checkedOf (decoding w nodes deep (now (encoded .entry))) ⌝ }
+      let is = decoding w nodes deep (now (encoded .entry))
+      ⌜ r ≡ checkedOf is ⌝ }
 {
     if is_plain(encoded) {
         return Checked::Valid;
@@ -153,7 +176,10 @@ pub fn decode(encoded: &[u8], kinds: &mut [u8], args: &mut [u64]) -> Written
       nodes ← ⟦Flat::MAX_NODES⟧ .entry
       deep ← ⟦Flat::MAX_DEPTH⟧ .entry
       w ← ⟦Encoding::ARGUMENT_BYTES⟧ .entry
-      ⌜ DecodeEnsures w nodes deep (now (encoded .entry)) (now (kinds .entry)) (now (args .entry)) (now (kinds .exit)) (now (args .exit)) r ⌝ }
+      let s = now (encoded .entry)
+      let ks = now (kinds .entry)
+      let xs = now (args .entry)
+      ⌜ DecodeEnsures w nodes deep s ks xs (now (kinds .exit)) (now (args .exit)) r ⌝ }
 {
     match check(encoded) {
         Checked::Refused(e) => Written::Refused(e),
@@ -173,19 +199,22 @@ pub fn decode(encoded: &[u8], kinds: &mut [u8], args: &mut [u64]) -> Written
     }
 }
 
-// Checks an encoded type and reads its arguments to the front of args: refusals 1 to 5. Its kinds stay where they are, `&encoded[2..2 + n]`.
-// Not an entry point, but a helper for the crates here, which lend it arrays of their own: it asks for room, and it reads the arguments before it
-// checks them, so a refusal can leave args changed.
+// Checks an encoded type and reads its arguments to the front of args: refusals 1 to 5. Its kinds stay where they
+// are, `&encoded[2..2 + n]`. Not an entry point, but a helper for the crates here, which lend it arrays of their own:
+// it asks for room, and it reads the arguments before it checks them, so a refusal can leave args changed.
 pub fn open(encoded: &[u8], args: &mut [u64]) -> Written
     requires { do
       nodes ← ⟦Flat::MAX_NODES⟧
       w ← ⟦Encoding::ARGUMENT_BYTES⟧
-      ⌜ nodesIn w nodes (now encoded) ≤ length (now args) ⌝ }
+      let counted = nodesIn w nodes (now encoded)
+      ⌜ counted ≤ length (now args) ⌝ }
     ensures { λ r. do
       nodes ← ⟦Flat::MAX_NODES⟧ .entry
       deep ← ⟦Flat::MAX_DEPTH⟧ .entry
       w ← ⟦Encoding::ARGUMENT_BYTES⟧ .entry
-      ⌜ Opens w nodes deep (now (encoded .entry)) (now (args .entry)) (now (args .exit)) r ⌝ }
+      let s = now (encoded .entry)
+      let xs = now (args .entry)
+      ⌜ Opens w nodes deep s xs (now (args .exit)) r ⌝ }
 {
     let n = node_count(encoded);
     if n == 0 {
@@ -203,7 +232,8 @@ fn root_of(encoded: &[u8]) -> Root
       nodes ← ⟦Flat::MAX_NODES⟧ .entry
       deep ← ⟦Flat::MAX_DEPTH⟧ .entry
       w ← ⟦Encoding::ARGUMENT_BYTES⟧ .entry
-      ⌜ (r ≡ rootOf (decoding w nodes deep (now (encoded .entry)))) × RootFits r ⌝ }
+      let is = decoding w nodes deep (now (encoded .entry))
+      ⌜ (r ≡ rootOf is) × RootFits r ⌝ }
 {
     match check_nodes(encoded) {
         Checked::Refused(e) => Root::Refused(e),
@@ -217,7 +247,8 @@ pub fn check_root(encoded: &[u8]) -> Root
       nodes ← ⟦Flat::MAX_NODES⟧ .entry
       deep ← ⟦Flat::MAX_DEPTH⟧ .entry
       w ← ⟦Encoding::ARGUMENT_BYTES⟧ .entry
-      ⌜ (r ≡ rootOf (decoding w nodes deep (now (encoded .entry)))) × RootFits r ⌝ }
+      let is = decoding w nodes deep (now (encoded .entry))
+      ⌜ (r ≡ rootOf is) × RootFits r ⌝ }
 {
     if is_plain(encoded) {
         return Root::Node(encoded[2], 0);
@@ -225,14 +256,17 @@ pub fn check_root(encoded: &[u8]) -> Root
     root_of(&encoded[0..])
 }
 
-// Encodes two arrays to the front of out, unless it is too short: refusal 8. They are not checked.
+// Encodes two arrays, which it doesn't check, to the front of out, unless that is too short: refusal 8.
 pub fn put(kinds: &[u8], args: &[u64], out: &mut [u8]) -> Encoded
     requires { do
       nodes ← ⟦Flat::MAX_NODES⟧
-      ⌜ (length (now kinds) ≡ length (now args)) × (length (now kinds) ≤ nodes) ⌝ }
+      let n = length (now kinds)
+      ⌜ (n ≡ length (now args)) × (n ≤ nodes) ⌝ }
     ensures { λ r. do
       w ← ⟦Encoding::ARGUMENT_BYTES⟧ .entry
-      ⌜ Puts w (now (kinds .entry)) (now (args .entry)) (now (out .entry)) (now (out .exit)) r ⌝ }
+      let ks = now (kinds .entry)
+      let xs = now (args .entry)
+      ⌜ Puts w ks xs (now (out .entry)) (now (out .exit)) r ⌝ }
 {
     let n = kinds.len();
     let size = 2 + (Encoding::ARGUMENT_BYTES + 1) * n;
@@ -252,7 +286,9 @@ pub fn encode(kinds: &[u8], args: &[u64], out: &mut [u8]) -> Encoded
       nodes ← ⟦Flat::MAX_NODES⟧ .entry
       deep ← ⟦Flat::MAX_DEPTH⟧ .entry
       w ← ⟦Encoding::ARGUMENT_BYTES⟧ .entry
-      ⌜ EncodeEnsures w nodes deep (now (kinds .entry)) (now (args .entry)) (now (out .entry)) (now (out .exit)) r ⌝ }
+      let ks = now (kinds .entry)
+      let xs = now (args .entry)
+      ⌜ EncodeEnsures w nodes deep ks xs (now (out .entry)) (now (out .exit)) r ⌝ }
 {
     match flat::check(kinds, args) {
         Checked::Valid => put(kinds, args, out),

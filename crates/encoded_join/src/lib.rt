@@ -2,16 +2,15 @@
 ghost use mathlib.Core.Path.{_≡_};
 ghost use lib.ListN.{length};
 ghost use Rattle.encoded.specs.Encoding.{decoding};
+ghost use Rattle.encoded.specs.Found.{fittingFoundBytes, EncodesFound};
 ghost use Rattle.supertype_answer.specs.Join.{resultOf, joining};
 ghost use Rattle.supertype_lossless.specs.Lossless.{losslessOf};
 ghost use Rattle.supertype.specs.Pair.{supertypeOf};
 ghost use Rattle.supertype_report.specs.Report.{typesReport};
 ghost use Rattle.channels.specs.Merge.{outcomeOf};
-ghost use Rattle.encoded_join.specs.Join.{fittingFoundBytes, JoinsBytes};
 use channels::ChannelTypes;
 use channels::Merged;
 use channels::merge_codes;
-use encoded::Encoded;
 use encoded::Encoding;
 use encoded::check_root;
 use flat::Flat;
@@ -26,7 +25,9 @@ use supertype_report::report_roots;
 fn put(found: Found, out: &mut [u8]) -> Optional
     ensures { λ r. do
       w ← ⟦Encoding::ARGUMENT_BYTES⟧ .entry
-      ⌜ JoinsBytes w (fittingFoundBytes w (length (now (out .entry))) (resultOf found)) (now (out .entry)) (now (out .exit)) r ⌝ }
+      let bytes = now (out .entry)
+      let fitted = fittingFoundBytes w (length bytes) (resultOf found)
+      ⌜ EncodesFound w fitted bytes (now (out .exit)) r ⌝ }
 {
     match found {
         Found::Nothing => Optional::Nothing,
@@ -34,10 +35,7 @@ fn put(found: Found, out: &mut [u8]) -> Optional
         Found::Some(k, a) => {
             let kinds = [k];
             let args = [a];
-            match encoded::put(&kinds, &args, out) {
-                Encoded::Bytes(size) => Optional::Some(size),
-                Encoded::Refused(e) => Optional::Refused(e),
-            }
+            encoded::put(&kinds, &args, out).found()
         }
     }
 }
@@ -54,7 +52,12 @@ pub fn get_supertype_with_options(
       nodes ← ⟦Flat::MAX_NODES⟧ .entry
       deep ← ⟦Flat::MAX_DEPTH⟧ .entry
       w ← ⟦Encoding::ARGUMENT_BYTES⟧ .entry
-      ⌜ JoinsBytes w (fittingFoundBytes w (length (now (out .entry))) (joining (supertypeOf «allow_implode_list» «allow_primitive_to_string») (decoding w nodes deep (now (left .entry))) (decoding w nodes deep (now (right .entry))))) (now (out .entry)) (now (out .exit)) r ⌝ }
+      let leftType = decoding w nodes deep (now (left .entry))
+      let rightType = decoding w nodes deep (now (right .entry))
+      let found = joining (supertypeOf «allow_implode_list» «allow_primitive_to_string») leftType rightType
+      let bytes = now (out .entry)
+      let fitted = fittingFoundBytes w (length bytes) found
+      ⌜ EncodesFound w fitted bytes (now (out .exit)) r ⌝ }
 {
     let l = check_root(left);
     let r = check_root(right);
@@ -67,7 +70,12 @@ pub fn get_numeric_upcast_supertype_lossless(left: &[u8], right: &[u8], out: &mu
       nodes ← ⟦Flat::MAX_NODES⟧ .entry
       deep ← ⟦Flat::MAX_DEPTH⟧ .entry
       w ← ⟦Encoding::ARGUMENT_BYTES⟧ .entry
-      ⌜ JoinsBytes w (fittingFoundBytes w (length (now (out .entry))) (joining losslessOf (decoding w nodes deep (now (left .entry))) (decoding w nodes deep (now (right .entry))))) (now (out .entry)) (now (out .exit)) r ⌝ }
+      let leftType = decoding w nodes deep (now (left .entry))
+      let rightType = decoding w nodes deep (now (right .entry))
+      let found = joining losslessOf leftType rightType
+      let bytes = now (out .entry)
+      let fitted = fittingFoundBytes w (length bytes) found
+      ⌜ EncodesFound w fitted bytes (now (out .exit)) r ⌝ }
 {
     let l = check_root(left);
     let r = check_root(right);
@@ -80,7 +88,9 @@ pub fn join_report(left: &[u8], right: &[u8]) -> Report
       nodes ← ⟦Flat::MAX_NODES⟧ .entry
       deep ← ⟦Flat::MAX_DEPTH⟧ .entry
       w ← ⟦Encoding::ARGUMENT_BYTES⟧ .entry
-      ⌜ r ≡ typesReport (decoding w nodes deep (now (left .entry))) (decoding w nodes deep (now (right .entry))) ⌝ }
+      let leftType = decoding w nodes deep (now (left .entry))
+      let rightType = decoding w nodes deep (now (right .entry))
+      ⌜ r ≡ typesReport leftType rightType ⌝ }
 {
     let l = check_root(left);
     let r = check_root(right);
@@ -94,7 +104,9 @@ pub fn merge(codes: &mut [u8; ChannelTypes::CHANNELS], channel: usize, column: &
       nodes ← ⟦Flat::MAX_NODES⟧ .entry
       deep ← ⟦Flat::MAX_DEPTH⟧ .entry
       w ← ⟦Encoding::ARGUMENT_BYTES⟧ .entry
-      ⌜ record { types = record { codes = now (codes .exit) }; answer = a } ≡ outcomeOf channels (record { codes = now (codes .entry) }) channel (decoding w nodes deep (now (column .entry))) ⌝ }
+      let columnType = decoding w nodes deep (now (column .entry))
+      ⌜ record { types = record { codes = now (codes .exit) }; answer = a }
+          ≡ outcomeOf channels (record { codes = now (codes .entry) }) channel columnType ⌝ }
 {
     let root = check_root(column);
     merge_codes(codes, channel, root)

@@ -1,4 +1,5 @@
--- Document 01's worked cases of the limits hold wherever the limits lie between the sizes and the depths of its trees. Assumes nothing.
+-- Document 01's worked cases of the limits hold wherever the limits lie between the sizes and the depths of its
+-- trees. Assumes nothing.
 use mathlib.Core.Path.{refl, sym, ap}
 use Prim.Native.Nat.{ℕ, zero, suc, _≤_, _<_}
 use native.Mathlib.Omega.{arith}
@@ -21,7 +22,7 @@ module _ (nodes deep : ℕ) (t : DataType) (r : Ruled t) where
       let f = own-form t r in
       let l = form-length f in
       let p = size-pos t in
-      sym (ap checkedNumber (too-many nodes deep (kindsOf t) (argsOf t) (form-even f) (λ z. omega arith) (omega arith)))
+      sym (ap checkedNumber (too-many nodes deep (record { even = form-even f; some = omega arith }) (omega arith)))
 
   too-deep : size t ≤ nodes → deep < depth t → Gets 5 nodes deep t
   too-deep s d = refusals nodes deep (kindsOf t) (argsOf t) .five .1 (t, own-form t r, s, d)
@@ -45,11 +46,15 @@ wide-ruled : Ruled wide
 unfolding Ruled fieldsOf count argumentFits argumentRule
 wide-ruled = (refl, fields-ruled 255 int8 int8-ruled)
 
-pub depth-limit : {nodes deep : ℕ} → size (lists 33 int8) ≤ nodes → depth (lists 32 int8) ≤ deep → deep < depth (lists 33 int8) → DepthLimit nodes deep
+pub depth-limit :
+    {nodes deep : ℕ} → size (lists 33 int8) ≤ nodes → depth (lists 32 int8) ≤ deep → deep < depth (lists 33 int8)
+    → DepthLimit nodes deep
 unfolding size lists
 depth-limit s d e = record { lists-32 = within _ _ _ (lists-ruled 32 int8 int8-ruled) (omega arith) d; lists-33 = too-deep _ _ _ (lists-ruled 33 int8 int8-ruled) s e }
 
-pub node-limit : {nodes deep : ℕ} → size (lists 1 wide) ≤ nodes → nodes < size (lists 2 wide) → depth (lists 1 wide) ≤ deep → NodeLimit nodes deep
+pub node-limit :
+    {nodes deep : ℕ} → size (lists 1 wide) ≤ nodes → nodes < size (lists 2 wide) → depth (lists 1 wide) ≤ deep
+    → NodeLimit nodes deep
 unfolding size depth lists fieldsOf
 node-limit s g d = record {
   nodes-511 = (refl, within _ _ _ wide-ruled (omega arith) (omega arith));

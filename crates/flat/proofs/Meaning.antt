@@ -1,4 +1,5 @@
--- What `reading` means: it gives exactly the valid types, each from its own flat form and from nothing else. Assumes nothing.
+-- What `reading` means: it gives exactly the valid types, each from its own flat form and from nothing else. Assumes
+-- nothing.
 use mathlib.Core.Path.{_≡_, refl, sym, ap, ap₂, subst, _∙_}
 use mathlib.Core.Bool.{Bool, true, false, _&&_}
 use mathlib.Core.List.{List, [], _++_, append-assoc, append-nil}
@@ -10,14 +11,17 @@ use lib.Dec.{leb, ltb, eqb}
 use lib.ListN.{length, getD, drop-of-length-le}
 use Rattle.flat.specs.Kind
 use Rattle.flat.specs.Argument.{argumentFits, argumentRule}
-use Rattle.flat.specs.Tree.{DataType, leaf, list, array, struct, Fields, empty, field, size, depth, kindsOf, kindsOfs, argsOf, argsOfs, count, headKind, headArg}
+use Rattle.flat.specs.Tree.{DataType, leaf, list, array, struct, Fields, empty, field, size, depth, kindsOf}
+use Rattle.flat.specs.Tree.{kindsOfs, argsOf, argsOfs, count, headKind, headArg}
 use Rattle.flat.specs.Reader.{nodeAt}
-use Rattle.flat.specs.Reading.{Reading, refused, type, unless, lengthFits, kindsFit, argumentsFit, shaped, reading, checkedOf, Ruled, RuledFields, IsType}
+use Rattle.flat.specs.Reading.{Reading, refused, type, unless, lengthFits, kindsFit, argumentsFit, shaped}
+use Rattle.flat.specs.Reading.{reading, checkedOf, Ruled, RuledFields, IsType}
 use Rattle.flat.specs.Refusals.{FlatForm, NodesFit}
 use Rattle.flat.specs.declared.error.Error.{Error}
 use Rattle.flat.specs.declared.error.Error.the-variants.{Length, Kind, Argument, Shape, Depth}
 use Rattle.flat.specs.declared.Checked.the-variants as answer
 use Rattle.flat.specs.Walk.{Valid, typeAt}
+use Rattle.flat.proofs.Truths.{impossible, both-true}
 use Rattle.flat.proofs.Sizes.{length-kinds, length-args, size-pos}
 use Rattle.flat.proofs.Walks.{node-of, valid-of, type-is, type-kind, type-arg}
 use Rattle.flat.proofs.ReadBack.{Good, Goods, read-back, Sound, sound}
@@ -47,18 +51,23 @@ mutual
 
   kinds-fits : (fs : Fields) → RuledFields fs → (ks : List ℕ) → kindsFit (kindsOfs fs ++ ks) ≡ kindsFit ks
   kinds-fits empty r ks = refl
-  kinds-fits (field name t fs) r ks = ap kindsFit (append-assoc (kindsOf t) (kindsOfs fs) ks) ∙ kinds-fit t (r .1) (kindsOfs fs ++ ks) ∙ kinds-fits fs (r .2) ks
+  kinds-fits (field name t fs) r ks =
+      ap kindsFit (append-assoc (kindsOf t) (kindsOfs fs) ks) ∙ kinds-fit t (r .1) (kindsOfs fs ++ ks) ∙ kinds-fits fs
+      (r .2) ks
 
 mutual
   unfolding Ruled kindsOf argsOf argumentsFit argumentFits argumentRule
 
-  arguments-fit : (t : DataType) → Ruled t → (ks xs : List ℕ) → argumentsFit (kindsOf t ++ ks) (argsOf t ++ xs) ≡ argumentsFit ks xs
+  arguments-fit :
+      (t : DataType) → Ruled t → (ks xs : List ℕ) → argumentsFit (kindsOf t ++ ks) (argsOf t ++ xs) ≡ argumentsFit ks xs
   arguments-fit (leaf k a) r ks xs = rw (r .1)
   arguments-fit (list t) r ks xs = arguments-fit t r ks xs
   arguments-fit (array w t) r ks xs = arguments-fit t r ks xs
   arguments-fit (struct fs) r ks xs = rw (r .0) (arguments-fits fs (r .1) ks xs)
 
-  arguments-fits : (fs : Fields) → RuledFields fs → (ks xs : List ℕ) → argumentsFit (kindsOfs fs ++ ks) (argsOfs fs ++ xs) ≡ argumentsFit ks xs
+  arguments-fits :
+      (fs : Fields) → RuledFields fs → (ks xs : List ℕ)
+      → argumentsFit (kindsOfs fs ++ ks) (argsOfs fs ++ xs) ≡ argumentsFit ks xs
   arguments-fits empty r ks xs = refl
   arguments-fits (field name t fs) r ks xs =
       rw (r .0)
@@ -83,7 +92,7 @@ module _ {ks xs : List ℕ} {t : DataType} (f : FlatForm ks xs t) where
   pub form-read : nodeAt ks xs ≡ some t
   form-read = ap₂ nodeAt at-kinds at-args ∙ read-back t (good t (f .ruled)) [] []
 
-  -- So a walk may start: the type stands at the front.
+  -- The type stands at the front, so a walk may start there.
   pub form-stands : Valid ks xs × (typeAt ks xs ≡ t)
   form-stands = (valid-of (node-of ks xs t form-even form-read), type-is ks xs t form-read)
 
@@ -102,7 +111,9 @@ pub own-form : (t : DataType) → Ruled t → FlatForm (kindsOf t) (argsOf t) t
 own-form t r = record { kinds = refl; args = refl; ruled = r }
 
 -- where none of 1 to 3 is given, 4 and 5 are left
-pub fit-reading : (nodes deep : ℕ) {ks xs : List ℕ} → NodesFit nodes ks xs → reading nodes deep ks xs ≡ shaped deep (length ks) (nodeAt ks xs)
+pub fit-reading :
+    (nodes deep : ℕ) {ks xs : List ℕ} → NodesFit nodes ks xs
+    → reading nodes deep ks xs ≡ shaped deep (length ks) (nodeAt ks xs)
 unfolding reading
 fit-reading nodes deep f = rw (f .lengths, f .kinds, f .args)
 
@@ -113,26 +124,26 @@ passes nodes deep t v =
     rw (fit-reading nodes deep (form-fits f (v .within)), form-read f, eq-eqb (size t) (length (kindsOf t)) (sym (form-length f)), le-leb (depth t) deep (v .shallow))
 
 -- ---- whatever passes is a valid type
-both : (a b : Bool) → (a && b) ≡ true → (a ≡ true) × (b ≡ true)
-both true b e = (refl, e)
-both false b e = absurd (let z : _≡_ {A = ℕ} 0 1 = cc in omega arith)
-
 mutual
   unfolding Ruled Good kindsOf argsOf argumentsFit argumentFits argumentRule
 
   -- fitting arguments of a tree, and of what follows it
-  ruled : (t : DataType) → Good t → (ks xs : List ℕ) → argumentsFit (kindsOf t ++ ks) (argsOf t ++ xs) ≡ true → Ruled t × (argumentsFit ks xs ≡ true)
-  ruled (leaf k a) g ks xs e = let s = both (argumentFits k a) (argumentsFit ks xs) e in ((g, s .0), s .1)
+  ruled :
+      (t : DataType) → Good t → (ks xs : List ℕ) → argumentsFit (kindsOf t ++ ks) (argsOf t ++ xs) ≡ true
+      → Ruled t × (argumentsFit ks xs ≡ true)
+  ruled (leaf k a) g ks xs e = let s = both-true (argumentFits k a) (argumentsFit ks xs) e in ((g, s .0), s .1)
   ruled (list t) g ks xs e = ruled t g ks xs e
   ruled (array w t) g ks xs e = ruled t g ks xs e
   ruled (struct fs) g ks xs e =
-      let s = both (argumentFits Kind.Struct (count fs)) (argumentsFit (kindsOfs fs ++ ks) (argsOfs fs ++ xs)) e in
+      let s = both-true (argumentFits Kind.Struct (count fs)) (argumentsFit (kindsOfs fs ++ ks) (argsOfs fs ++ xs)) e in
       let r = ruled-fields fs g ks xs (s .1) in ((s .0, r .0), r .1)
 
-  ruled-fields : (fs : Fields) → Goods fs → (ks xs : List ℕ) → argumentsFit (kindsOfs fs ++ ks) (argsOfs fs ++ xs) ≡ true → RuledFields fs × (argumentsFit ks xs ≡ true)
+  ruled-fields :
+      (fs : Fields) → Goods fs → (ks xs : List ℕ) → argumentsFit (kindsOfs fs ++ ks) (argsOfs fs ++ xs) ≡ true
+      → RuledFields fs × (argumentsFit ks xs ≡ true)
   ruled-fields empty g ks xs e = (tt, e)
   ruled-fields (field name t fs) g ks xs e =
-      let s = both (argumentFits Kind.Field name) (argumentsFit ((kindsOf t ++ kindsOfs fs) ++ ks) ((argsOf t ++ argsOfs fs) ++ xs)) e in
+      let s = both-true (argumentFits Kind.Field name) (argumentsFit ((kindsOf t ++ kindsOfs fs) ++ ks) ((argsOf t ++ argsOfs fs) ++ xs)) e in
       let q = sym (ap₂ argumentsFit (append-assoc (kindsOf t) (kindsOfs fs) ks) (append-assoc (argsOf t) (argsOfs fs) xs)) ∙ s .1 in
       let r = ruled t (g .0) (kindsOfs fs ++ ks) (argsOfs fs ++ xs) q in
       let u = ruled-fields fs (g .1) ks xs (r .1) in ((s .0, r .0, u .0), u .1)
@@ -140,10 +151,12 @@ mutual
 -- a test that was passed
 passed : (b : Bool) (e : Error) (r : Reading) (t : DataType) → unless b e r ≡ type t → (b ≡ true) × (r ≡ type t)
 passed true e r t q = (refl, q)
-passed false e r t q = absurd (let z : _≡_ {A = ℕ} 0 1 = cc in omega arith)
+passed false e r t q = impossible cc
 
 -- A tree that was read from all the nodes, whose arguments fit: the arrays are its flat form.
-pub read-form : {ks xs : List ℕ} (t : DataType) → nodeAt ks xs ≡ some t → size t ≡ length ks → length ks ≡ length xs → argumentsFit ks xs ≡ true → FlatForm ks xs t
+pub read-form :
+    {ks xs : List ℕ} (t : DataType) → nodeAt ks xs ≡ some t → size t ≡ length ks → length ks ≡ length xs
+    → argumentsFit ks xs ≡ true → FlatForm ks xs t
 read-form {ks} {xs} t q n e f =
     let o : Sound ks xs (some t) = subst (λ (v : Option DataType). Sound ks xs v) q (sound ks xs) in
     let k : ks ≡ kindsOf t ++ [] = o .0 ∙ ap (λ (l : List ℕ). kindsOf t ++ l) (drop-of-length-le ks {i = size t} (omega arith)) in
@@ -160,16 +173,19 @@ pub holds-form : {nodes deep : ℕ} {ks xs : List ℕ} {t : DataType} → Holds 
 holds-form h = record { kinds = h .kinds; args = h .args; ruled = h .is-type .ruled }
 
 -- what the test of 1 says where it is passed
-pub lengths-fit : (nodes : ℕ) (ks xs : List ℕ) → lengthFits nodes ks xs ≡ true → (length ks ≡ length xs) × (length ks ≤ nodes)
+pub lengths-fit :
+    (nodes : ℕ) (ks xs : List ℕ) → lengthFits nodes ks xs ≡ true → (length ks ≡ length xs) × (length ks ≤ nodes)
 unfolding lengthFits
 lengths-fit nodes ks xs e =
-    let l = both (eqb (length ks) (length xs) && ltb 0 (length ks)) (leb (length ks) nodes) e in
-    let m = both (eqb (length ks) (length xs)) (ltb 0 (length ks)) (l .0) in
+    let l = both-true (eqb (length ks) (length xs) && ltb 0 (length ks)) (leb (length ks) nodes) e in
+    let m = both-true (eqb (length ks) (length xs)) (ltb 0 (length ks)) (l .0) in
     (eqb-true (length ks) (length xs) (m .0), leb-true (length ks) nodes (l .1))
 
 module _ (nodes deep : ℕ) (ks xs : List ℕ) (t : DataType) where
-  one-type : NodesFit nodes ks xs → (p : Option DataType) → nodeAt ks xs ≡ p → shaped deep (length ks) p ≡ type t → Holds nodes deep ks xs t
-  one-type f none q r = absurd (let z : _≡_ {A = ℕ} 0 1 = cc in omega arith)
+  one-type :
+      NodesFit nodes ks xs → (p : Option DataType) → nodeAt ks xs ≡ p → shaped deep (length ks) p ≡ type t
+      → Holds nodes deep ks xs t
+  one-type f none q r = impossible cc
   one-type f (some u) q r =
       let l = lengths-fit nodes ks xs (f .lengths) in
       let s = passed (eqb (size u) (length ks)) Shape (unless (leb (depth u) deep) Depth (type u)) t r in
@@ -194,12 +210,12 @@ module _ (nodes deep : ℕ) (ks xs : List ℕ) (t : DataType) where
 
 -- What the check's answer tells of the reading.
 pub checked-type : (r : Reading) → answer.Valid ≡ checkedOf r → (t : DataType) × (r ≡ type t)
-checked-type (refused e) q = absurd (let z : _≡_ {A = ℕ} 0 1 = cc in omega arith)
+checked-type (refused e) q = impossible cc
 checked-type (type t) q = (t, refl)
 
 pub checked-refused : (r : Reading) (e : Error) → answer.Refused e ≡ checkedOf r → r ≡ refused e
 checked-refused (refused d) e q = let y : d ≡ e = cc in ap refused y
-checked-refused (type t) e q = absurd (let z : _≡_ {A = ℕ} 0 1 = cc in omega arith)
+checked-refused (type t) e q = impossible cc
 
 -- What a check that passed tells of two arrays: they are the flat form of a type, which stands at their front.
 pub record Passed (nodes deep : ℕ) (ks xs : List ℕ) : Type 0 where
@@ -211,7 +227,8 @@ pub record Passed (nodes deep : ℕ) (ks xs : List ℕ) : Type 0 where
   pub valid : Valid ks xs
   pub front : typeAt ks xs ≡ tree
 
-pub check-passed : {nodes deep : ℕ} {ks xs : List ℕ} → answer.Valid ≡ checkedOf (reading nodes deep ks xs) → Passed nodes deep ks xs
+pub check-passed :
+    {nodes deep : ℕ} {ks xs : List ℕ} → answer.Valid ≡ checkedOf (reading nodes deep ks xs) → Passed nodes deep ks xs
 check-passed {nodes} {deep} {ks} {xs} e =
     let r = checked-type (reading nodes deep ks xs) e in
     let h = holds nodes deep ks xs (r .0) (r .1) in
@@ -219,7 +236,7 @@ check-passed {nodes} {deep} {ks} {xs} e =
     let s = stands nodes deep ks xs (r .0) (r .1) in
     record { tree = r .0; reads = r .1; form = h; even = form-even f; whole = sym (form-length f); valid = s .0; front = s .1 }
 
--- and their first node is the type's root
+-- The first node of arrays that passed is the type's root.
 module _ {nodes deep : ℕ} {ks xs : List ℕ} (v : Passed nodes deep ks xs) where
   pub root-kind : headKind (v .tree) ≡ getD ks 0 0
   root-kind = ap headKind (sym (v .front)) ∙ type-kind ks xs (v .valid)

@@ -1,4 +1,5 @@
--- The fields from a place on: what a walk over fields, which moves its place along the arrays, meets at the next field. Assumes nothing.
+-- The fields from a place on: what a walk over fields, which moves its place along the arrays, meets at the next
+-- field. Assumes nothing.
 use mathlib.Core.Path.{_≡_, refl, sym, ap, _∙_}
 use mathlib.Core.List.{List}
 use Prim.Native.Nat.{ℕ, suc, _+_, _-_}
@@ -13,18 +14,22 @@ use Rattle.flat.proofs.Walks.{from, field-valid, others-valid, run-fiel
 
 -- parts of parts
 pub onward : (i j k : ℕ) (l : List ℕ) → i + j ≡ k → from j (from i l) ≡ from k l
-onward i j k l e = rest (from i l) j ∙ ap (drop j) (rest l i) ∙ drop-drop j i l ∙ ap (λ (n : ℕ). drop n l) e ∙ sym (rest l k)
+onward i j k l e =
+    rest (from i l) j ∙ ap (drop j) (rest l i) ∙ drop-drop j i l ∙ ap (λ (n : ℕ). drop n l) e ∙ sym (rest l k)
 
 pub from-zero : (l : List ℕ) → from 0 l ≡ l
 from-zero l = rest l 0
 
 pub from-first : (j : ℕ) (l : List ℕ) → getD (from j l) 0 0 ≡ getD l j 0
-from-first j l = ap (λ (d : List ℕ). getD d 0 0) (rest l j) ∙ getD-drop j l 0 0 ∙ ap (λ (i : ℕ). getD l i 0) (add-zero j)
+from-first j l =
+    ap (λ (d : List ℕ). getD d 0 0) (rest l j) ∙ getD-drop j l 0 0 ∙ ap (λ (i : ℕ). getD l i 0) (add-zero j)
 
 module _ (left at : ℕ) (ks xs : List ℕ) (v : ValidRun left (from at ks) (from at xs)) (p : left ≡ 0 → ⊥) where
   -- the type of the next field
   pub next-valid : Valid (from (at + 1) ks) (from (at + 1) xs)
-  next-valid = rw (onward at 1 (at + 1) ks refl, onward at 1 (at + 1) xs refl) at (field-valid left (from at ks) (from at xs) v p)
+  next-valid =
+      rw (onward at 1 (at + 1) ks refl, onward at 1 (at + 1) xs refl) at
+      (field-valid left (from at ks) (from at xs) v p)
 
   -- the fields after it, where it has n nodes
   module _ (n : ℕ) (e : n ≡ size (typeAt (from (at + 1) ks) (from (at + 1) xs))) where
@@ -38,7 +43,9 @@ module _ (left at : ℕ) (ks xs : List ℕ) (v : ValidRun left (from at ks) (fro
     next-run = rw (past ks, past xs) at (others-valid left (from at ks) (from at xs) v p n here)
 
     pub next-field : runAt left (from at ks) (from at xs) ≡ field (getD xs at 0) (typeAt (from (at + 1) ks) (from (at + 1) xs)) (runAt (left - 1) (from (at + 1 + n) ks) (from (at + 1 + n) xs))
-    next-field = run-field left (from at ks) (from at xs) v p n here ∙ rw (from-first at xs, onward at 1 (at + 1) ks refl, onward at 1 (at + 1) xs refl, past ks, past xs)
+    next-field =
+        run-field left (from at ks) (from at xs) v p n here ∙ rw
+        (from-first at xs, onward at 1 (at + 1) ks refl, onward at 1 (at + 1) xs refl, past ks, past xs)
 
     pub next-nodes : sizes (runAt left (from at ks) (from at xs)) ≡ suc (n + sizes (runAt (left - 1) (from (at + 1 + n) ks) (from (at + 1 + n) xs)))
     next-nodes = field-nodes left (from at ks) (from at xs) v p n here ∙ rw (past ks, past xs)

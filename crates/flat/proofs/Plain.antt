@@ -1,6 +1,6 @@
 -- One plain leaf: what its test tells, and that it is a type. Assumes nothing.
 use mathlib.Core.Path.{_≡_, refl, sym, ap, ap₂, _∙_}
-use mathlib.Core.Bool.{Bool, true, false, _&&_, _||_, and-eq-true-iff}
+use mathlib.Core.Bool.{Bool, true, false, _&&_, _||_}
 use mathlib.Core.List.{List, [], _∷_}
 use Prim.Native.Nat.{ℕ, _≤_, _<_}
 use native.Mathlib.Omega.{arith}
@@ -11,6 +11,7 @@ use Rattle.flat.specs.Kind
 use Rattle.flat.specs.Argument.{argumentRule, argumentFits, leafFits, plainLeaf}
 use Rattle.flat.specs.Tree.{leaf, size, depth, kindsOf, argsOf}
 use Rattle.flat.specs.Reading.{type, reading, checkedOf, onePlain, Ruled}
+use Rattle.flat.proofs.Truths.{both-true}
 use Rattle.flat.proofs.Meaning.{Passed, check-passed, passes as type-passes}
 use Rattle.flat.proofs.Rules.{run, passes}
 
@@ -61,14 +62,17 @@ alone (k ∷ j ∷ l) h = absurd (omega arith)
 pub plain-fits : (k a : ℕ) → plainLeaf k a ≡ true → (a ≡ 0) × (k < Kind.List) × (argumentFits k a ≡ true)
 unfolding plainLeaf
 plain-fits k a e =
-    let both = and-eq-true-iff (eqb a 0) (leafFits k a) .0 e in
-    let fits = and-eq-true-iff (leb k Kind.UnknownIntNeg) (argumentFits k a) .0 (both .1) in
+    let both = both-true (eqb a 0) (leafFits k a) e in
+    let fits = both-true (leb k Kind.UnknownIntNeg) (argumentFits k a) (both .1) in
     (eqb-true a 0 (both .0), omega (arith, leb-true k Kind.UnknownIntNeg (fits .0)), fits .1)
 
 -- a leaf that follows its rule is a type
-leaf-type : (nodes deep k a : ℕ) → 1 ≤ nodes → k < Kind.List → argumentFits k a ≡ true → reading nodes deep (k ∷ []) (a ∷ []) ≡ type (leaf k a)
+leaf-type :
+    (nodes deep k a : ℕ) → 1 ≤ nodes → k < Kind.List → argumentFits k a ≡ true
+    → reading nodes deep (k ∷ []) (a ∷ []) ≡ type (leaf k a)
 unfolding kindsOf argsOf Ruled size depth
-leaf-type nodes deep k a h l f = type-passes nodes deep (leaf k a) (record { ruled = (omega arith, f); within = h; shallow = omega arith })
+leaf-type nodes deep k a h l f =
+    type-passes nodes deep (leaf k a) (record { ruled = (omega arith, f); within = h; shallow = omega arith })
 
 -- What the test of two arrays tells: they are the one leaf, with the argument 0, and that is a type.
 pub record PlainType (nodes deep : ℕ) (ks xs : List ℕ) : Type 0 where
@@ -82,8 +86,8 @@ pub record PlainType (nodes deep : ℕ) (ks xs : List ℕ) : Type 0 where
 pub plain-type : (nodes deep : ℕ) (ks xs : List ℕ) → 1 ≤ nodes → onePlain ks xs ≡ true → PlainType nodes deep ks xs
 unfolding onePlain
 plain-type nodes deep ks xs h e =
-    let both = and-eq-true-iff (eqb (length ks) 1 && eqb (length xs) 1) (plainLeaf (getD ks 0 0) (getD xs 0 0)) .0 e in
-    let lengths = and-eq-true-iff (eqb (length ks) 1) (eqb (length xs) 1) .0 (both .0) in
+    let both = both-true (eqb (length ks) 1 && eqb (length xs) 1) (plainLeaf (getD ks 0 0) (getD xs 0 0)) e in
+    let lengths = both-true (eqb (length ks) 1) (eqb (length xs) 1) (both .0) in
     let fits = plain-fits (getD ks 0 0) (getD xs 0 0) (both .1) in
     let one = sym (alone ks (eqb-true (length ks) 1 (lengths .0))) in
     let zero = sym (alone xs (eqb-true (length xs) 1 (lengths .1))) ∙ ap (λ (a : ℕ). a ∷ []) (fits .0) in

@@ -1,5 +1,6 @@
--- A position in the two arrays is a subtree: what the reader says there, from the node that stands there and what it says of the positions after it.
--- These laws have no bound on the reading; every walk's proof goes by them. Assumes nothing.
+-- A position in the two arrays is a subtree: what the reader says there, from the node that stands there and what it
+-- says of the positions after it. These laws have no bound on the reading; every walk's proof goes by them. Assumes
+-- nothing.
 use mathlib.Core.Path.{_≡_, refl, ap, ap₂, _∙_}
 use mathlib.Core.Bool.{Bool, true, false}
 use mathlib.Core.List.{List, [], _∷_}
@@ -13,18 +14,25 @@ use lib.Seq.{drop-cons, take-all}
 use borrow.Author.Tests.{le-leb, ne-eqb}
 use Rattle.flat.specs.Kind
 use Rattle.flat.specs.Tree.{DataType, list, array, struct, Fields, empty, field, size}
-use Rattle.flat.specs.Reader.{Children, no-child, under-list, under-array, fields, no-type, children, mapO, bindO, Reads, underNode, stepNode, underField, stepFields, nodeIn, fieldsIn, nodeAt, fieldsAt}
+use Rattle.flat.specs.Reader.{Children, no-child, under-list, under-array, fields, no-type, children, mapO, bindO}
+use Rattle.flat.specs.Reader.{Reads, underNode, stepNode, underField, stepFields, nodeIn, fieldsIn, nodeAt}
+use Rattle.flat.specs.Reader.{fieldsAt}
 
 -- Readers that agree on what stands under a node agree on the node.
-same-under : (p p′ : Reads DataType) (f f′ : ℕ → Reads Fields) (s : Children) (k a : ℕ) (ks xs : List ℕ) → p ks xs ≡ p′ ks xs → f a ks xs ≡ f′ a ks xs → underNode p f s k a ks xs ≡ underNode p′ f′ s k a ks xs
+same-under :
+    (p p′ : Reads DataType) (f f′ : ℕ → Reads Fields) (s : Children) (k a : ℕ) (ks xs : List ℕ) → p ks xs ≡ p′ ks xs
+    → f a ks xs ≡ f′ a ks xs → underNode p f s k a ks xs ≡ underNode p′ f′ s k a ks xs
 same-under p p′ f f′ no-child k a ks xs e g = refl
 same-under p p′ f f′ under-list k a ks xs e g = ap (mapO list) e
 same-under p p′ f f′ under-array k a ks xs e g = ap (mapO (array a)) e
 same-under p p′ f f′ fields k a ks xs e g = ap (mapO struct) g
 same-under p p′ f f′ no-type k a ks xs e g = refl
 
--- So too of a field and those after it.
-same-under-field : (p p′ : Reads DataType) (f f′ : ℕ → Reads Fields) (b : Bool) (m a : ℕ) (ks xs : List ℕ) → p ks xs ≡ p′ ks xs → ((j : ℕ) → f m (drop j ks) (drop j xs) ≡ f′ m (drop j ks) (drop j xs)) → underField p f b m a ks xs ≡ underField p′ f′ b m a ks xs
+-- Readers that agree on what stands under a field, and on the fields after it, agree on the fields.
+same-under-field :
+    (p p′ : Reads DataType) (f f′ : ℕ → Reads Fields) (b : Bool) (m a : ℕ) (ks xs : List ℕ) → p ks xs ≡ p′ ks xs
+    → ((j : ℕ) → f m (drop j ks) (drop j xs) ≡ f′ m (drop j ks) (drop j xs))
+    → underField p f b m a ks xs ≡ underField p′ f′ b m a ks xs
 same-under-field p p′ f f′ false m a ks xs e g = refl
 same-under-field p p′ f f′ true m a ks xs e g = rw e (go (p′ ks xs))
   where
@@ -45,7 +53,8 @@ mutual
   anyIn (suc n) (suc n′) [] xs h h′ = refl
   anyIn (suc n) (suc n′) (k ∷ ks) [] h h′ = refl
   anyIn (suc n) (suc n′) (k ∷ ks) (a ∷ xs) h h′ =
-      same-under (nodeIn n) (nodeIn n′) (fieldsIn n) (fieldsIn n′) (children k a) k a ks xs (anyIn n n′ ks xs (omega arith) (omega arith)) (anysIn n n′ a ks xs (omega arith) (omega arith))
+      same-under (nodeIn n) (nodeIn n′) (fieldsIn n) (fieldsIn n′) (children k a) k a ks xs
+      (anyIn n n′ ks xs (omega arith) (omega arith)) (anysIn n n′ a ks xs (omega arith) (omega arith))
 
   pub anysIn : (n n′ m : ℕ) (ks xs : List ℕ) → length ks ≤ n → length ks ≤ n′ → fieldsIn n m ks xs ≡ fieldsIn n′ m ks xs
   anysIn zero zero m ks xs h h′ = refl
@@ -59,7 +68,8 @@ mutual
   anysIn (suc n) (suc n′) (suc m) [] xs h h′ = refl
   anysIn (suc n) (suc n′) (suc m) (k ∷ ks) [] h h′ = refl
   anysIn (suc n) (suc n′) (suc m) (k ∷ ks) (a ∷ xs) h h′ =
-      same-under-field (nodeIn n) (nodeIn n′) (fieldsIn n) (fieldsIn n′) (eqb k Kind.Field) m a ks xs (anyIn n n′ ks xs (omega arith) (omega arith))
+      same-under-field (nodeIn n) (nodeIn n′) (fieldsIn n) (fieldsIn n′) (eqb k Kind.Field) m a ks xs
+      (anyIn n n′ ks xs (omega arith) (omega arith))
       (λ (j : ℕ). anysIn n n′ m (drop j ks) (drop j xs) (simp length-drop (omega arith)) (simp length-drop (omega arith)))
 
 -- Without the bound: what a node or a field says of the rest.
@@ -67,7 +77,8 @@ pub node-step : (ks xs : List ℕ) → nodeAt ks xs ≡ stepNode nodeAt fieldsAt
 unfolding nodeAt fieldsAt nodeIn
 node-step [] xs = refl
 node-step (k ∷ ks) [] = refl
-node-step (k ∷ ks) (a ∷ xs) = same-under (nodeIn (length ks)) nodeAt (fieldsIn (length ks)) fieldsAt (children k a) k a ks xs refl refl
+node-step (k ∷ ks) (a ∷ xs) =
+    same-under (nodeIn (length ks)) nodeAt (fieldsIn (length ks)) fieldsAt (children k a) k a ks xs refl refl
 
 pub fields-step : (m : ℕ) (ks xs : List ℕ) → fieldsAt m ks xs ≡ stepFields nodeAt fieldsAt m ks xs
 unfolding nodeAt fieldsAt nodeIn
@@ -86,11 +97,6 @@ node-at ks xs at h h′ s e = ap₂ nodeAt (drop-cons ks at 0 h) (drop-cons xs a
 -- fields at a position
 pub fields-zero : (ks xs : List ℕ) → fieldsAt 0 ks xs ≡ some empty
 fields-zero ks xs = fields-step 0 ks xs
-
-pub fields-end : (m : ℕ) (ks xs : List ℕ) → 0 < m → length ks ≡ 0 → fieldsAt m ks xs ≡ none
-fields-end zero ks xs p h = absurd (omega arith)
-fields-end (suc m) [] xs p h = fields-step (suc m) [] xs
-fields-end (suc m) (k ∷ ks) xs p h = absurd (omega arith)
 
 module _ (m : ℕ) (ks xs : List ℕ) (at : ℕ) (p : 0 < m) (h : at < length ks) (h′ : at < length xs) where
   pub fields-at : (b : Bool) → eqb (getD ks at 0) Kind.Field ≡ b → fieldsAt m (drop at ks) (drop at xs) ≡ underField nodeAt fieldsAt b (m - 1) (getD xs at 0) (drop (at + 1) ks) (drop (at + 1) xs)

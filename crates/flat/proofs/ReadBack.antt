@@ -1,5 +1,5 @@
--- The reader and the flat form: what is written is read back from the front of any longer lists, whatever is read is exactly what stood there, and so the
--- tree is unique. Assumes nothing.
+-- The reader and the flat form: what is written is read back from the front of any longer lists, and whatever is read
+-- is exactly what stood there. Assumes nothing.
 use mathlib.Core.Path.{_≡_, refl, sym, ap, ap₂, _∙_, subst}
 use mathlib.Core.Bool.{Bool, true, false, cond}
 use mathlib.Core.List.{List, [], _∷_, _++_, append-assoc}
@@ -11,8 +11,11 @@ use lib.ListN.{length, drop, length-append}
 use lib.Seq.{drop-at, drop-drop}
 use borrow.Author.Tests.{le-leb, leb-true, eqb-true}
 use Rattle.flat.specs.Kind
-use Rattle.flat.specs.Tree.{DataType, leaf, list, array, struct, Fields, empty, field, size, sizes, count, kindsOf, kindsOfs, argsOf, argsOfs}
-use Rattle.flat.specs.Reader.{Children, no-child, under-list, under-array, fields, no-type, children, mapO, bindO, Reads, underNode, stepNode, underField, stepFields, never, nodeIn, fieldsIn, nodeAt, fieldsAt}
+use Rattle.flat.specs.Tree.{DataType, leaf, list, array, struct, Fields, empty, field, size, sizes, count}
+use Rattle.flat.specs.Tree.{kindsOf, kindsOfs, argsOf, argsOfs}
+use Rattle.flat.specs.Reader.{Children, no-child, under-list, under-array, fields, no-type, children, mapO, bindO}
+use Rattle.flat.specs.Reader.{Reads, underNode, stepNode, underField, stepFields, never, nodeIn, fieldsIn, nodeAt}
+use Rattle.flat.specs.Reader.{fieldsAt}
 use Rattle.flat.proofs.Sizes.{length-kinds, length-kindss, length-args, count-le}
 
 -- each leaf has a leaf's kind
@@ -31,7 +34,9 @@ unfoldable mutual
 mutual
   unfolding size kindsOf argsOf Good nodeIn children count
 
-  pub readIn : (t : DataType) → Good t → (n : ℕ) (ks xs : List ℕ) → size t ≤ n → nodeIn n (kindsOf t ++ ks) (argsOf t ++ xs) ≡ some t
+  pub readIn :
+      (t : DataType) → Good t → (n : ℕ) (ks xs : List ℕ) → size t ≤ n
+      → nodeIn n (kindsOf t ++ ks) (argsOf t ++ xs) ≡ some t
   readIn (leaf k a) g zero ks xs h = absurd (omega arith)
   readIn (leaf k a) g (suc n) ks xs h = rw (le-leb k Kind.UnknownIntNeg g)
   readIn (list t) g zero ks xs h = absurd (omega arith)
@@ -41,7 +46,9 @@ mutual
   readIn (struct fs) g zero ks xs h = absurd (omega arith)
   readIn (struct fs) g (suc n) ks xs h = ap (mapO struct) (readsIn fs g n ks xs (omega arith))
 
-  pub readsIn : (fs : Fields) → Goods fs → (n : ℕ) (ks xs : List ℕ) → sizes fs ≤ n → fieldsIn n (count fs) (kindsOfs fs ++ ks) (argsOfs fs ++ xs) ≡ some fs
+  pub readsIn :
+      (fs : Fields) → Goods fs → (n : ℕ) (ks xs : List ℕ) → sizes fs ≤ n
+      → fieldsIn n (count fs) (kindsOfs fs ++ ks) (argsOfs fs ++ xs) ≡ some fs
   readsIn empty g zero ks xs h = refl
   readsIn empty g (suc n) ks xs h = refl
   readsIn (field name t fs) g zero ks xs h = absurd (omega arith)
@@ -68,14 +75,17 @@ unfolding children
 view k a = by-leaf (leb k Kind.UnknownIntNeg) refl
   where
     by-zero : k ≡ Kind.List → (b : Bool) → eqb a 0 ≡ b → View k a (cond b under-list no-type)
-    by-zero e true p = subst (λ (j : ℕ). View j a under-list) (sym e) (subst (λ (j : ℕ). View Kind.List j under-list) (sym (eqb-true a 0 p)) is-list)
+    by-zero e true p =
+        subst (λ (j : ℕ). View j a under-list) (sym e)
+        (subst (λ (j : ℕ). View Kind.List j under-list) (sym (eqb-true a 0 p)) is-list)
     by-zero e false p = is-other
 
     by-struct : (b : Bool) → eqb k Kind.Struct ≡ b → View k a (cond b fields no-type)
     by-struct true p = subst (λ (j : ℕ). View j a fields) (sym (eqb-true k Kind.Struct p)) is-struct
     by-struct false p = is-other
 
-    by-array : (b : Bool) → eqb k Kind.Array ≡ b → View k a (cond b under-array (cond (eqb k Kind.Struct) fields no-type))
+    by-array :
+        (b : Bool) → eqb k Kind.Array ≡ b → View k a (cond b under-array (cond (eqb k Kind.Struct) fields no-type))
     by-array true p = subst (λ (j : ℕ). View j a under-array) (sym (eqb-true k Kind.Array p)) is-array
     by-array false p = by-struct (eqb k Kind.Struct) refl
 
@@ -87,8 +97,11 @@ view k a = by-leaf (leb k Kind.UnknownIntNeg) refl
     by-leaf true p = is-leaf (leb-true k Kind.UnknownIntNeg p)
     by-leaf false p = by-list (eqb k Kind.List) refl
 
-joined : (l A B : List ℕ) (n m : ℕ) → l ≡ A ++ drop n l → drop n l ≡ B ++ drop m (drop n l) → l ≡ (A ++ B) ++ drop (n + m) l
-joined l A B n m p q = p ∙ ap (λ (x : List ℕ). A ++ x) (q ∙ ap (λ (x : List ℕ). B ++ x) (drop-drop m n l)) ∙ sym (append-assoc A B (drop (n + m) l))
+joined :
+    (l A B : List ℕ) (n m : ℕ) → l ≡ A ++ drop n l → drop n l ≡ B ++ drop m (drop n l) → l ≡ (A ++ B) ++ drop (n + m) l
+joined l A B n m p q =
+    p ∙ ap (λ (x : List ℕ). A ++ x) (q ∙ ap (λ (x : List ℕ). B ++ x) (drop-drop m n l)) ∙ sym
+    (append-assoc A B (drop (n + m) l))
 
 -- What is read is good, and its flat form stands at the front.
 abbrev pub Sound : List ℕ → List ℕ → Option DataType → Type 0
@@ -97,25 +110,29 @@ Sound ks xs (some t) = (ks ≡ kindsOf t ++ drop (size t) ks) × (xs ≡ argsOf 
 
 abbrev pub Sounds : ℕ → List ℕ → List ℕ → Option Fields → Type 0
 Sounds m ks xs none = Unit {0}
-Sounds m ks xs (some fs) = (ks ≡ kindsOfs fs ++ drop (sizes fs) ks) × (xs ≡ argsOfs fs ++ drop (sizes fs) xs) × Goods fs × (count fs ≡ m)
+Sounds m ks xs (some fs) =
+    (ks ≡ kindsOfs fs ++ drop (sizes fs) ks) × (xs ≡ argsOfs fs ++ drop (sizes fs) xs) × Goods fs × (count fs ≡ m)
 
 sound-list : (ks xs : List ℕ) (r : Option DataType) → Sound ks xs r → Sound (Kind.List ∷ ks) (0 ∷ xs) (mapO list r)
 unfolding size kindsOf argsOf Good
 sound-list ks xs none h = tt
 sound-list ks xs (some t) h = (ap (λ (l : List ℕ). Kind.List ∷ l) (h .0), ap (λ (l : List ℕ). 0 ∷ l) (h .1), h .2)
 
-sound-array : (a : ℕ) (ks xs : List ℕ) (r : Option DataType) → Sound ks xs r → Sound (Kind.Array ∷ ks) (a ∷ xs) (mapO (array a) r)
+sound-array :
+    (a : ℕ) (ks xs : List ℕ) (r : Option DataType) → Sound ks xs r → Sound (Kind.Array ∷ ks) (a ∷ xs) (mapO (array a) r)
 unfolding size kindsOf argsOf Good
 sound-array a ks xs none h = tt
 sound-array a ks xs (some t) h = (ap (λ (l : List ℕ). Kind.Array ∷ l) (h .0), ap (λ (l : List ℕ). a ∷ l) (h .1), h .2)
 
-sound-struct : (a : ℕ) (ks xs : List ℕ) (r : Option Fields) → Sounds a ks xs r → Sound (Kind.Struct ∷ ks) (a ∷ xs) (mapO struct r)
+sound-struct :
+    (a : ℕ) (ks xs : List ℕ) (r : Option Fields) → Sounds a ks xs r → Sound (Kind.Struct ∷ ks) (a ∷ xs) (mapO struct r)
 unfolding size kindsOf argsOf Good
 sound-struct a ks xs none h = tt
 sound-struct a ks xs (some fs) h = (ap (λ (l : List ℕ). Kind.Struct ∷ l) (h .0), ap₂ _∷_ (sym (h .3)) (h .1), h .2)
 
 module _ (node : Reads DataType) (fs : ℕ → Reads Fields) (node-sound : (ks xs : List ℕ) → Sound ks xs (node ks xs)) (fs-sound : (m : ℕ) (ks xs : List ℕ) → Sounds m ks xs (fs m ks xs)) where
-  under-sound : {k a : ℕ} (s : Children) → View k a s → (ks xs : List ℕ) → Sound (k ∷ ks) (a ∷ xs) (underNode node fs s k a ks xs)
+  under-sound :
+      {k a : ℕ} (s : Children) → View k a s → (ks xs : List ℕ) → Sound (k ∷ ks) (a ∷ xs) (underNode node fs s k a ks xs)
   unfolding size kindsOf argsOf Good
   under-sound no-child (is-leaf h) ks xs = (refl, refl, h)
   under-sound under-list is-list ks xs = sound-list ks xs (node ks xs) (node-sound ks xs)
@@ -128,19 +145,25 @@ module _ (node : Reads DataType) (fs : ℕ → Reads Fields) (node-sound : (ks x
   step-sound (k ∷ ks) [] = tt
   step-sound (k ∷ ks) (a ∷ xs) = under-sound (children k a) (view k a) ks xs
 
-  sound-field : (m k a : ℕ) → k ≡ Kind.Field → (ks xs : List ℕ) (t : DataType) → Sound ks xs (some t) → (r : Option Fields) → Sounds m (drop (size t) ks) (drop (size t) xs) r → Sounds (suc m) (k ∷ ks) (a ∷ xs) (mapO (field a t) r)
+  sound-field :
+      (m k a : ℕ) → k ≡ Kind.Field → (ks xs : List ℕ) (t : DataType) → Sound ks xs (some t) → (r : Option Fields)
+      → Sounds m (drop (size t) ks) (drop (size t) xs) r → Sounds (suc m) (k ∷ ks) (a ∷ xs) (mapO (field a t) r)
   unfolding size kindsOf argsOf Good count
   sound-field m k a e ks xs t h none g = tt
   sound-field m k a e ks xs t h (some f) g =
       (ap₂ _∷_ e (joined ks (kindsOf t) (kindsOfs f) (size t) (sizes f) (h .0) (g .0)), ap (λ (l : List ℕ). a ∷ l) (joined xs (argsOf t) (argsOfs f) (size t) (sizes f) (h .1) (g .1)), (h .2, g .2), ap suc (g .3))
 
-  under-field-sound : (m k a : ℕ) (b : Bool) → eqb k Kind.Field ≡ b → (ks xs : List ℕ) → Sounds (suc m) (k ∷ ks) (a ∷ xs) (underField node fs b m a ks xs)
+  under-field-sound :
+      (m k a : ℕ) (b : Bool) → eqb k Kind.Field ≡ b → (ks xs : List ℕ)
+      → Sounds (suc m) (k ∷ ks) (a ∷ xs) (underField node fs b m a ks xs)
   under-field-sound m k a false e ks xs = tt
   under-field-sound m k a true e ks xs = go (node ks xs) (node-sound ks xs)
     where
       go : (r : Option DataType) → Sound ks xs r → Sounds (suc m) (k ∷ ks) (a ∷ xs) (bindO r (λ t. mapO (field a t) (fs m (drop (size t) ks) (drop (size t) xs))))
       go none h = tt
-      go (some t) h = sound-field m k a (eqb-true k Kind.Field e) ks xs t h (fs m (drop (size t) ks) (drop (size t) xs)) (fs-sound m (drop (size t) ks) (drop (size t) xs))
+      go (some t) h =
+          sound-field m k a (eqb-true k Kind.Field e) ks xs t h (fs m (drop (size t) ks) (drop (size t) xs))
+          (fs-sound m (drop (size t) ks) (drop (size t) xs))
 
   steps-sound : (m : ℕ) (ks xs : List ℕ) → Sounds m ks xs (stepFields node fs m ks xs)
   unfolding size kindsOf argsOf Good count
@@ -160,7 +183,7 @@ mutual
   soundsIn zero = steps-sound never (λ m. never) (λ ks xs. tt) (λ m ks xs. tt)
   soundsIn (suc n) = steps-sound (nodeIn n) (fieldsIn n) (soundIn n) (soundsIn n)
 
--- What is written is read back, and only that: so two trees with one flat form are one.
+-- ---- the readers without a bound
 pub read-back : (t : DataType) → Good t → (ks xs : List ℕ) → nodeAt (kindsOf t ++ ks) (argsOf t ++ xs) ≡ some t
 unfolding nodeAt
 read-back t g ks xs = readIn t g (length (kindsOf t ++ ks)) ks xs (simp (length-append, length-kinds) (omega arith))
@@ -172,13 +195,6 @@ sound ks xs = soundIn (length ks) ks xs
 pub sounds : (m : ℕ) (ks xs : List ℕ) → Sounds m ks xs (fieldsAt m ks xs)
 unfolding fieldsAt
 sounds m ks xs = soundsIn (length ks) m ks xs
-
-pub unique : (t u : DataType) → Good t → Good u → (ks xs ls ys : List ℕ) → kindsOf t ++ ks ≡ kindsOf u ++ ls → argsOf t ++ xs ≡ argsOf u ++ ys → t ≡ u
-unique t u g h ks xs ls ys p q =
-    some-inj (sym (read-back t g ks xs) ∙ ap₂ nodeAt p q ∙ read-back u h ls ys)
-  where
-    some-inj : some t ≡ some u → t ≡ u
-    some-inj e = cc
 
 -- A type that was read has as many nodes as stand there, at most.
 pub bounded : (ks xs : List ℕ) (t : DataType) → nodeAt ks xs ≡ some t → size t ≤ length ks

@@ -10,9 +10,11 @@ use lib.Dec.{leb, eqb}
 use lib.ListN.{length}
 use Rattle.flat.specs.Tree.{DataType, size, depth}
 use Rattle.flat.specs.Reader.{nodeAt}
-use Rattle.flat.specs.Reading.{Reading, refused, type, unless, lengthFits, kindsFit, argumentsFit, shaped, reading, checkedOf, checkedNumber}
+use Rattle.flat.specs.Reading.{Reading, refused, type, unless, lengthFits, kindsFit, argumentsFit, shaped}
+use Rattle.flat.specs.Reading.{reading, checkedOf, checkedNumber}
 use Rattle.flat.specs.Refusals.{FlatForm, NodesFit, RefusalLaws}
 use Rattle.flat.specs.declared.error.Error.the-variants.{Length, Kind, Argument, Shape, Depth}
+use Rattle.flat.proofs.Truths.{never, impossible}
 use Rattle.flat.proofs.Meaning.{form-length, form-read, form-fits, read-form, lengths-fit}
 
 module _ (nodes deep : ℕ) (ks xs : List ℕ) where
@@ -29,26 +31,36 @@ module _ (nodes deep : ℕ) (ks xs : List ℕ) where
   same-tree f q = let e = form-read f in cc
 
   shape-outcome : NodesFit nodes ks xs → (p : Option DataType) → nodeAt ks xs ≡ p → Outcome (shaped deep (length ks) p)
-  shape-outcome f none q = no-tree f (λ t g. let e = form-read g in let z : _≡_ {A = ℕ} 0 1 = cc in omega arith)
+  shape-outcome f none q = no-tree f (λ t g. let e = form-read g in impossible cc)
   shape-outcome f (some u) q = whole (eqb (size u) (length ks)) refl
     where
       level : FlatForm ks xs u → (b : Bool) → leb (depth u) deep ≡ b → Outcome (unless b Depth (type u))
       level g true e = one-type u g (leb-true (depth u) deep e)
-      level g false e = too-deep u g (omega (arith, form-length g, lengths-fit nodes ks xs (f .lengths))) (leb-false (depth u) deep e)
+      level g false e =
+          too-deep u g (omega (arith, form-length g, lengths-fit nodes ks xs (f .lengths))) (leb-false (depth u) deep e)
 
-      whole : (b : Bool) → eqb (size u) (length ks) ≡ b → Outcome (unless b Shape (unless (leb (depth u) deep) Depth (type u)))
-      whole true e = level (read-form u q (eqb-true (size u) (length ks) e) (lengths-fit nodes ks xs (f .lengths) .0) (f .args)) (leb (depth u) deep) refl
-      whole false e = no-tree f (λ t g. eqb-false (size u) (length ks) e (ap size (sym (same-tree g q)) ∙ sym (form-length g)))
+      whole :
+          (b : Bool) → eqb (size u) (length ks) ≡ b
+          → Outcome (unless b Shape (unless (leb (depth u) deep) Depth (type u)))
+      whole true e =
+          level (read-form u q (eqb-true (size u) (length ks) e) (lengths-fit nodes ks xs (f .lengths) .0) (f .args))
+          (leb (depth u) deep) refl
+      whole false e =
+          no-tree f (λ t g. eqb-false (size u) (length ks) e (ap size (sym (same-tree g q)) ∙ sym (form-length g)))
 
   outcome : Outcome (reading nodes deep ks xs)
   unfolding reading
   outcome = by-lengths (lengthFits nodes ks xs) refl
     where
-      by-args : lengthFits nodes ks xs ≡ true → kindsFit ks ≡ true → (b : Bool) → argumentsFit ks xs ≡ b → Outcome (unless b Argument (shaped deep (length ks) (nodeAt ks xs)))
+      by-args :
+          lengthFits nodes ks xs ≡ true → kindsFit ks ≡ true → (b : Bool) → argumentsFit ks xs ≡ b
+          → Outcome (unless b Argument (shaped deep (length ks) (nodeAt ks xs)))
       by-args l k true e = shape-outcome (record { lengths = l; kinds = k; args = e }) (nodeAt ks xs) refl
       by-args l k false e = bad-argument e
 
-      by-kinds : lengthFits nodes ks xs ≡ true → (b : Bool) → kindsFit ks ≡ b → Outcome (unless b Kind (unless (argumentsFit ks xs) Argument (shaped deep (length ks) (nodeAt ks xs))))
+      by-kinds :
+          lengthFits nodes ks xs ≡ true → (b : Bool) → kindsFit ks ≡ b
+          → Outcome (unless b Kind (unless (argumentsFit ks xs) Argument (shaped deep (length ks) (nodeAt ks xs))))
       by-kinds l true e = by-args l e (argumentsFit ks xs) refl
       by-kinds l false e = bad-kind e
 
@@ -56,11 +68,9 @@ module _ (nodes deep : ℕ) (ks xs : List ℕ) where
       by-lengths true e = by-kinds e (kindsFit ks) refl
       by-lengths false e = bad-lengths e
 
-  -- a test does not come out both ways
-  never : {b : Bool} → b ≡ true → b ≡ false → ⊥
-  never t f = let z : _≡_ {A = ℕ} 0 1 = cc in omega arith
-
-  four-only : {r : Reading} → Outcome r → checkedNumber (checkedOf r) ≡ 4 → NodesFit nodes ks xs × ((t : DataType) → FlatForm ks xs t → ⊥)
+  four-only :
+      {r : Reading} → Outcome r → checkedNumber (checkedOf r) ≡ 4
+      → NodesFit nodes ks xs × ((t : DataType) → FlatForm ks xs t → ⊥)
   four-only (bad-lengths f) e = absurd (omega arith)
   four-only (bad-kind f) e = absurd (omega arith)
   four-only (bad-argument f) e = absurd (omega arith)
@@ -68,15 +78,19 @@ module _ (nodes deep : ℕ) (ks xs : List ℕ) where
   four-only (too-deep t g s d) e = absurd (omega arith)
   four-only (one-type t g d) e = absurd (omega arith)
 
-  four-given : NodesFit nodes ks xs → ((t : DataType) → FlatForm ks xs t → ⊥) → {r : Reading} → Outcome r → checkedNumber (checkedOf r) ≡ 4
-  four-given f n (bad-lengths e) = absurd (never (f .lengths) e)
-  four-given f n (bad-kind e) = absurd (never (f .kinds) e)
-  four-given f n (bad-argument e) = absurd (never (f .args) e)
+  four-given :
+      NodesFit nodes ks xs → ((t : DataType) → FlatForm ks xs t → ⊥) → {r : Reading} → Outcome r
+      → checkedNumber (checkedOf r) ≡ 4
+  four-given f n (bad-lengths e) = never (sym e ∙ f .lengths)
+  four-given f n (bad-kind e) = never (sym e ∙ f .kinds)
+  four-given f n (bad-argument e) = never (sym e ∙ f .args)
   four-given f n (no-tree g m) = refl
   four-given f n (too-deep t g s d) = absurd (n t g)
   four-given f n (one-type t g d) = absurd (n t g)
 
-  five-only : {r : Reading} → Outcome r → checkedNumber (checkedOf r) ≡ 5 → (t : DataType) × FlatForm ks xs t × (size t ≤ nodes) × (deep < depth t)
+  five-only :
+      {r : Reading} → Outcome r → checkedNumber (checkedOf r) ≡ 5
+      → (t : DataType) × FlatForm ks xs t × (size t ≤ nodes) × (deep < depth t)
   five-only (bad-lengths f) e = absurd (omega arith)
   five-only (bad-kind f) e = absurd (omega arith)
   five-only (bad-argument f) e = absurd (omega arith)
@@ -84,10 +98,12 @@ module _ (nodes deep : ℕ) (ks xs : List ℕ) where
   five-only (too-deep t g s d) e = (t, g, s, d)
   five-only (one-type t g d) e = absurd (omega arith)
 
-  five-given : {t : DataType} → FlatForm ks xs t → size t ≤ nodes → deep < depth t → {r : Reading} → Outcome r → checkedNumber (checkedOf r) ≡ 5
-  five-given f s d (bad-lengths e) = absurd (never (form-fits f s .lengths) e)
-  five-given f s d (bad-kind e) = absurd (never (form-fits f s .kinds) e)
-  five-given f s d (bad-argument e) = absurd (never (form-fits f s .args) e)
+  five-given :
+      {t : DataType} → FlatForm ks xs t → size t ≤ nodes → deep < depth t → {r : Reading} → Outcome r
+      → checkedNumber (checkedOf r) ≡ 5
+  five-given f s d (bad-lengths e) = never (sym e ∙ form-fits f s .lengths)
+  five-given f s d (bad-kind e) = never (sym e ∙ form-fits f s .kinds)
+  five-given f s d (bad-argument e) = never (sym e ∙ form-fits f s .args)
   five-given {t} f s d (no-tree g n) = absurd (n t f)
   five-given f s d (too-deep u g r e) = refl
   five-given f s d (one-type u g l) = absurd (omega (arith, ap depth (same-tree f (form-read g))))

@@ -34,9 +34,13 @@ module _ {nodes deep : ℕ} {ks xs : List ℕ} (p : Passed nodes deep ks xs) whe
   some-node = let h = size-pos (p .tree) in (omega (arith, h, p .whole), omega (arith, h, p .whole, p .even))
 
 -- one plain leaf
-pub plain-root : {nodes deep : ℕ} {ks xs : List ℕ} → PlainType nodes deep ks xs → (Root.Node (getD ks 0 0) 0 ≡ rootOf (reading nodes deep ks xs)) × RootFits (Root.Node (getD ks 0 0) 0)
+pub plain-root :
+    {nodes deep : ℕ} {ks xs : List ℕ} → PlainType nodes deep ks xs
+    → (Root.Node (getD ks 0 0) 0 ≡ rootOf (reading nodes deep ks xs)) × RootFits (Root.Node (getD ks 0 0) 0)
 unfolding headKind headArg
 plain-root p = (ap rootOf (sym (p .reads)), (omega (arith, p .low), p .fits))
 
-pub root-refused : (r : Reading) {e : Error} → Checked.Refused e ≡ checkedOf r → (Root.Refused e ≡ rootOf r) × RootFits (Root.Refused e)
+pub root-refused :
+    (r : Reading) {e : Error} → Checked.Refused e ≡ checkedOf r
+    → (Root.Refused e ≡ rootOf r) × RootFits (Root.Refused e)
 root-refused r {e} q = (ap rootOf (sym (checked-refused r e q)), tt)

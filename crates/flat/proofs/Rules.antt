@@ -7,6 +7,7 @@ use borrow.Author.Tests.{eqb-true, eqb-false, lt-leb}
 use lib.Dec.{T, leb, eqb}
 use Rattle.flat.specs.Kind
 use Rattle.flat.specs.Argument.{Rule, decimal, datetime, below, free, argumentRule, follows, argumentFits}
+use Rattle.flat.proofs.Truths.{is-true}
 
 -- f holds of the n numbers from lo on
 abbrev pub run : (ℕ → Bool) → ℕ → ℕ → Bool
@@ -33,21 +34,18 @@ pub implies : (a b : Bool) → T (not a || b) → T a → T b
 implies true b t s = t
 implies false b t s = absurd s
 
--- so of each of them
+-- a test that holds of a run holds of each number in it
 pub in-run : (f : ℕ → Bool) (lo n : ℕ) → T (run f lo n) → (k : ℕ) → lo ≤ k → k < lo + n → T (f k)
 in-run f lo zero t k h l = absurd (omega arith)
-in-run f lo (suc n) t k h l = go (eqb k lo) refl (λ m. in-run f (suc lo) n (and-right (f lo) (run f (suc lo) n) t) k m (omega arith))
+in-run f lo (suc n) t k h l =
+    go (eqb k lo) refl (λ m. in-run f (suc lo) n (and-right (f lo) (run f (suc lo) n) t) k m (omega arith))
   where
     go : (b : Bool) → eqb k lo ≡ b → (suc lo ≤ k → T (f k)) → T (f k)
     go true e rest = subst (λ (j : ℕ). T (f j)) (sym (eqb-true k lo e)) (and-left (f lo) (run f (suc lo) n) t)
     go false e rest = rest (omega (arith, eqb-false k lo e))
 
 pub passes : (f : ℕ → Bool) (lo n : ℕ) → T (run f lo n) → (k : ℕ) → lo ≤ k → k < lo + n → f k ≡ true
-passes f lo n t k h l = go (f k) (in-run f lo n t k h l)
-  where
-    go : (b : Bool) → T b → b ≡ true
-    go true t = refl
-    go false t = absurd t
+passes f lo n t k h l = is-true (f k) (in-run f lo n t k h l)
 
 -- two kinds: a is in the first run and b in the second
 abbrev pub In : ℕ → ℕ → ℕ → ℕ → ℕ → ℕ → Type 0
@@ -57,7 +55,8 @@ abbrev pub area : (ℕ → ℕ → Bool) → ℕ → ℕ → ℕ → ℕ → Boo
 area f i m j n = run (λ a. run (f a) j n) i m
 
 pub in-area : (f : ℕ → ℕ → Bool) (i m j n : ℕ) → T (area f i m j n) → (a b : ℕ) → In i m j n a b → T (f a b)
-in-area f i m j n t a b h = in-run (f a) j n (in-run (λ a. run (f a) j n) i m t a (h .0 .0) (h .0 .1)) b (h .1 .0) (h .1 .1)
+in-area f i m j n t a b h =
+    in-run (f a) j n (in-run (λ a. run (f a) j n) i m t a (h .0 .0) (h .0 .1)) b (h .1 .0) (h .1 .1)
 
 -- the rules that several kinds share: the argument is 0, or any
 abbrev pub isZero : Rule → Bool
@@ -89,9 +88,13 @@ free-follows (below n) a t = absurd t
 free-follows free a t = refl
 
 -- a run of kinds whose rules all say v of an argument, by the test p
-pub ruled : (p : Rule → Bool) {v : ℕ → Bool} → ((r : Rule) (a : ℕ) → T (p r) → v a ≡ follows r a) → (lo n : ℕ) → T (run (λ k. leb k Kind.Field && p (argumentRule k)) lo n) → (k a : ℕ) → lo ≤ k → k < lo + n → v a ≡ argumentFits k a
+pub ruled :
+    (p : Rule → Bool) {v : ℕ → Bool} → ((r : Rule) (a : ℕ) → T (p r) → v a ≡ follows r a) → (lo n : ℕ)
+    → T (run (λ k. leb k Kind.Field && p (argumentRule k)) lo n) → (k a : ℕ) → lo ≤ k → k < lo + n
+    → v a ≡ argumentFits k a
 unfolding argumentFits
-ruled p {v} says lo n t k a h l = go (leb k Kind.Field) (in-run (λ k. leb k Kind.Field && p (argumentRule k)) lo n t k h l)
+ruled p {v} says lo n t k a h l =
+    go (leb k Kind.Field) (in-run (λ k. leb k Kind.Field && p (argumentRule k)) lo n t k h l)
   where
     go : (b : Bool) → T (b && p (argumentRule k)) → v a ≡ (b && follows (argumentRule k) a)
     go true u = says (argumentRule k) a u

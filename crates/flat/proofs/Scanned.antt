@@ -1,6 +1,6 @@
 -- The scan accepts types only: what stands where it passes, from any state. Assumes nothing.
 use mathlib.Core.Path.{_≡_, refl, sym, ap, ap₂, _∙_}
-use mathlib.Core.Bool.{Bool, true, false, not, _&&_, and-eq-true-iff}
+use mathlib.Core.Bool.{Bool, true, false, not, _&&_}
 use mathlib.Core.List.{List, [], _∷_, _++_, append-assoc, append-nil}
 use Prim.Native.Nat.{ℕ, zero, suc, _+_, _-_, _≤_, _<_}
 use native.Mathlib.Omega.{arith}
@@ -9,23 +9,28 @@ use lib.Dec.{leb, ltb, eqb}
 use lib.ListN.{length, getD}
 use Rattle.flat.specs.Kind
 use Rattle.flat.specs.Argument.{argumentFits}
-use Rattle.flat.specs.Tree.{DataType, leaf, list, array, struct, Fields, empty, field, count, depth, depths, kindsOf, kindsOfs, argsOf, argsOfs}
+use Rattle.flat.specs.Tree.{DataType, leaf, list, array, struct, Fields, empty, field, count, depth, depths}
+use Rattle.flat.specs.Tree.{kindsOf, kindsOfs, argsOf, argsOfs}
 use Rattle.flat.specs.Reader.{Children, no-child, under-list, under-array, fields, no-type, children}
 use Rattle.flat.specs.Reading.{lengthFits, reading, checkedOf, onePlain, Ruled, RuledFields}
 use Rattle.flat.specs.Refusals.{FlatForm}
-use Rattle.flat.specs.Scan.{NoDeeper, start, settled, wrapped, opened, paid, typeFits, fieldFits, after, scanType, scanFields, scanAccepts}
+use Rattle.flat.specs.Scan.{NoDeeper, start, settled, wrapped, opened, paid, typeFits, fieldFits, after, scanType}
+use Rattle.flat.specs.Scan.{scanFields, scanAccepts}
 use Rattle.flat.specs.declared.scan.Scan.{Scan}
+use Rattle.flat.proofs.Truths.{never, both-true}
 use Rattle.flat.proofs.Positions.{children-leaf}
 use Rattle.flat.proofs.Plain.{plain-type}
 use Rattle.flat.proofs.ReadBack.{View, is-leaf, is-list, is-array, is-struct, is-other, view}
-use Rattle.flat.proofs.States.{Settled, settles, Opened, outermost, inside, opens, settled-within, wrapped-depth, wrapped-within, opened-within, paid-within, start-within}
+use Rattle.flat.proofs.States.{Settled, settles, UnderStruct, outermost, inside, opens, settled-within, wrapped-depth}
+use Rattle.flat.proofs.States.{wrapped-within, opened-within, paid-within, start-within}
 use Rattle.flat.proofs.Meaning.{Passed, check-passed, form-length, lengths-fit, passes}
 
 -- ---- fields
--- they keep the rules, and their types, which are d levels deep, go no deeper than `deep`
+-- fields that keep the rules, whose types, which are d levels deep, go no deeper than `deep`
 unfoldable AllFit : ℕ → ℕ → Fields → Type 0
 AllFit deep d empty = Unit {0}
-AllFit deep d (field name t fs) = (argumentFits Kind.Field name ≡ true) × Ruled t × (d + depth t ≤ deep) × AllFit deep d fs
+AllFit deep d (field name t fs) =
+    (argumentFits Kind.Field name ≡ true) × Ruled t × (d + depth t ≤ deep) × AllFit deep d fs
 
 module _ (deep d : ℕ) where
   all-higher : (e : ℕ) → e ≤ d → (fs : Fields) → AllFit deep d fs → AllFit deep e fs
@@ -49,7 +54,7 @@ unfolding count
 no-field empty e = refl
 no-field (field name t fs) e = absurd (omega arith)
 
--- the first n of them, and the others
+-- the first n of so many fields, and the others
 record Split (deep d n m : ℕ) (fs : Fields) : Type 0 where
   one : Fields
   two : Fields
@@ -100,7 +105,7 @@ record FieldsThen (deep : ℕ) (s : Scan) (ks xs : List ℕ) : Type 0 where
   fit-one : AllFit deep (s .depth) one
   fit-two : AllFit deep (s .base) two
 
--- A type, and then those.
+-- A type, and then the fields still owed.
 record TypeThen (deep : ℕ) (s : Scan) (ks xs : List ℕ) : Type 0 where
   tree : DataType
   kinds-left : List ℕ
@@ -117,10 +122,13 @@ no-owed e = record { one = empty; two = empty; kinds = refl; args = refl; inner 
 
 module _ (deep : ℕ) (s : Scan) where
   -- the fields of inner Structs that are owed, seen from further up
-  inner-higher : (d : ℕ) → settled s .depth ≤ d → (fs : Fields) → count fs ≡ s .owed - s .outer → AllFit deep d fs → AllFit deep (s .depth) fs
+  inner-higher :
+      (d : ℕ) → settled s .depth ≤ d → (fs : Fields) → count fs ≡ s .owed - s .outer → AllFit deep d fs
+      → AllFit deep (s .depth) fs
   unfolding AllFit count
   inner-higher d h empty e f = tt
-  inner-higher d h (field name t fs) e f = all-higher deep d (s .depth) (omega (arith, settles s .stays (omega arith))) (field name t fs) f
+  inner-higher d h (field name t fs) e f =
+      all-higher deep d (s .depth) (omega (arith, settles s .stays (omega arith))) (field name t fs) f
 
   -- under a List or an Array
   unwrapped : {ks xs : List ℕ} → FieldsThen deep (wrapped s) ks xs → FieldsThen deep s ks xs
@@ -141,7 +149,7 @@ module _ (deep : ℕ) (s : Scan) where
 
   module _ {ks xs : List ℕ} (a : ℕ) (f : argumentFits Kind.Struct a ≡ true) (h : settled s .depth ≤ deep) where
     -- under a Struct: all fields are its own where it is the outermost, else the first
-    one-struct : {r : Scan} → Opened a s r → FieldsThen deep r ks xs → TypeThen deep s (Kind.Struct ∷ ks) (a ∷ xs)
+    one-struct : {r : Scan} → UnderStruct a s r → FieldsThen deep r ks xs → TypeThen deep s (Kind.Struct ∷ ks) (a ∷ xs)
     unfolding kindsOf argsOf Ruled depth count AllFit
     one-struct (outermost e) r =
         let none : r .one ≡ empty = no-field (r .one) (omega (arith, r .inner)) in
@@ -158,7 +166,9 @@ module _ (deep : ℕ) (s : Scan) where
         }
     one-struct inside r = go (settles s) (split deep (suc (suc (settled s .depth))) (s .owed - s .outer) a (r .one) (omega (arith, settles s)) (r .fit-one))
       where
-        go : Settled s (settled s) → Split deep (suc (suc (settled s .depth))) a (s .owed - s .outer) (r .one) → TypeThen deep s (Kind.Struct ∷ ks) (a ∷ xs)
+        go :
+            Settled s (settled s) → Split deep (suc (suc (settled s .depth))) a (s .owed - s .outer) (r .one)
+            → TypeThen deep s (Kind.Struct ∷ ks) (a ∷ xs)
         go z p =
             record {
               tree = struct (p .one);
@@ -176,7 +186,8 @@ module _ (deep : ℕ) (s : Scan) where
                     args = refl;
                     inner = p .others;
                     whole = omega arith;
-                    fit-one = inner-higher (suc (suc (settled s .depth))) (omega arith) (p .two) (p .others) (p .fit-two);
+                    fit-one =
+                        inner-higher (suc (suc (settled s .depth))) (omega arith) (p .two) (p .others) (p .fit-two);
                     fit-two = rw (z .base) at (r .fit-two);
                   };
             }
@@ -260,39 +271,46 @@ module _ (deep : ℕ) (s : Scan) (w : NoDeeper deep s) (ks xs : List ℕ) (x y z
         owed = unwrapped deep s (r .owed);
       }
   one-node fields (is-struct {a}) f X Y Z e = one-struct deep s a f (settled-within w) (opens a s) (Z e)
-  one-node no-type is-other f X Y Z e = absurd (let w : _≡_ {A = ℕ} 0 1 = cc in omega arith)
+  one-node no-type is-other f X Y Z e = never e
 
 mutual
   unfolding scanType typeFits fieldFits
 
-  type-then : (deep : ℕ) (ks xs : List ℕ) (s : Scan) → NoDeeper deep s → scanType deep s ks xs ≡ true → TypeThen deep s ks xs
-  type-then deep [] xs s w e = absurd (let z : _≡_ {A = ℕ} 0 1 = cc in omega arith)
-  type-then deep (k ∷ ks) [] s w e = absurd (let z : _≡_ {A = ℕ} 0 1 = cc in omega arith)
+  type-then :
+      (deep : ℕ) (ks xs : List ℕ) (s : Scan) → NoDeeper deep s → scanType deep s ks xs ≡ true → TypeThen deep s ks xs
+  type-then deep [] xs s w e = never e
+  type-then deep (k ∷ ks) [] s w e = never e
   type-then deep (k ∷ ks) (a ∷ xs) s w e =
       let y = leb (wrapped s .depth) deep && scanType deep (wrapped s) ks xs in
       let z = leb (opened a s .depth) deep && scanFields deep (opened a s) ks xs in
-      let both = and-eq-true-iff (typeFits k a) (after (children k a) (scanFields deep s ks xs) y z) .0 e in
-      one-node deep s w ks xs (scanFields deep s ks xs) y z (children k a) (view k a) (and-eq-true-iff (not (eqb k Kind.Field)) (argumentFits k a) .0 (both .0) .1)
+      let both = both-true (typeFits k a) (after (children k a) (scanFields deep s ks xs) y z) e in
+      one-node deep s w ks xs (scanFields deep s ks xs) y z (children k a) (view k a)
+      (both-true (not (eqb k Kind.Field)) (argumentFits k a) (both .0) .1)
       (λ q. fields-then deep ks xs s w q)
-      (λ q. let on = and-eq-true-iff (leb (wrapped s .depth) deep) (scanType deep (wrapped s) ks xs) .0 q in
+      (λ q. let on = both-true (leb (wrapped s .depth) deep) (scanType deep (wrapped s) ks xs) q in
       type-then deep ks xs (wrapped s) (wrapped-within w (leb-true (wrapped s .depth) deep (on .0))) (on .1))
-      (λ q. let on = and-eq-true-iff (leb (opened a s .depth) deep) (scanFields deep (opened a s) ks xs) .0 q in
-      fields-then deep ks xs (opened a s) (opened-within w (opens a s) (leb-true (opened a s .depth) deep (on .0))) (on .1))
+      (λ q. let on = both-true (leb (opened a s .depth) deep) (scanFields deep (opened a s) ks xs) q in
+      fields-then deep ks xs (opened a s) (opened-within w (opens a s) (leb-true (opened a s .depth) deep (on .0)))
+      (on .1))
       (both .1)
 
-  fields-then : (deep : ℕ) (ks xs : List ℕ) (s : Scan) → NoDeeper deep s → scanFields deep s ks xs ≡ true → FieldsThen deep s ks xs
+  fields-then :
+      (deep : ℕ) (ks xs : List ℕ) (s : Scan) → NoDeeper deep s → scanFields deep s ks xs ≡ true
+      → FieldsThen deep s ks xs
   fields-then deep [] [] s w e = no-owed (eqb-true (s .owed) 0 e)
-  fields-then deep [] (a ∷ xs) s w e = absurd (let z : _≡_ {A = ℕ} 0 1 = cc in omega arith)
-  fields-then deep (k ∷ ks) [] s w e = absurd (let z : _≡_ {A = ℕ} 0 1 = cc in omega arith)
+  fields-then deep [] (a ∷ xs) s w e = never e
+  fields-then deep (k ∷ ks) [] s w e = never e
   fields-then deep (k ∷ ks) (a ∷ xs) s w e =
-      let on = and-eq-true-iff (ltb 0 (s .owed) && fieldFits k a) (scanType deep (paid s) ks xs) .0 e in
-      let fit = and-eq-true-iff (ltb 0 (s .owed)) (fieldFits k a) .0 (on .0) in
-      let is = and-eq-true-iff (eqb k Kind.Field) (argumentFits k a) .0 (fit .1) in
+      let on = both-true (ltb 0 (s .owed) && fieldFits k a) (scanType deep (paid s) ks xs) e in
+      let fit = both-true (ltb 0 (s .owed)) (fieldFits k a) (on .0) in
+      let is = both-true (eqb k Kind.Field) (argumentFits k a) (fit .1) in
       let same = eqb-true k Kind.Field (is .0) in
       rw same (one-field deep s a (rw same at (is .1)) (ltb-true 0 (s .owed) (fit .0)) (type-then deep ks xs (paid s) (paid-within w) (on .1)))
 
 -- Whatever the scan accepts is the flat form of a tree that keeps the rules and is not too deep.
-pub scanned : (deep : ℕ) (ks xs : List ℕ) → scanType deep start ks xs ≡ true → (t : DataType) × FlatForm ks xs t × (depth t ≤ deep)
+pub scanned :
+    (deep : ℕ) (ks xs : List ℕ) → scanType deep start ks xs ≡ true
+    → (t : DataType) × FlatForm ks xs t × (depth t ≤ deep)
 unfolding kindsOf argsOf
 scanned deep ks xs e = go (type-then deep ks xs start (start-within deep) e)
   where
@@ -303,18 +321,22 @@ scanned deep ks xs e = go (type-then deep ks xs start (start-within deep) e)
         let two = no-field (f .two) (omega arith) in (
           r .tree,
           record {
-            kinds = r .kinds ∙ ap (λ (l : List ℕ). kindsOf (r .tree) ++ l) (f .kinds ∙ rw (one, two)) ∙ append-nil (kindsOf (r .tree));
-            args = r .args ∙ ap (λ (l : List ℕ). argsOf (r .tree) ++ l) (f .args ∙ rw (one, two)) ∙ append-nil (argsOf (r .tree));
+            kinds =
+                r .kinds ∙ ap (λ (l : List ℕ). kindsOf (r .tree) ++ l) (f .kinds ∙ rw (one, two)) ∙ append-nil
+                (kindsOf (r .tree));
+            args =
+                r .args ∙ ap (λ (l : List ℕ). argsOf (r .tree) ++ l) (f .args ∙ rw (one, two)) ∙ append-nil
+                (argsOf (r .tree));
             ruled = r .ruled;
           },
           omega (arith, settles start),
         )
 
--- So two arrays that it accepts are a type.
+-- Two arrays that the scan accepts are a type.
 pub accepted-passed : (nodes deep : ℕ) (ks xs : List ℕ) → scanAccepts nodes deep ks xs ≡ true → Passed nodes deep ks xs
 unfolding scanAccepts
 accepted-passed nodes deep ks xs e =
-    let both = and-eq-true-iff (lengthFits nodes ks xs) (scanType deep start ks xs) .0 e in
+    let both = both-true (lengthFits nodes ks xs) (scanType deep start ks xs) e in
     let s = scanned deep ks xs (both .1) in
     let f = s .1 in
     let t = s .0 in
@@ -341,8 +363,12 @@ module _ (nodes deep : ℕ) (ks xs : List ℕ) where
         let p = plain-type nodes deep ks xs h e in
         sym (ap₂ (scanAccepts nodes deep) (p .kinds) (p .args) ∙ leaf-accepted (getD ks 0 0) (p .low) (p .fits))
 
-pub scan-told : (nodes deep : ℕ) (ks xs : List ℕ) → length ks ≡ length xs → length ks ≤ nodes → scanType deep start ks xs ≡ scanAccepts nodes deep ks xs
+pub scan-told :
+    (nodes deep : ℕ) (ks xs : List ℕ) → length ks ≡ length xs → length ks ≤ nodes
+    → scanType deep start ks xs ≡ scanAccepts nodes deep ks xs
 unfolding scanAccepts lengthFits scanType
 scan-told nodes deep [] [] e h = refl
 scan-told nodes deep [] (a ∷ xs) e h = absurd (omega arith)
-scan-told nodes deep (k ∷ ks) xs e h = rw (eq-eqb (length (k ∷ ks)) (length xs) e, lt-ltb 0 (length (k ∷ ks)) (omega arith), le-leb (length (k ∷ ks)) nodes h)
+scan-told nodes deep (k ∷ ks) xs e h =
+    rw
+    (eq-eqb (length (k ∷ ks)) (length xs) e, lt-ltb 0 (length (k ∷ ks)) (omega arith), le-leb (length (k ∷ ks)) nodes h)

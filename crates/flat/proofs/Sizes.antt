@@ -3,7 +3,8 @@ use mathlib.Core.Path.{_≡_, refl, ap, ap₂, _∙_}
 use Prim.Native.Nat.{suc, _+_, _≤_, _<_}
 use native.Mathlib.Omega.{arith}
 use lib.ListN.{length, length-append}
-use Rattle.flat.specs.Tree.{DataType, leaf, list, array, struct, Fields, empty, field, size, sizes, depth, depths, count, kindsOf, kindsOfs, argsOf, argsOfs}
+use Rattle.flat.specs.Tree.{DataType, leaf, list, array, struct, Fields, empty, field, size, sizes, depth, depths}
+use Rattle.flat.specs.Tree.{count, kindsOf, kindsOfs, argsOf, argsOfs}
 
 mutual
   unfolding size kindsOf
@@ -16,7 +17,8 @@ mutual
 
   pub length-kindss : (fs : Fields) → length (kindsOfs fs) ≡ sizes fs
   length-kindss empty = refl
-  length-kindss (field name t fs) = ap suc (length-append (kindsOf t) (kindsOfs fs) ∙ ap₂ _+_ (length-kinds t) (length-kindss fs))
+  length-kindss (field name t fs) =
+      ap suc (length-append (kindsOf t) (kindsOfs fs) ∙ ap₂ _+_ (length-kinds t) (length-kindss fs))
 
 mutual
   unfolding size argsOf
@@ -29,7 +31,8 @@ mutual
 
   pub length-argss : (fs : Fields) → length (argsOfs fs) ≡ sizes fs
   length-argss empty = refl
-  length-argss (field name t fs) = ap suc (length-append (argsOf t) (argsOfs fs) ∙ ap₂ _+_ (length-args t) (length-argss fs))
+  length-argss (field name t fs) =
+      ap suc (length-append (argsOf t) (argsOfs fs) ∙ ap₂ _+_ (length-args t) (length-argss fs))
 
 mutual
   unfolding size depth

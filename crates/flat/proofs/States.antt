@@ -22,7 +22,9 @@ pub settles : (s : Scan) → Settled s (settled s)
 unfolding settled
 settles s = go (ltb (s .owed) (s .outer)) refl
   where
-    go : (b : Bool) → ltb (s .owed) (s .outer) ≡ b → Settled s (cond b (record { owed = s .owed; outer = s .owed; base = s .base; depth = s .base }) s)
+    go :
+        (b : Bool) → ltb (s .owed) (s .outer) ≡ b
+        → Settled s (cond b (record { owed = s .owed; outer = s .owed; base = s .base; depth = s .base }) s)
     go true e =
         let h = ltb-true (s .owed) (s .outer) e in
         record { owed = refl; base = refl; outer = omega arith; inner = omega arith; stays = λ g. absurd (omega arith); back = λ g. refl }
@@ -36,29 +38,31 @@ unfolding wrapped
 wrapped-depth s = settles (wrapped s) .stays (omega (arith, settles s))
 
 -- the state under a Struct of m fields: the outermost one, or one whose fields come before those owed
-pub data Opened (m : ℕ) (s : Scan) : Scan → Type 0 where
-  outermost : s .owed ≡ 0 → Opened m s (record { owed = m; outer = m; base = suc (suc (settled s .depth)); depth = suc (suc (settled s .depth)) })
-  inside : Opened m s (record { owed = s .owed + m; outer = settled s .outer; base = settled s .base; depth = suc (suc (settled s .depth)) })
+pub data UnderStruct (m : ℕ) (s : Scan) : Scan → Type 0 where
+  outermost : s .owed ≡ 0 → UnderStruct m s (record { owed = m; outer = m; base = suc (suc (settled s .depth)); depth = suc (suc (settled s .depth)) })
+  inside : UnderStruct m s (record { owed = s .owed + m; outer = settled s .outer; base = settled s .base; depth = suc (suc (settled s .depth)) })
 
-pub opens : (m : ℕ) (s : Scan) → Opened m s (opened m s)
+pub opens : (m : ℕ) (s : Scan) → UnderStruct m s (opened m s)
 unfolding opened
 opens m s = go (eqb (s .owed) 0) refl
   where
     go :
         (b : Bool)
         → eqb (s .owed) 0 ≡ b
-        → Opened m s
+        → UnderStruct m s
         (cond b (record { owed = m; outer = m; base = suc (suc (settled s .depth)); depth = suc (suc (settled s .depth)) })
         (record { owed = s .owed + m; outer = settled s .outer; base = settled s .base; depth = suc (suc (settled s .depth)) }))
     go true e = outermost (eqb-true (s .owed) 0 e)
     go false e = inside
 
--- the same in the code's terms, from the settled state r
+-- the state under a Struct in the code's terms, from the settled state r
 module _ (m : ℕ) (s r : Scan) (e : r ≡ settled s) where
-  settled-owed : r .owed ≡ s .owed
+  pub settled-owed : r .owed ≡ s .owed
   settled-owed = rw e (settles s .owed)
 
-  pub first-opened : r .owed ≡ 0 → _≡_ {A = Scan} (record { owed = m; outer = m; base = r .depth + 2; depth = r .depth + 2 }) (opened m s)
+  pub first-opened :
+      r .owed ≡ 0
+      → _≡_ {A = Scan} (record { owed = m; outer = m; base = r .depth + 2; depth = r .depth + 2 }) (opened m s)
   unfolding opened
   first-opened z = rw (eq-eqb (s .owed) 0 (sym settled-owed ∙ z), e, add-two)
 
@@ -91,7 +95,7 @@ module _ {deep : ℕ} {s : Scan} (w : NoDeeper deep s) where
   unfolding wrapped
   wrapped-within h = record { depth = h; base = omega (arith, settles s) }
 
-  pub opened-within : {m : ℕ} {r : Scan} → Opened m s r → r .depth ≤ deep → NoDeeper deep r
+  pub opened-within : {m : ℕ} {r : Scan} → UnderStruct m s r → r .depth ≤ deep → NoDeeper deep r
   opened-within (outermost e) h = record { depth = h; base = h }
   opened-within inside h = record { depth = h; base = omega (arith, settles s) }
 

@@ -14,7 +14,7 @@ pub data Rule : Type 0 where
   below : ℕ → Rule
   free : Rule
 
--- the rule of a kind: all others have 0
+-- the rule of a kind: those that are not named have the argument 0
 unfoldable pub argumentRule : ℕ → Rule
 argumentRule k =
     cond (eqb k Kind.Decimal) decimal

@@ -1,4 +1,5 @@
--- Calls on two types: document 01's "left type through 1 to 5, then right, then the rest". Assumes nothing: these are definitions.
+-- Calls on two types: document 01's "left type through 1 to 5, then right, then the rest". Assumes nothing: these are
+-- definitions.
 use Rattle.flat.specs.Tree.{DataType, leaf}
 use Rattle.flat.specs.Reading.{Reading, refused, type}
 use Rattle.flat.specs.declared.error.Error.{Error}

@@ -23,7 +23,7 @@ fieldsOf (suc n) t = field 0 t (fieldsOf n t)
 abbrev pub Passes : ℕ → ℕ → DataType → Type 0
 Passes nodes deep t = reading nodes deep (kindsOf t) (argsOf t) ≡ type t
 
--- it is refused by the number n
+-- the flat form of t is refused by the number n
 abbrev pub Gets : ℕ → ℕ → ℕ → DataType → Type 0
 Gets n nodes deep t = numberGiven nodes deep (kindsOf t) (argsOf t) ≡ n
 
@@ -32,10 +32,12 @@ pub record DepthLimit (nodes deep : ℕ) : Type 0 where
   pub lists-32 : Passes nodes deep (lists 32 int8)
   pub lists-33 : Gets 5 nodes deep (lists 33 int8)
 
--- "A Struct of 255 Int8 fields has 511 nodes and passes; 513 nodes don't." With one List over it there are 512, with two 513.
+-- a Struct of 255 Int8 fields
 abbrev pub wide : DataType
 wide = struct (fieldsOf 255 int8)
 
+-- "A Struct of 255 Int8 fields has 511 nodes and passes; 513 nodes don't." With one List over it there are 512 nodes,
+-- with two 513.
 pub record NodeLimit (nodes deep : ℕ) : Type 0 where
   pub nodes-511 : (size wide ≡ 511) × Passes nodes deep wide
   pub nodes-512 : (size (lists 1 wide) ≡ 512) × Passes nodes deep (lists 1 wide)

@@ -28,7 +28,8 @@ unfoldable pub kindsOver : Reading → List ℕ → List ℕ
 kindsOver (refused e) out = out
 kindsOver (type t) out = over (kindsOf t) out
 
--- so too for the arguments
+-- a lent array of arguments after the call: the type's arguments over what it held, or all as it was where the call was
+-- refused
 unfoldable pub argsOver : Reading → List ℕ → List ℕ
 argsOver (refused e) out = out
 argsOver (type t) out = over (argsOf t) out
@@ -38,16 +39,18 @@ abbrev pub writtenOf : Reading → Written
 writtenOf (refused e) = Written.Refused e
 writtenOf (type t) = Written.Nodes (size t)
 
--- its number, and the value beside it
+-- document 01's number of an answer
 abbrev pub writtenNumber : Written → ℕ
 writtenNumber (Written.Nodes n) = 0
 writtenNumber (Written.Refused e) = numberOf e
 
+-- the value beside the number: how many nodes were written
 abbrev pub writtenValue : Written → ℕ
 writtenValue (Written.Nodes n) = n
 writtenValue (Written.Refused e) = 0
 
--- What such a call comes to: its answer, and the two lent arrays, ks and xs before the call and ks′ and xs′ after it.
+-- What a call that writes a type comes to: its answer, and the two lent arrays, ks and xs before the call, ks′ and
+-- xs′ after.
 pub record Writes (r : Reading) (ks xs ks′ xs′ : List ℕ) (answer : Written) : Type 0 where
   pub answers : answer ≡ writtenOf r
   pub kinds : ks′ ≡ kindsOver r ks
@@ -59,33 +62,36 @@ pub record Writes (r : Reading) (ks xs ks′ xs′ : List ℕ) (answer : Written
 abbrev pub fittingFound : ℕ → ℕ → Option Reading → Option Reading
 fittingFound k a = mapO (fitting k a)
 
--- the answer: the number of nodes
+-- the answer of a call whose result may be None: the number of nodes
 abbrev pub optionalOf : Option Reading → Optional
 optionalOf none = Optional.Nothing
 optionalOf (some (refused e)) = Optional.Refused e
 optionalOf (some (type t)) = Optional.Some (size t)
 
--- its number, and the value beside it: how many nodes or bytes, 0 for None
+-- document 01's number of an answer that may be None
 abbrev pub optionalNumber : Optional → ℕ
 optionalNumber (Optional.Some n) = 0
 optionalNumber Optional.Nothing = 0
 optionalNumber (Optional.Refused e) = numberOf e
 
+-- the value beside the number: how many nodes or bytes, 0 for None
 abbrev pub optionalValue : Optional → ℕ
 optionalValue (Optional.Some n) = n
 optionalValue Optional.Nothing = 0
 optionalValue (Optional.Refused e) = 0
 
--- a lent array of kinds after the call, and one of arguments
+-- a lent array of kinds after the call
 abbrev pub kindsFound : Option Reading → List ℕ → List ℕ
 kindsFound none out = out
 kindsFound (some r) out = kindsOver r out
 
+-- a lent array of arguments after the call
 abbrev pub argsFound : Option Reading → List ℕ → List ℕ
 argsFound none out = out
 argsFound (some r) out = argsOver r out
 
--- What such a call comes to: its answer, and the two lent arrays, ks and xs before the call and ks′ and xs′ after it.
+-- What a call whose result may be None comes to: its answer, and the two lent arrays, ks and xs before the call, ks′
+-- and xs′ after.
 pub record WritesFound (found : Option Reading) (ks xs ks′ xs′ : List ℕ) (answer : Optional) : Type 0 where
   pub answers : answer ≡ optionalOf found
   pub kinds : ks′ ≡ kindsFound found ks

@@ -13,7 +13,8 @@ pub data Children : Type 0 where
   no-child under-list under-array fields : Children
   no-type : Children
 
--- List and Array have one child, a Struct has fields; a List's argument is 0, so that it can be left out of the tree. A field is no type.
+-- List and Array have one child, a Struct has fields; a List's argument is 0, so that it can be left out of the tree.
+-- A field is no type.
 unfoldable pub children : ℕ → ℕ → Children
 children k a =
     cond (leb k Kind.UnknownIntNeg) no-child
@@ -51,7 +52,8 @@ stepNode node fs (k ∷ ks) (a ∷ xs) = underNode node fs (children k a) k a ks
 
 -- a field of the name a, where a field stands, its type at the front of ks and xs, and m fields after that
 abbrev pub underField : Reads DataType → (ℕ → Reads Fields) → Bool → ℕ → ℕ → Reads Fields
-underField node fs true m a ks xs = bindO (node ks xs) (λ t. mapO (field a t) (fs m (drop (size t) ks) (drop (size t) xs)))
+underField node fs true m a ks xs =
+    bindO (node ks xs) (λ t. mapO (field a t) (fs m (drop (size t) ks) (drop (size t) xs)))
 underField node fs false m a ks xs = none
 
 -- so many fields at the front
@@ -65,7 +67,8 @@ stepFields node fs (suc m) (k ∷ ks) (a ∷ xs) = underField node fs (eqb k Kin
 abbrev pub never : {A : Type 0} → Reads A
 never ks xs = none
 
--- With n, a bound on how deep the reading goes: it only serves to define the two by recursion. The laws `node-step` and `fields-step` are the two without it.
+-- The two readers with a bound n on how deep the reading goes, which only serves to define them by recursion. The laws
+-- `node-step` and `fields-step` (proofs/Positions.antt) are the readers without it.
 unfoldable mutual
   pub nodeIn : ℕ → Reads DataType
   nodeIn zero = stepNode never (λ m. never)

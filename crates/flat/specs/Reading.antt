@@ -1,4 +1,5 @@
--- What two arrays are: exactly one type, or refused by a number from 1 to 5. The two limits are parameters. Assumes nothing: these are definitions.
+-- What two arrays are: exactly one type, or refused by a number from 1 to 5. The two limits are parameters. Assumes
+-- nothing: these are definitions.
 use mathlib.Core.Path.{_≡_}
 use mathlib.Core.Bool.{Bool, true, false, _&&_}
 use mathlib.Core.List.{List, [], _∷_}
@@ -9,7 +10,8 @@ use lib.ListN.{length, getD}
 use Rattle.flat.specs.Kind
 use Rattle.flat.specs.Refusal.{numberOf}
 use Rattle.flat.specs.Argument.{argumentFits, plainLeaf}
-use Rattle.flat.specs.Tree.{DataType, leaf, list, array, struct, Fields, empty, field, count, size, depth, headKind, headArg}
+use Rattle.flat.specs.Tree.{DataType, leaf, list, array, struct, Fields, empty, field}
+use Rattle.flat.specs.Tree.{count, size, depth, headKind, headArg}
 use Rattle.flat.specs.Reader.{nodeAt}
 use Rattle.flat.specs.declared.error.Error.{Error}
 use Rattle.flat.specs.declared.error.Error.the-variants.{Length, Kind, Argument, Shape, Depth}
@@ -64,11 +66,12 @@ abbrev pub checkedOf : Reading → Checked
 checkedOf (refused e) = Refused e
 checkedOf (type t) = Valid
 
--- document 01's number of an answer, and the value beside it: a check says no more than that there is a type
+-- document 01's number of a check's answer
 abbrev pub checkedNumber : Checked → ℕ
 checkedNumber Valid = 0
 checkedNumber (Refused e) = numberOf e
 
+-- the value beside the number: a check says no more than that there is a type
 abbrev pub checkedValue : Checked → ℕ
 checkedValue Valid = 0
 checkedValue (Refused e) = 0
@@ -78,11 +81,12 @@ abbrev pub rootOf : Reading → Root
 rootOf (refused e) = Root.Refused e
 rootOf (type t) = Root.Node (headKind t) (headArg t)
 
--- its number, and the two values beside it: the kind and the argument
+-- document 01's number of a check that gives the root
 abbrev pub rootNumber : Root → ℕ
 rootNumber (Root.Node k a) = 0
 rootNumber (Root.Refused e) = numberOf e
 
+-- the kind and the argument beside the number
 abbrev pub rootKind : Root → ℕ
 rootKind (Root.Node k a) = k
 rootKind (Root.Refused e) = 0
@@ -96,8 +100,8 @@ abbrev pub RootFits : Root → Type 0
 RootFits (Root.Node k a) = (k ≤ Kind.Struct) × (argumentFits k a ≡ true)
 RootFits (Root.Refused e) = Unit {0}
 
--- A tree that keeps document 01's rules: a leaf's kind has no child, and every argument follows its kind's rule, a Struct's number of fields and a
--- field's name among them.
+-- A tree that keeps document 01's rules: a leaf's kind has no child, and every argument follows its kind's rule, a
+-- Struct's number of fields and a field's name among them.
 unfoldable mutual
   pub Ruled : DataType → Type 0
   Ruled (leaf k a) = (k ≤ Kind.UnknownIntNeg) × (argumentFits k a ≡ true)

@@ -1,7 +1,9 @@
 -- The number of each cause for which a call is refused: document 01's table. Assumes nothing: these are definitions.
 use Prim.Native.Nat.{ℕ}
 use Rattle.flat.specs.declared.error.Error.{Error}
-use Rattle.flat.specs.declared.error.Error.the-variants.{Length, Kind, Argument, Shape, Depth, Nested, Unknown, OutputTooShort, Channel, ChannelCode, NotInteger, NoUpcast, DecimalWithInteger}
+use Rattle.flat.specs.declared.error.Error.the-variants.{Length, Kind, Argument, Shape, Depth, Nested, Unknown}
+use Rattle.flat.specs.declared.error.Error.the-variants.{OutputTooShort, Channel, ChannelCode, NotInteger}
+use Rattle.flat.specs.declared.error.Error.the-variants.{NoUpcast, DecimalWithInteger}
 
 -- the number of a cause
 abbrev pub numberOf : Error → ℕ

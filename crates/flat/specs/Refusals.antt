@@ -26,5 +26,6 @@ numberGiven nodes deep ks xs = checkedNumber (checkedOf (reading nodes deep ks x
 pub record RefusalLaws (nodes deep : ℕ) (ks xs : List ℕ) : Type 0 where
   -- 4 exactly where none of 1 to 3 is given, and the arrays are the flat form of no tree
   pub four : (numberGiven nodes deep ks xs ≡ 4) ↔ (NodesFit nodes ks xs × ((t : DataType) → FlatForm ks xs t → ⊥))
-  -- 5 exactly where they are the flat form of a tree that is within the limit of nodes and deeper than the limit of depth
-  pub five : (numberGiven nodes deep ks xs ≡ 5) ↔ ((t : DataType) × FlatForm ks xs t × (size t ≤ nodes) × (deep < depth t))
+  -- 5 exactly where the arrays are the flat form of a tree within the limit of nodes and deeper than the limit of depth
+  pub five :
+      (numberGiven nodes deep ks xs ≡ 5) ↔ ((t : DataType) × FlatForm ks xs t × (size t ≤ nodes) × (deep < depth t))

@@ -1,7 +1,8 @@
--- What the scan of the check says of two lists: one pass, with the number of fields still owed and a bound of the depth. It accepts types only
--- (proofs/Scanned.antt), nearly every one, and every one where the bound is twice the number of its nodes (proofs/Complete.antt); no answer of the check rests on
--- these definitions. Assumes nothing: these are definitions.
-use mathlib.Core.Bool.{Bool, true, false, cond, not, _&&_}
+-- What the scan of the check says of two lists: one pass, with the number of fields still owed and a bound of the
+-- depth. It accepts types only (proofs/Scanned.antt), nearly every one, and every one where the bound is twice the
+-- number of its nodes (proofs/Complete.antt); no answer of the check rests on these definitions. Assumes nothing:
+-- these are definitions.
+use mathlib.Core.Bool.{Bool, false, cond, not, _&&_}
 use mathlib.Core.List.{List, [], _∷_}
 use Prim.Native.Nat.{ℕ, suc, _+_, _-_, _≤_}
 use lib.Dec.{leb, ltb, eqb}
@@ -22,31 +23,40 @@ pub record NoDeeper (deep : ℕ) (s : Scan) : Type 0 where
 
 -- before a node that has children: where fewer fields are owed than the outermost Struct owed, all of them are its own
 unfoldable pub settled : Scan → Scan
-settled s = cond (ltb (s .owed) (s .outer)) (record { owed = s .owed; outer = s .owed; base = s .base; depth = s .base }) s
+settled s =
+    cond (ltb (s .owed) (s .outer)) (record { owed = s .owed; outer = s .owed; base = s .base; depth = s .base }) s
 
 -- under a List or an Array: one level more
 unfoldable pub wrapped : Scan → Scan
-wrapped s = record { owed = settled s .owed; outer = settled s .outer; base = settled s .base; depth = suc (settled s .depth) }
+wrapped s =
+    record { owed = settled s .owed; outer = settled s .outer; base = settled s .base; depth = suc (settled s .depth) }
 
 -- under a Struct of m fields, whose types are two levels deeper; where nothing is owed it is the outermost
 unfoldable pub opened : ℕ → Scan → Scan
 opened m s =
     cond (eqb (s .owed) 0)
     (record { owed = m; outer = m; base = suc (suc (settled s .depth)); depth = suc (suc (settled s .depth)) })
-    (record { owed = s .owed + m; outer = settled s .outer; base = settled s .base; depth = suc (suc (settled s .depth)) })
+    (record {
+      owed = s .owed + m;
+      outer = settled s .outer;
+      base = settled s .base;
+      depth = suc (suc (settled s .depth));
+    })
 
--- after a field
+-- after a field: one is paid for
 unfoldable pub paid : Scan → Scan
 paid s = record { owed = s .owed - 1; outer = s .outer; base = s .base; depth = s .depth }
 
--- a node that can be the root of a type, and one that is a field
+-- a node that can be the root of a type: no field, and its argument follows its kind's rule
 unfoldable pub typeFits : ℕ → ℕ → Bool
 typeFits k a = not (eqb k Kind.Field) && argumentFits k a
 
+-- a node that is a field, whose argument follows the rule of a field's name
 unfoldable pub fieldFits : ℕ → ℕ → Bool
 fieldFits k a = eqb k Kind.Field && argumentFits k a
 
--- which of three answers counts after a node: that for the fields still owed, for the type under it, or for its own fields and then those still owed
+-- which of three answers counts after a node: that for the fields still owed, for the type under it, or for its own
+-- fields and then those still owed
 abbrev pub after : Children → Bool → Bool → Bool → Bool
 after no-child x y z = x
 after under-list x y z = y
@@ -61,7 +71,9 @@ unfoldable mutual
   scanType deep s (k ∷ ks) [] = false
   scanType deep s (k ∷ ks) (a ∷ xs) =
       typeFits k a
-      && after (children k a) (scanFields deep s ks xs) (leb (wrapped s .depth) deep && scanType deep (wrapped s) ks xs) (leb (opened a s .depth) deep && scanFields deep (opened a s) ks xs)
+      && after (children k a) (scanFields deep s ks xs)
+      (leb (wrapped s .depth) deep && scanType deep (wrapped s) ks xs)
+      (leb (opened a s .depth) deep && scanFields deep (opened a s) ks xs)
 
   -- the fields still owed stand there, and that is all
   pub scanFields : ℕ → Scan → List ℕ → List ℕ → Bool

@@ -12,11 +12,11 @@ use Rattle.flat.specs.declared.span.Span.the-variants.{Ends, TooDeep}
 unfoldable pub spanWithin : ℕ → DataType → Span
 spanWithin levels t = cond (leb (depth t) levels) (Ends (size t)) TooDeep
 
--- so too of fields
+-- the number of nodes of fields that are no deeper than so many levels below their Struct
 unfoldable pub spansWithin : ℕ → Fields → Span
 spansWithin levels fs = cond (leb (depths fs) levels) (Ends (sizes fs)) TooDeep
 
--- one List or Array more than n, where the node is one
+-- one List or Array more than n, where the node is one of them, else none
 abbrev pub wrapping : Children → ℕ → ℕ
 wrapping no-child n = 0
 wrapping under-list n = suc n

@@ -1,4 +1,5 @@
--- A type as a tree, and its flat form: the kinds and the arguments of its nodes in preorder. Assumes nothing: these are definitions.
+-- A type as a tree, and its flat form: the kinds and the arguments of its nodes in preorder. Assumes nothing: these
+-- are definitions.
 use mathlib.Core.List.{List, [], _∷_, _++_}
 use Prim.Native.Nat.{ℕ, suc, _+_, max}
 use Rattle.flat.specs.Kind
@@ -58,7 +59,7 @@ unfoldable mutual
   kindsOfs empty = []
   kindsOfs (field name t fs) = Kind.Field ∷ (kindsOf t ++ kindsOfs fs)
 
--- their arguments
+-- the arguments of the nodes
 unfoldable mutual
   pub argsOf : DataType → List ℕ
   argsOf (leaf k a) = a ∷ []
@@ -70,7 +71,8 @@ unfoldable mutual
   argsOfs empty = []
   argsOfs (field name t fs) = name ∷ (argsOf t ++ argsOfs fs)
 
--- The depth: the most nodes that stand above a node. A field has its Struct above it, and a field's type the Struct and the field.
+-- The depth: the most nodes that stand above a node. A field has its Struct above it, and a field's type the Struct
+-- and the field.
 unfoldable mutual
   pub depth : DataType → ℕ
   depth (leaf k a) = 0

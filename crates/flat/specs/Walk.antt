@@ -1,4 +1,5 @@
--- What the contract of a walk says of the two arrays that it is handed: a type stands at their front, and which. Assumes nothing: these are definitions.
+-- What the contract of a walk says of the two arrays that it is handed: a type stands at their front, and which.
+-- Assumes nothing: these are definitions.
 use mathlib.Core.Path.{_≡_}
 use mathlib.Core.List.{List}
 use mathlib.Core.Option.{Option, none, some}
@@ -7,14 +8,16 @@ use lib.ListN.{length}
 use Rattle.flat.specs.Tree.{DataType, leaf, Fields, empty, size, sizes}
 use Rattle.flat.specs.Reader.{nodeAt, fieldsAt}
 
--- The type t stands at the front of ks and xs. The orders follow from the rest, and stand here for the arithmetic of the code.
+-- The type t stands at the front of ks and xs. The orders follow from the rest, and stand here for the arithmetic of
+-- the code.
 pub record FrontType (ks xs : List ℕ) (t : DataType) : Type 0 where
   pub read : nodeAt ks xs ≡ some t
   pub even : length ks ≡ length xs
   pub pos : 1 ≤ size t
   pub within : size t ≤ length ks
 
--- So do m fields.
+-- The m fields fs stand at the front of ks and xs. The orders follow from the rest, and stand here for the arithmetic
+-- of the code.
 pub record FrontFields (m : ℕ) (ks xs : List ℕ) (fs : Fields) : Type 0 where
   pub read : fieldsAt m ks xs ≡ some fs
   pub even : length ks ≡ length xs
@@ -38,6 +41,6 @@ runAt m ks xs = withDefault empty (fieldsAt m ks xs)
 abbrev pub Valid : List ℕ → List ℕ → Type 0
 Valid ks xs = FrontType ks xs (typeAt ks xs)
 
--- m fields do
+-- m fields stand at the front
 abbrev pub ValidRun : ℕ → List ℕ → List ℕ → Type 0
 ValidRun m ks xs = FrontFields m ks xs (runAt m ks xs)

@@ -11,7 +11,9 @@ ghost use mathlib.Core.Bool.{true};
 ghost use Prim.Native.Nat.{_*_};
 ghost use lib.ListN.{length};
 ghost use Rattle.flat.specs.Reader.{nodeAt};
-ghost use Rattle.flat.specs.Reading.{kindsFit, argumentsFit, shaped, reading, onePlain, checkedOf, checkedNumber, checkedValue, rootOf, rootNumber, rootKind, rootArg, RootFits};
+ghost use Rattle.flat.specs.Reading.{kindsFit, argumentsFit, shaped, reading, onePlain};
+ghost use Rattle.flat.specs.Reading.{checkedOf, checkedNumber, checkedValue};
+ghost use Rattle.flat.specs.Reading.{rootOf, rootNumber, rootKind, rootArg, RootFits};
 ghost use Rattle.flat.specs.Scan.{scanAccepts, start, scanType};
 ghost use Rattle.flat.specs.Output.{writtenNumber, writtenValue, optionalNumber, optionalValue};
 use argument::argument_fits;
@@ -86,7 +88,8 @@ impl Written {
     }
 }
 
-// What a call answers whose result may be the source's None: Some, with how many nodes or bytes it has, None, or the refusal.
+// What a call answers whose result may be the source's None: Some, with how many nodes or bytes it has, None, or the
+// refusal.
 pub enum Optional {
     Some(usize),
     Nothing,
@@ -134,7 +137,7 @@ impl Root {
         }
     }
 
-    // The two values beside the number.
+    // The root's kind, and 0 beside a refusal.
     pub fn kind(self) -> u8
         ensures { λ r. ⌜ r ≡ rootKind self ⌝ }
     {
@@ -144,6 +147,7 @@ impl Root {
         }
     }
 
+    // The root's argument, and 0 beside a refusal.
     pub fn argument(self) -> u64
         ensures { λ r. ⌜ r ≡ rootArg self ⌝ }
     {
@@ -190,7 +194,9 @@ fn check_depth(kinds: &[u8], args: &[u64]) -> Checked
       ⌜ scanType (2 * nodes) start (now kinds) (now args) ≡ true ⌝ }
     ensures { λ r. do
       deep ← ⟦Flat::MAX_DEPTH⟧ .entry
-      ⌜ r ≡ checkedOf (shaped deep (length (now (kinds .entry))) (nodeAt (now (kinds .entry)) (now (args .entry)))) ⌝ }
+      let ks = now (kinds .entry)
+      let xs = now (args .entry)
+      ⌜ r ≡ checkedOf (shaped deep (length ks) (nodeAt ks xs)) ⌝ }
 {
     match span::node_span(kinds, args, Flat::MAX_DEPTH) {
         Span::Ends(_) => Checked::Valid,
@@ -198,12 +204,14 @@ fn check_depth(kinds: &[u8], args: &[u64]) -> Checked
     }
 }
 
-// Whether two arrays are a type: refusals 1 to 5, each looking at the whole type before the next. For arrays that the scan didn't accept.
+// Whether two arrays are a type: refusals 1 to 5, each looking at the whole type before the next. For arrays that the
+// scan didn't accept.
 fn examine(kinds: &[u8], args: &[u64]) -> Checked
     ensures { λ r. do
       nodes ← ⟦Flat::MAX_NODES⟧ .entry
       deep ← ⟦Flat::MAX_DEPTH⟧ .entry
-      ⌜ r ≡ checkedOf (reading nodes deep (now (kinds .entry)) (now (args .entry))) ⌝ }
+      let is = reading nodes deep (now (kinds .entry)) (now (args .entry))
+      ⌜ r ≡ checkedOf is ⌝ }
 {
     if kinds.len() != args.len() {
         return Checked::Refused(Error::Length);
@@ -214,7 +222,8 @@ fn examine(kinds: &[u8], args: &[u64]) -> Checked
     if kinds.len() > Flat::MAX_NODES {
         return Checked::Refused(Error::Length);
     }
-    // no type of so few nodes has more nested than twice their number, so with that bound the scan passes whatever keeps 2 to 4
+    // no type of so few nodes has more nested than twice their number, so with that bound the scan passes whatever
+    // keeps 2 to 4
     if scan::passes(kinds, args, 2 * Flat::MAX_NODES) {
         return check_depth(kinds, args);
     }
@@ -241,6 +250,7 @@ pub fn is_plain(kinds: &[u8], args: &[u64]) -> bool
     argument::is_plain(kinds[0], args[0])
 }
 
+// Whether the scan accepts two arrays, for arrays that are not one plain leaf.
 fn accepts_nodes(kinds: &[u8], args: &[u64]) -> bool
     ensures { λ r. do
       nodes ← ⟦Flat::MAX_NODES⟧ .entry
@@ -256,7 +266,8 @@ fn accepts_nodes(kinds: &[u8], args: &[u64]) -> bool
     scan::passes(kinds, args, Flat::MAX_DEPTH)
 }
 
-// Whether the scan accepts two arrays: it accepts types only, and nearly every one. What it doesn't accept goes on to `examine`.
+// Whether the scan accepts two arrays: it accepts types only, and nearly every one. What it doesn't accept goes on to
+// `examine`.
 fn accepts(kinds: &[u8], args: &[u64]) -> bool
     ensures { λ r. do
       nodes ← ⟦Flat::MAX_NODES⟧ .entry
@@ -274,7 +285,8 @@ pub fn check(kinds: &[u8], args: &[u64]) -> Checked
     ensures { λ r. do
       nodes ← ⟦Flat::MAX_NODES⟧ .entry
       deep ← ⟦Flat::MAX_DEPTH⟧ .entry
-      ⌜ r ≡ checkedOf (reading nodes deep (now (kinds .entry)) (now (args .entry))) ⌝ }
+      let is = reading nodes deep (now (kinds .entry)) (now (args .entry))
+      ⌜ r ≡ checkedOf is ⌝ }
 {
     if accepts(kinds, args) {
         return Checked::Valid;
@@ -287,7 +299,8 @@ fn root_of(kinds: &[u8], args: &[u64]) -> Root
     ensures { λ r. do
       nodes ← ⟦Flat::MAX_NODES⟧ .entry
       deep ← ⟦Flat::MAX_DEPTH⟧ .entry
-      ⌜ (r ≡ rootOf (reading nodes deep (now (kinds .entry)) (now (args .entry)))) × RootFits r ⌝ }
+      let is = reading nodes deep (now (kinds .entry)) (now (args .entry))
+      ⌜ (r ≡ rootOf is) × RootFits r ⌝ }
 {
     if accepts_nodes(kinds, args) {
         return Root::Node(kinds[0], args[0]);
@@ -303,7 +316,8 @@ pub fn check_root(kinds: &[u8], args: &[u64]) -> Root
     ensures { λ r. do
       nodes ← ⟦Flat::MAX_NODES⟧ .entry
       deep ← ⟦Flat::MAX_DEPTH⟧ .entry
-      ⌜ (r ≡ rootOf (reading nodes deep (now (kinds .entry)) (now (args .entry)))) × RootFits r ⌝ }
+      let is = reading nodes deep (now (kinds .entry)) (now (args .entry))
+      ⌜ (r ≡ rootOf is) × RootFits r ⌝ }
 {
     if is_plain(kinds, args) {
         return Root::Node(kinds[0], 0);

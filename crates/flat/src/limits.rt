@@ -1,4 +1,5 @@
-// The limits are document 01's. A law can't read the code's constants and a contract can, so each claim is the contract of a function that does nothing.
+// The limits are document 01's. A law can't read the code's constants and a contract can, so each claim is the
+// contract of a function that does nothing.
 ghost use Rattle.flat.specs.Limits.{DepthLimit, NodeLimit};
 use crate::Flat;
 

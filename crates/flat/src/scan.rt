@@ -1,9 +1,12 @@
-// The scan of the check: one pass over the nodes, without a stack, which passes types only and nearly every type. Whether the nodes form exactly one type is
-// told by the number of fields still owed; the depth is bounded by how much is nested, counted anew from each field of the outermost Struct.
+// The scan of the check: one pass over the nodes, without a stack, which passes types only and nearly every type.
+// Whether the nodes form exactly one type is told by the number of fields still owed; the depth is bounded by how
+// much is nested, counted anew from each field of the outermost Struct. The numbers in what its functions ask keep
+// sums from overflowing.
 ghost use mathlib.Core.Path.{_≡_};
 ghost use Prim.Native.Nat.{_+_, _≤_, _<_};
 ghost use lib.ListN.{length};
-ghost use Rattle.flat.specs.Scan.{NoDeeper, start, settled, wrapped, opened, paid, typeFits, fieldFits, scanType};
+ghost use Rattle.flat.specs.Scan.{NoDeeper, start, settled, wrapped, opened, paid};
+ghost use Rattle.flat.specs.Scan.{typeFits, fieldFits, scanType};
 use crate::argument::argument_fits;
 use crate::kind::Kind;
 
@@ -31,7 +34,8 @@ fn start() -> Scan
     }
 }
 
-// Before a node that has children: where the inner Structs' fields are all paid, the node is a field's type of the outermost Struct again.
+// Before a node that has children: where the inner Structs' fields are all paid, the node is a field's type of the
+// outermost Struct again.
 fn settled(s: Scan) -> Scan
     ensures { λ r. ⌜ r ≡ settled s ⌝ }
 {
@@ -96,7 +100,8 @@ fn paid(s: Scan) -> Scan
     }
 }
 
-// Whether a node can be the root of a type: no field, and its argument follows its kind's rule. Most are leaves with the argument 0.
+// Whether a node can be the root of a type: no field, and its argument follows its kind's rule. Most are leaves with
+// the argument 0.
 fn type_fits(kind: u8, arg: u64) -> bool
     ensures { λ r. ⌜ r ≡ typeFits kind arg ⌝ }
 {
@@ -122,9 +127,11 @@ fn field_fits(kind: u8, arg: u64) -> bool
     argument_fits(Kind::FIELD, arg)
 }
 
-// Whether the nodes form exactly one type, with no more nested than so many levels. The numbers in what is asked, here and above, keep sums from overflowing.
+// Whether the nodes form exactly one type, with no more nested than so many levels.
 pub fn passes(kinds: &[u8], args: &[u64], deep: usize) -> bool
-    requires { ⌜ (length (now kinds) ≡ length (now args)) × (length (now kinds) ≤ 65536) × (deep ≤ 65536) ⌝ }
+    requires { do
+      let n = length (now kinds)
+      ⌜ (n ≡ length (now args)) × (n ≤ 65536) × (deep ≤ 65536) ⌝ }
     ensures { λ r. ⌜ r ≡ scanType deep start (now (kinds .entry)) (now (args .entry)) ⌝ }
 {
     let mut s = start();

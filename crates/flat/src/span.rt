@@ -1,4 +1,5 @@
-// The walk of the check: a node hands its fields to a walk over fields, which hands each field back. It goes no deeper than it is asked to.
+// The walk of the check: a node hands its fields to a walk over fields, which hands each field back. It goes no
+// deeper than it is asked to.
 ghost use mathlib.Core.Path.{_≡_};
 ghost use lib.ListN.{length};
 ghost use Prim.Native.Nat.{_≤_};
@@ -15,7 +16,10 @@ pub enum Span {
 // Where the Lists and Arrays end that stand at the front, one under the other.
 fn bottom(kinds: &[u8], args: &[u64]) -> usize
     requires { ⌜ length (now kinds) ≡ length (now args) ⌝ }
-    ensures { λ r. ⌜ (r ≡ wrappersOf (now (kinds .entry)) (now (args .entry))) × (r ≤ length (now (kinds .entry))) ⌝ }
+    ensures { λ r. do
+      let ks = now (kinds .entry)
+      let xs = now (args .entry)
+      ⌜ (r ≡ wrappersOf ks xs) × (r ≤ length ks) ⌝ }
 {
     let mut at = 0;
     while at < kinds.len() {
@@ -37,7 +41,9 @@ fn bottom(kinds: &[u8], args: &[u64]) -> usize
 // The type at the front of the two arrays, if it is no deeper than so many levels.
 pub fn node_span(kinds: &[u8], args: &[u64], levels: usize) -> Span
     requires { ⌜ Valid (now kinds) (now args) ⌝ }
-    ensures { λ r. ⌜ r ≡ spanWithin levels (typeAt (now (kinds .entry)) (now (args .entry))) ⌝ }
+    ensures { λ r. do
+      let front = typeAt (now (kinds .entry)) (now (args .entry))
+      ⌜ r ≡ spanWithin levels front ⌝ }
 {
     let at = bottom(kinds, args);
     if at > levels {
@@ -56,7 +62,9 @@ pub fn node_span(kinds: &[u8], args: &[u64], levels: usize) -> Span
 // The given number of fields at the front of the two arrays, if none is deeper than so many levels below their Struct.
 pub fn field_span(kinds: &[u8], args: &[u64], count: u64, levels: usize) -> Span
     requires { ⌜ ValidRun count (now kinds) (now args) ⌝ }
-    ensures { λ r. ⌜ r ≡ spansWithin levels (runAt count (now (kinds .entry)) (now (args .entry))) ⌝ }
+    ensures { λ r. do
+      let front = runAt count (now (kinds .entry)) (now (args .entry))
+      ⌜ r ≡ spansWithin levels front ⌝ }
 {
     let mut at = 0;
     let mut left = count;

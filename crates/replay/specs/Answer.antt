@@ -5,9 +5,10 @@ use mathlib.Core.Bool.{Bool, true}
 use mathlib.Core.List.{List, _∷_, _++_}
 
 -- a test says of a claim whether it holds
-abbrev pub Tells : Bool → Type 0 → Type 0
-Tells r claim = (r ≡ true → claim) × (claim → r ≡ true)
+pub record Decides (r : Bool) (claim : Type 0) : Type 0 where
+  pub proves : r ≡ true → claim
+  pub follows : claim → r ≡ true
 
--- an answer's numbers: its number, its value and its result
-abbrev pub answer : ℕ → ℕ → List ℕ → List ℕ → List ℕ
-answer number value kinds args = number ∷ value ∷ (kinds ++ args)
+-- an answer as it is recorded: its number, its value and its result
+unfoldable pub recordOf : ℕ → ℕ → List ℕ → List ℕ → List ℕ
+recordOf number value kinds args = number ∷ value ∷ (kinds ++ args)

@@ -1,7 +1,7 @@
 // Whether a recorded answer is the one that a call gave.
 ghost use mathlib.Core.Path.{_≡_};
 ghost use mathlib.Core.List.{[]};
-ghost use Rattle.replay.specs.Answer.{Tells, answer};
+ghost use Rattle.replay.specs.Answer.{Decides, recordOf};
 
 // A kind as a number.
 fn wide(kind: u8) -> u64
@@ -10,8 +10,9 @@ fn wide(kind: u8) -> u64
     kind as u64
 }
 
+// Whether the numbers are these kinds.
 fn same_kinds(numbers: &[u64], kinds: &[u8]) -> bool
-    ensures { λ r. ⌜ Tells r (now (numbers .entry) ≡ now (kinds .entry)) ⌝ }
+    ensures { λ r. ⌜ Decides r (now (numbers .entry) ≡ now (kinds .entry)) ⌝ }
 {
     if numbers.len() != kinds.len() {
         return false;
@@ -26,8 +27,9 @@ fn same_kinds(numbers: &[u64], kinds: &[u8]) -> bool
     true
 }
 
+// Whether the numbers are these others.
 pub fn same_numbers(numbers: &[u64], others: &[u64]) -> bool
-    ensures { λ r. ⌜ Tells r (now (numbers .entry) ≡ now (others .entry)) ⌝ }
+    ensures { λ r. ⌜ Decides r (now (numbers .entry) ≡ now (others .entry)) ⌝ }
 {
     if numbers.len() != others.len() {
         return false;
@@ -44,7 +46,7 @@ pub fn same_numbers(numbers: &[u64], others: &[u64]) -> bool
 
 // An answer without a result.
 pub fn is_reply(recorded: &[u64], number: u64, value: u64) -> bool
-    ensures { λ r. ⌜ Tells r (now (recorded .entry) ≡ answer number value [] []) ⌝ }
+    ensures { λ r. ⌜ Decides r (now (recorded .entry) ≡ recordOf number value [] []) ⌝ }
 {
     if recorded.len() != 2 {
         return false;
@@ -57,7 +59,9 @@ pub fn is_reply(recorded: &[u64], number: u64, value: u64) -> bool
 
 // An answer whose result is kinds and arguments.
 pub fn is_answer(recorded: &[u64], number: u64, value: u64, kinds: &[u8], args: &[u64]) -> bool
-    ensures { λ r. ⌜ Tells r (now (recorded .entry) ≡ answer number value (now (kinds .entry)) (now (args .entry))) ⌝ }
+    ensures { λ r. do
+      let given = recordOf number value (now (kinds .entry)) (now (args .entry))
+      ⌜ Decides r (now (recorded .entry) ≡ given) ⌝ }
 {
     if recorded.len() < 2 {
         return false;

@@ -1,17 +1,18 @@
-// The calls, by the numbers of their entry points. `recorded` is what a line has after the types of a call: its other inputs, then its answer.
+// The calls, by the numbers of their entry points. `recorded` is what a line has after the types of a call: its other
+// inputs, then its answer.
 use crate::answer::is_answer;
 use crate::answer::is_reply;
 use crate::answer::same_numbers;
-use crate::output::Form;
-use crate::output::Rule;
+use crate::output::BuiltForm;
+use crate::output::JoinRule;
 use crate::output::is_built;
 use crate::output::is_joined;
-use crate::parts::between;
+use crate::parts::cut;
 use crate::parts::first;
 use crate::parts::from;
 use crate::reader::Flag;
-use crate::reader::Found;
 use crate::reader::NODES;
+use crate::reader::TypeRead;
 use crate::reader::read_flag;
 use crate::reader::read_type;
 use crate::reader::to_bytes;
@@ -49,7 +50,8 @@ fn predicate(entry: u64, kinds: &[u8], args: &[u64]) -> Answer {
     }
 }
 
-// The room is recorded first. The port gives parts of the input and the recorded call copies, so only that one is refused for its room.
+// The room is recorded first. The port gives parts of the input and the recorded call copies, so only that one is
+// refused for its room.
 fn is_part(inner: Optional, kinds: &[u8], args: &[u64], recorded: &[u64]) -> bool {
     if recorded.len() == 0 {
         return false;
@@ -89,7 +91,7 @@ fn is_inner(entry: u64, kinds: &[u8], args: &[u64], recorded: &[u64]) -> bool {
 fn is_materialized(kinds: &[u8], args: &[u64], recorded: &[u64]) -> bool {
     match read_flag(recorded, 0) {
         Flag::Is(allow_unknown) => is_built(
-            Form::Materialized(allow_unknown),
+            BuiltForm::Materialized(allow_unknown),
             kinds,
             args,
             from(recorded, 1),
@@ -105,7 +107,7 @@ fn is_shape(number: u64, count: u64, widths: &[u64; Flat::MAX_DEPTH], recorded: 
     if !same_numbers(from(widths, n), from(&unused, n)) {
         return false;
     }
-    is_answer(recorded, number, count, b"", between(widths, 0, n))
+    is_answer(recorded, number, count, b"", cut(widths, 0, n))
 }
 
 fn is_shaped(kinds: &[u8], args: &[u64], recorded: &[u64]) -> bool {
@@ -114,7 +116,8 @@ fn is_shaped(kinds: &[u8], args: &[u64], recorded: &[u64]) -> bool {
     is_shape(shape.number, shape.count, &widths, recorded)
 }
 
-// The channel and the codes are recorded first, and as the result the codes that the merge leaves, beside a refusal too.
+// The channel and the codes are recorded first, and as the result the codes that the merge leaves, beside a refusal
+// too.
 fn is_merged(kinds: &[u8], args: &[u64], recorded: &[u64]) -> bool {
     if recorded.len() == 0 {
         return false;
@@ -122,7 +125,7 @@ fn is_merged(kinds: &[u8], args: &[u64], recorded: &[u64]) -> bool {
     let channel = recorded[0] as usize;
     let end = 1 + ChannelTypes::CHANNELS;
     let mut codes = [0u8; ChannelTypes::CHANNELS];
-    if !to_bytes(between(recorded, 1, end), &mut codes) {
+    if !to_bytes(cut(recorded, 1, end), &mut codes) {
         return false;
     }
     let next = ChannelTypes { codes }.merge(channel, kinds, args);
@@ -145,7 +148,7 @@ fn agrees_on(entry: u64, kinds: &[u8], args: &[u64], recorded: &[u64]) -> bool {
             is_reply(recorded, answer.number(), answer.value())
         }
         19..=21 => is_inner(entry, kinds, args, recorded),
-        22 => is_built(Form::Physical, kinds, args, recorded),
+        22 => is_built(BuiltForm::Physical, kinds, args, recorded),
         23 => is_materialized(kinds, args, recorded),
         24 => is_shaped(kinds, args, recorded),
         29 => is_merged(kinds, args, recorded),
@@ -164,7 +167,7 @@ fn is_supertype(
     match read_flag(recorded, 0) {
         Flag::Is(implode_list) => match read_flag(recorded, 1) {
             Flag::Is(to_string) => is_joined(
-                Rule::Supertype(implode_list, to_string),
+                JoinRule::Supertype(implode_list, to_string),
                 left_kinds,
                 left_args,
                 right_kinds,
@@ -199,7 +202,7 @@ fn agrees_on_two(
             is_reply(recorded, verdict.number(), verdict.value())
         }
         26 => is_joined(
-            Rule::Lossless,
+            JoinRule::Lossless,
             left_kinds,
             left_args,
             right_kinds,
@@ -214,6 +217,7 @@ fn agrees_on_two(
     }
 }
 
+// The first n kinds: behind a reference, the array asks for no proof of its length.
 fn kinds_of(kinds: &[u8; NODES], n: usize) -> &[u8] {
     first(kinds, n)
 }
@@ -221,42 +225,42 @@ fn kinds_of(kinds: &[u8; NODES], n: usize) -> &[u8] {
 fn one_type(entry: u64, line: &[u64]) -> bool {
     let mut kinds = [0u8; NODES];
     match read_type(line, &mut kinds) {
-        Found::At(n, args, end) => agrees_on(
+        TypeRead::At(n, args, end) => agrees_on(
             entry,
             kinds_of(&kinds, n),
-            between(line, args, end),
+            cut(line, args, end),
             from(line, end),
         ),
-        Found::Nothing => false,
+        TypeRead::Nothing => false,
     }
 }
 
-// The left type is read.
+// Reads the right type; the left one is read.
 fn right_type(entry: u64, left_kinds: &[u8], left_args: &[u64], line: &[u64]) -> bool {
     let mut kinds = [0u8; NODES];
     match read_type(line, &mut kinds) {
-        Found::At(n, args, end) => agrees_on_two(
+        TypeRead::At(n, args, end) => agrees_on_two(
             entry,
             left_kinds,
             left_args,
             kinds_of(&kinds, n),
-            between(line, args, end),
+            cut(line, args, end),
             from(line, end),
         ),
-        Found::Nothing => false,
+        TypeRead::Nothing => false,
     }
 }
 
 fn two_types(entry: u64, line: &[u64]) -> bool {
     let mut kinds = [0u8; NODES];
     match read_type(line, &mut kinds) {
-        Found::At(n, args, end) => right_type(
+        TypeRead::At(n, args, end) => right_type(
             entry,
             kinds_of(&kinds, n),
-            between(line, args, end),
+            cut(line, args, end),
             from(line, end),
         ),
-        Found::Nothing => false,
+        TypeRead::Nothing => false,
     }
 }
 

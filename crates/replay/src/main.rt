@@ -1,8 +1,10 @@
-// Replays recorded answers of the oracle, which is the crate's own text, and of the plain Rust to merges, which the crate doesn't have, so that the port is
-// held to them where there is no Rust. A line of the input is a call and its recorded answer; the last line is 0.
-// `cargo run --release -p differential -- --record 7500` in host/ wrote the input (crates/replay/stdin); host/differential/src/answers.rs has the format.
-// A call that is answered otherwise here, and a line that can't be read, is told by the number of its line. Some recorded answers were damaged on purpose, of each
-// entry point some: crates/replay/stdout names them all (`--expect 7500` wrote it), so that a replay that agrees with everything fails.
+// Replays recorded answers of the oracle, which is the crate's own text, and of the plain Rust to merges, which the
+// crate doesn't have, so that the port is held to them where there is no Rust. A line of the input is a call and its
+// recorded answer; the last line is 0. `cargo run --release -p differential -- --record 7500` in host/ wrote the input
+// (crates/replay/stdin); host/differential/src/answers.rs has the format. A call that is answered otherwise here, and a
+// line that can't be read, is told by the number of its line. Some recorded answers were damaged on purpose, of each
+// entry point some: crates/replay/stdout names them all (`--expect 7500` wrote it), so that a replay that agrees with
+// everything fails.
 mod answer;
 mod calls;
 mod output;
@@ -13,14 +15,14 @@ ghost use Prim.Native.Nat.{_≤_};
 ghost use lib.ListN.{length};
 use libc::STDIN_FILENO;
 use libc::STDOUT_FILENO;
-use parts::between;
+use parts::cut;
 use reader::NUMBERS;
 use reader::read_numbers;
 
 // The most bytes of input. More are not read, and then the last line is missing.
 const BYTES: usize = 524288;
 
-// What a line is: the last one, or an answer that is the same here or not.
+// What a line is: the last one, or a call that is answered here as recorded, or otherwise.
 enum Line {
     Last,
     Same,
@@ -34,7 +36,7 @@ fn replay_numbers(numbers: &[u64; NUMBERS], n: usize) -> Line {
             return Line::Last;
         }
     }
-    if calls::agrees(entry, between(numbers, 1, n)) {
+    if calls::agrees(entry, cut(numbers, 1, n)) {
         Line::Same
     } else {
         Line::Differs

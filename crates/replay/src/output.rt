@@ -1,7 +1,7 @@
 // The calls that write a type to lent arrays: what they write, and that they leave the rest as it was.
 use crate::answer::is_answer;
 use crate::answer::same_numbers;
-use crate::parts::between;
+use crate::parts::cut;
 use crate::parts::first;
 use crate::parts::from;
 use crate::parts::rest;
@@ -15,27 +15,27 @@ const KIND: u8 = 255;
 const ARG: u64 = 0x5EED_5EED_5EED_5EED;
 
 // Which type is built; the flag is `allow_unknown`.
-pub enum Form {
+pub enum BuiltForm {
     Physical,
     Materialized(bool),
 }
 
 // Which rule joins two types; the flags are `allow_implode_list` and `allow_primitive_to_string`.
-pub enum Rule {
+pub enum JoinRule {
     Lossless,
     Supertype(bool, bool),
 }
 
 fn build(
-    form: Form,
+    form: BuiltForm,
     kinds: &[u8],
     args: &[u64],
     out_kinds: &mut [u8],
     out_args: &mut [u64],
 ) -> Written {
     match form {
-        Form::Physical => dtype_build::to_physical(kinds, args, out_kinds, out_args),
-        Form::Materialized(allow_unknown) => dtype_build::materialize_unknown(
+        BuiltForm::Physical => dtype_build::to_physical(kinds, args, out_kinds, out_args),
+        BuiltForm::Materialized(allow_unknown) => dtype_build::materialize_unknown(
             kinds,
             args,
             allow_unknown,
@@ -46,7 +46,7 @@ fn build(
 }
 
 fn join(
-    rule: Rule,
+    rule: JoinRule,
     left_kinds: &[u8],
     left_args: &[u64],
     right_kinds: &[u8],
@@ -55,7 +55,7 @@ fn join(
     out_args: &mut [u64],
 ) -> Optional {
     match rule {
-        Rule::Lossless => supertype_lossless::get_numeric_upcast_supertype_lossless(
+        JoinRule::Lossless => supertype_lossless::get_numeric_upcast_supertype_lossless(
             left_kinds,
             left_args,
             right_kinds,
@@ -63,7 +63,7 @@ fn join(
             out_kinds,
             out_args,
         ),
-        Rule::Supertype(implode_list, to_string) => supertype::get_supertype_with_options(
+        JoinRule::Supertype(implode_list, to_string) => supertype::get_supertype_with_options(
             left_kinds,
             left_args,
             right_kinds,
@@ -97,11 +97,12 @@ fn is_written(
         number,
         nodes as u64,
         first(out_kinds, nodes),
-        between(out_args, 0, nodes),
+        cut(out_args, 0, nodes),
     )
 }
 
-// How many places of the arrays a call is given, which is recorded first; more than there are where no number stands there.
+// How many places of the arrays a call is given, which is recorded first; more than there are where no number stands
+// there.
 fn read_room(recorded: &[u64]) -> usize {
     if recorded.len() == 0 {
         return NODES + 1;
@@ -110,7 +111,7 @@ fn read_room(recorded: &[u64]) -> usize {
 }
 
 // Whether a type is built as recorded.
-pub fn is_built(form: Form, kinds: &[u8], args: &[u64], recorded: &[u64]) -> bool {
+pub fn is_built(form: BuiltForm, kinds: &[u8], args: &[u64], recorded: &[u64]) -> bool {
     let room = read_room(recorded);
     if room > NODES {
         return false;
@@ -135,7 +136,7 @@ pub fn is_built(form: Form, kinds: &[u8], args: &[u64], recorded: &[u64]) -> boo
 
 // Whether two types are joined as recorded.
 pub fn is_joined(
-    rule: Rule,
+    rule: JoinRule,
     left_kinds: &[u8],
     left_args: &[u64],
     right_kinds: &[u8],

@@ -1,7 +1,7 @@
 // Parts of slices, without a demand: a part that isn't there is empty, and no recorded answer is then met.
 
 // The numbers from one place to another.
-pub fn between(numbers: &[u64], from: usize, to: usize) -> &[u64] {
+pub fn cut(numbers: &[u64], from: usize, to: usize) -> &[u64] {
     if to > numbers.len() {
         return &numbers[..0];
     }
@@ -13,7 +13,7 @@ pub fn between(numbers: &[u64], from: usize, to: usize) -> &[u64] {
 
 // The numbers from a place on.
 pub fn from(numbers: &[u64], at: usize) -> &[u64] {
-    between(numbers, at, numbers.len())
+    cut(numbers, at, numbers.len())
 }
 
 // The first n bytes.

@@ -50,7 +50,8 @@ fn read_number(text: &[u8], from: usize) -> Number {
     Number::Is(value, at)
 }
 
-// Puts the numbers of a line, which have one space between them, at the front of `numbers`, and gives their count; 0 where it can't.
+// Puts the numbers of a line, which have one space between them, at the front of `numbers`, and gives their count; 0
+// where it can't.
 pub fn read_numbers(text: &[u8], numbers: &mut [u64; NUMBERS]) -> usize {
     let mut from = 0;
     let mut n = 0;
@@ -74,7 +75,7 @@ pub fn read_numbers(text: &[u8], numbers: &mut [u64; NUMBERS]) -> usize {
 }
 
 // How many kinds a type has that stands at the front of a line, and where its arguments start and end.
-pub enum Found {
+pub enum TypeRead {
     At(usize, usize, usize),
     Nothing,
 }
@@ -96,25 +97,26 @@ pub fn to_bytes(numbers: &[u64], bytes: &mut [u8]) -> bool {
     true
 }
 
-// Reads a type: the number of its kinds, the kinds, which go to the front of `kinds`, the number of its arguments, the arguments.
-pub fn read_type(line: &[u64], kinds: &mut [u8; NODES]) -> Found {
+// Reads a type: the number of its kinds, the kinds, which go to the front of `kinds`, the number of its arguments, the
+// arguments.
+pub fn read_type(line: &[u64], kinds: &mut [u8; NODES]) -> TypeRead {
     if line.len() == 0 {
-        return Found::Nothing;
+        return TypeRead::Nothing;
     }
     let n = line[0] as usize;
     if n >= line.len() - 1 {
-        return Found::Nothing;
+        return TypeRead::Nothing;
     }
     let k = n + 1;
     if !to_bytes(&line[1..k], kinds) {
-        return Found::Nothing;
+        return TypeRead::Nothing;
     }
     let m = line[k] as usize;
     let args = k + 1;
     if m > line.len() - args {
-        return Found::Nothing;
+        return TypeRead::Nothing;
     }
-    Found::At(n, args, args + m)
+    TypeRead::At(n, args, args + m)
 }
 
 pub enum Flag {

@@ -1,6 +1,6 @@
 -- What the checks of two kinds say, and what a call comes to after them. Assumes nothing.
 use mathlib.Core.Path.{_≡_, refl, sym, _∙_, ap, ap₂}
-use mathlib.Core.Bool.{Bool, true, false, cond, _&&_, _||_, and-true, and-false, or-true, or-false, true≢false}
+use mathlib.Core.Bool.{Bool, true, false, cond, _&&_, _||_, and-true, and-false, or-true, or-false}
 use mathlib.Core.Option.{Option, some}
 use Prim.Native.Nat.{ℕ, _≤_}
 use native.Mathlib.Omega.{arith}
@@ -15,6 +15,7 @@ use Rattle.flat.specs.declared.error.Error.{Error}
 use Rattle.flat.specs.declared.error.Error.the-variants.{Nested, DecimalWithInteger}
 use Rattle.flat.specs.declared.Checked.the-variants as checked
 use Rattle.flat.specs.declared.Root.{Root}
+use Rattle.flat.proofs.Truths.{impossible, never}
 use Rattle.dtype.specs.Predicate.{isNested}
 use Rattle.dtype.proofs.Runs.{says, of-run}
 use Rattle.supertype_answer.specs.Join.{Node, rootNode, foundOf, commonOf, foundCommon, joining, joiningRoots}
@@ -31,7 +32,12 @@ use Rattle.supertype.specs.Pair.{decimalWithInteger, pairChecked, afterC
 module _ (k l : ℕ) where
   pub decimal-left : k ≡ Kind.Decimal → isListed l ≡ decimalWithInteger k l
   unfolding decimalWithInteger
-  decimal-left e = rw (e, sym (of-run isListed false 12 244 (unfold says isListed in tt) Kind.Decimal (omega arith)), or-false)
+  decimal-left e =
+      rw (
+        e,
+        sym (of-run isListed false Kind.Float16 244 (unfold says isListed in tt) Kind.Decimal (omega arith)),
+        or-false,
+      )
 
   pub decimal-right : (k ≡ Kind.Decimal → ⊥) → l ≡ Kind.Decimal → isListed k ≡ decimalWithInteger k l
   unfolding decimalWithInteger
@@ -59,38 +65,55 @@ module _ (k l : ℕ) where
     may-join d = rw (e, f, d)
 
 -- a pair that passes is not nested
-pub none-nested : (k l : ℕ) → checked.Valid ≡ pairChecked k l → (isNested k ≡ false) × (isNested l ≡ false)
+none-nested : (k l : ℕ) → checked.Valid ≡ pairChecked k l → (isNested k ≡ false) × (isNested l ≡ false)
 unfolding pairChecked
 none-nested k l = go (isNested k) (isNested l) (decimalWithInteger k l)
   where
-    go : (a b d : Bool) → checked.Valid ≡ cond (a || b) (checked.Refused Nested) (cond d (checked.Refused DecimalWithInteger) checked.Valid) → (a ≡ false) × (b ≡ false)
-    go true b d e = absurd (let z : _≡_ {A = ℕ} 0 1 = cc in omega arith)
-    go false true d e = absurd (let z : _≡_ {A = ℕ} 0 1 = cc in omega arith)
+    go : (a b d : Bool)
+        → checked.Valid
+        ≡ cond (a || b) (checked.Refused Nested) (cond d (checked.Refused DecimalWithInteger) checked.Valid)
+        → (a ≡ false) × (b ≡ false)
+    go true b d e = impossible cc
+    go false true d e = impossible cc
     go false false d e = (refl, refl)
 
 -- ---- two roots
 
 -- a root that is not nested is a type of its own
-pub root-fits : (n : Node) → RootFits (Root.Node (n .kind) (n .arg)) → isNested (n .kind) ≡ false → fits n ≡ true
+root-fits : (n : Node) → RootFits (Root.Node (n .kind) (n .arg)) → isNested (n .kind) ≡ false → fits n ≡ true
 unfolding fits
 root-fits n h e = go (decLe (n .kind) Kind.UnknownIntNeg)
   where
-    go : Dec (n .kind ≤ Kind.UnknownIntNeg) → (leb (n .kind) Kind.UnknownIntNeg && argumentFits (n .kind) (n .arg)) ≡ true
+    go : Dec (n .kind ≤ Kind.UnknownIntNeg)
+        → (leb (n .kind) Kind.UnknownIntNeg && argumentFits (n .kind) (n .arg)) ≡ true
     go (yes l) = rw (le-leb (n .kind) Kind.UnknownIntNeg l) (h .1)
-    go (no m) = absurd (true≢false (of-run isNested true Kind.List 3 (unfold says in tt) (n .kind) (omega (arith, h .0)) ∙ e))
+    go (no m) = never (sym (of-run isNested true Kind.List 3 (unfold says in tt) (n .kind) (omega (arith, h .0)) ∙ e))
 
-module _ (s : Bool) (l r : Node) where
-  pub pair-refused : (e : Error) → checked.Refused e ≡ pairChecked (l .kind) (r .kind) → some (refused e) ≡ rootSupertype false s l r
-  unfolding rootSupertype
-  pair-refused e p = rw (← p)
+module _ (l r : Node) where
+  pub both-fit : RootFits (Root.Node (l .kind) (l .arg)) × RootFits (Root.Node (r .kind) (r .arg))
+      → checked.Valid ≡ pairChecked (l .kind) (r .kind) → (fits l ≡ true) × (fits r ≡ true)
+  both-fit h p =
+      let n = none-nested (l .kind) (r .kind) p in
+      (root-fits l (h .0) (n .0), root-fits r (h .1) (n .1))
 
-  pub pair-joined : checked.Valid ≡ pairChecked (l .kind) (r .kind) → (c d : Common) → c ≡ commonOf (supertype false s l r) → c ≡ d → foundCommon d ≡ rootSupertype false s l r
-  unfolding rootSupertype
-  pair-joined p c d e h = rw (← p) (ap foundCommon (sym h ∙ e) ∙ found-common (supertype false s l r))
+  module _ (s : Bool) where
+    pub pair-refused : (e : Error) → checked.Refused e ≡ pairChecked (l .kind) (r .kind)
+        → some (refused e) ≡ rootSupertype false s l r
+    unfolding rootSupertype
+    pair-refused e p = rw (← p)
+
+    pub pair-joined : (c : Common) → checked.Valid ≡ pairChecked (l .kind) (r .kind)
+        → c ≡ commonOf (supertype false s l r)
+        → foundCommon c ≡ rootSupertype false s l r
+    unfolding rootSupertype
+    pair-joined c p e = rw (← p) (ap foundCommon e ∙ found-common (supertype false s l r))
 
 -- what is found of the roots of two readings; the implode flag has no part in it
-pub joined : (i s : Bool) (left right : Reading) {found : Option Reading} {l r : Root} → l ≡ rootOf left → r ≡ rootOf right → found ≡ joiningRoots (rootSupertype false s) l r → found ≡ joining (supertypeOf i s) left right
+pub joined : (i s : Bool) (left right : Reading) {found : Option Reading} {l r : Root} → l ≡ rootOf left
+    → r ≡ rootOf right → found ≡ joiningRoots (rootSupertype false s) l r → found ≡ joining (supertypeOf i s) left right
 unfolding supertypeOf rootSupertype
 joined i s left right p q e =
     e ∙ ap₂ (joiningRoots (rootSupertype false s)) p q ∙ sym (joining-roots (rootSupertype false s) left right)
-    ∙ (λ j. joining (λ t u. afterCheck (pairChecked (headKind t) (headKind u)) (foundOf (supertype-laws .implode false i s (rootNode t) (rootNode u) j))) left right)
+    ∙ (λ j. joining
+    (λ t u. afterCheck (pairChecked (headKind t) (headKind u))
+    (foundOf (supertype-laws .implode false i s (rootNode t) (rootNode u) j))) left right)

@@ -1,5 +1,5 @@
 -- The code for two nodes meets the definition, and what an entry point's checks come to.
-pub mod Numbers
-pub mod ByPlan
-pub mod Orders
+mod Numbers
+mod ByPlan
+mod Orders
 pub mod Checks

@@ -1,4 +1,5 @@
--- `get_supertype_with_options` of two valid types: refusals 6 and 13, then the rule. Assumes nothing: these are definitions.
+-- `get_supertype_with_options` of two valid types: refusals 6 and 13, then the rule. Assumes nothing: these are
+-- definitions.
 use mathlib.Core.Bool.{Bool, cond, _&&_, _||_}
 use mathlib.Core.Option.{Option, some}
 use Prim.Native.Nat.{ℕ}
@@ -20,17 +21,21 @@ decimalWithInteger k l = (eqb k Kind.Decimal && isListed l) || (isListed k && eq
 
 -- 6: a nested type; then 13: a Decimal with an integer
 unfoldable pub pairChecked : ℕ → ℕ → Checked
-pairChecked k l = cond (isNested k || isNested l) (Refused Nested) (cond (decimalWithInteger k l) (Refused DecimalWithInteger) Valid)
+pairChecked k l =
+    cond (isNested k || isNested l) (Refused Nested)
+    (cond (decimalWithInteger k l) (Refused DecimalWithInteger)
+    Valid)
 
 -- what was found where a check passes, else its refusal
 abbrev pub afterCheck : Checked → Option Reading → Option Reading
 afterCheck (Refused e) found = some (refused e)
 afterCheck Valid found = found
 
--- of two roots
+-- what a call finds for two roots
 unfoldable pub rootSupertype : Bool → Bool → Node → Node → Option Reading
-rootSupertype implode toString l r = afterCheck (pairChecked (l .kind) (r .kind)) (foundOf (supertype implode toString l r))
+rootSupertype implode toString l r =
+    afterCheck (pairChecked (l .kind) (r .kind)) (foundOf (supertype implode toString l r))
 
--- of two types
+-- what a call finds for two types
 unfoldable pub supertypeOf : Bool → Bool → DataType → DataType → Option Reading
 supertypeOf implode toString l r = rootSupertype implode toString (rootNode l) (rootNode r)

@@ -1,5 +1,5 @@
 // `get_supertype_with_options` of supertype.rs, on flat types.
-pub mod node;
+mod node;
 
 ghost use mathlib.Core.Path.{_≡_};
 ghost use mathlib.Core.Bool.{false};
@@ -35,7 +35,7 @@ fn decimal_with_integer(left: u8, right: u8) -> bool
 }
 
 // Whether two kinds may be joined: refusal 6, then 13.
-pub fn check_pair(left: u8, right: u8) -> Checked
+fn check_pair(left: u8, right: u8) -> Checked
     ensures { λ r. ⌜ r ≡ pairChecked left right ⌝ }
 {
     if is_nested(left) {
@@ -50,6 +50,7 @@ pub fn check_pair(left: u8, right: u8) -> Checked
     Checked::Valid
 }
 
+// What is found for two roots: 6, 13, or the rule.
 fn join_nodes(to_string: bool, a: u8, x: u64, b: u8, y: u64) -> Found
     requires { ⌜ RootFits (Root.Node a x) × RootFits (Root.Node b y) ⌝ }
     ensures { λ t. ⌜ resultOf t ≡ rootSupertype false «to_string» (node a x) (node b y) ⌝ }
@@ -63,7 +64,7 @@ fn join_nodes(to_string: bool, a: u8, x: u64, b: u8, y: u64) -> Found
     }
 }
 
-// Of the roots of two types: the refusal of the left, of the right, 6, 13, or the rule.
+// What is found for the roots of two types: the refusal of the left, of the right, 6, 13, or the rule.
 pub fn join_roots(to_string: bool, left: Root, right: Root) -> Found
     requires { ⌜ RootFits left × RootFits right ⌝ }
     ensures { λ t. ⌜ resultOf t ≡ joiningRoots (rootSupertype false «to_string») left right ⌝ }
@@ -77,7 +78,8 @@ pub fn join_roots(to_string: bool, left: Root, right: Root) -> Found
     }
 }
 
-// The type that two columns get when they are joined, to the front of out_kinds and out_args: refusals 1 to 5 of the left type, of the right, 6, 13, then 8.
+// The type that two columns get when they are joined, to the front of out_kinds and out_args: refusals 1 to 5 of the
+// left type, of the right, 6, 13, then 8.
 pub fn get_supertype_with_options(
     left_kinds: &[u8],
     left_args: &[u64],
@@ -91,7 +93,13 @@ pub fn get_supertype_with_options(
     ensures { λ r. do
       nodes ← ⟦Flat::MAX_NODES⟧ .entry
       deep ← ⟦Flat::MAX_DEPTH⟧ .entry
-      ⌜ WritesFound (fittingFound (length (now («out_kinds» .entry))) (length (now («out_args» .entry))) (joining (supertypeOf «allow_implode_list» «allow_primitive_to_string») (reading nodes deep (now («left_kinds» .entry)) (now («left_args» .entry))) (reading nodes deep (now («right_kinds» .entry)) (now («right_args» .entry))))) (now («out_kinds» .entry)) (now («out_args» .entry)) (now («out_kinds» .exit)) (now («out_args» .exit)) r ⌝ }
+      let left = reading nodes deep (now («left_kinds» .entry)) (now («left_args» .entry))
+      let right = reading nodes deep (now («right_kinds» .entry)) (now («right_args» .entry))
+      let found = joining (supertypeOf «allow_implode_list» «allow_primitive_to_string») left right
+      let ks = now («out_kinds» .entry)
+      let xs = now («out_args» .entry)
+      let fitted = fittingFound (length ks) (length xs) found
+      ⌜ WritesFound fitted ks xs (now («out_kinds» .exit)) (now («out_args» .exit)) r ⌝ }
 {
     let left = flat::check_root(left_kinds, left_args);
     let right = flat::check_root(right_kinds, right_args);

@@ -24,14 +24,14 @@ fn larger(a: u64, b: u64) -> u64
     if a < b { b } else { a }
 }
 
-// The larger scale and the larger precision.
+// The argument of a Decimal with the larger scale and the larger precision.
 fn decimals(x: u64, y: u64) -> u64
     ensures { λ r. ⌜ r ≡ 256 * max (x / 256) (y / 256) + max (x % 256) (y % 256) ⌝ }
 {
     256 * larger(x / 256, y / 256) + larger(x % 256, y % 256)
 }
 
-// The zone of x, and the larger unit, which is the coarser one.
+// The argument of a Datetime with the zone of x, and the larger unit, which is the coarser one.
 fn datetime(x: u64, y: u64) -> u64
     ensures { λ r. ⌜ r ≡ 4 * (x / 4) + max (x % 4) (y % 4) ⌝ }
 {
@@ -68,7 +68,7 @@ fn get_supertype_known(dt: u8, k: u8) -> u8
     numeric(k, dt)
 }
 
-// An integer type with a dyn int.
+// The kind of the supertype of an integer type and a dyn int.
 fn dyn_number(dt: u8, kind: u8, arg: u64) -> u8
     requires { ⌜ (UInt8 ≤ dt) × (dt ≤ Int64) ⌝ }
     ensures { λ r. ⌜ Supertype.Some (node r 0) ≡ dynNumber knownSupertype (node dt 0) (valueOf kind arg) ⌝ }
@@ -84,7 +84,7 @@ fn dyn_number(dt: u8, kind: u8, arg: u64) -> u8
     get_supertype_known(dt, k)
 }
 
-// Two different types, of the kinds a and b in order, with the arguments x and y.
+// The supertype of two different types, of the kinds a and b in order, with the arguments x and y.
 fn ordered(to_string: bool, a: u8, x: u64, b: u8, y: u64) -> Common
     requires { ⌜ (fits (node a x) ≡ true) × (fits (node b y) ≡ true) × Apart a b ⌝ }
     ensures { λ t. ⌜ t ≡ commonOf (run knownSupertype (ruleOf «to_string» a b) (node a x) (node b y)) ⌝ }
@@ -110,7 +110,8 @@ fn ordered(to_string: bool, a: u8, x: u64, b: u8, y: u64) -> Common
     }
 }
 
-// The implode flag has no part in it. The rule is symmetric except for any with String, and for dyn float or a dyn int with str.
+// The supertype of two types that are not nested: the implode flag has no part in it. The rule is symmetric except for
+// any with String, and for dyn float or a dyn int with str.
 pub fn node_supertype(to_string: bool, a: u8, x: u64, b: u8, y: u64) -> Common
     requires { ⌜ (fits (node a x) ≡ true) × (fits (node b y) ≡ true) ⌝ }
     ensures { λ t. ⌜ t ≡ commonOf (supertype false «to_string» (node a x) (node b y)) ⌝ }

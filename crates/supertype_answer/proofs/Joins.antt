@@ -1,56 +1,66 @@
--- What a call comes to that joins two types: None and a refusal leave all as it was. Assumes nothing.
+-- What a call comes to that joins two types: by their roots, and in the lent arrays. Assumes nothing.
 use mathlib.Core.Path.{_≡_, refl, sym, ap}
-use mathlib.Core.List.{List, [], _∷_}
-use mathlib.Core.Option.{Option, none, some}
-use Prim.Native.Nat.{ℕ, _≤_}
+use mathlib.Core.List.{List}
+use mathlib.Core.Option.{Option, some}
+use Prim.Native.Nat.{ℕ}
 use native.Mathlib.Omega.{arith}
 use lib.ListN.{length, set}
-use Rattle.flat.specs.Tree.{leaf, headKind, headArg, size, kindsOf, argsOf}
-use Rattle.flat.specs.Reading.{Reading, refused, type, rootOf}
-use Rattle.flat.specs.Both.{rootReading}
-use Rattle.flat.specs.Output.{fitting, over, kindsOver, argsOver}
+use Rattle.flat.specs.Tree.{DataType, leaf, size, kindsOf, argsOf}
+use Rattle.flat.specs.Reading.{Reading, refused, rootOf}
+use Rattle.flat.specs.Both.{bothOf, rootReading}
+use Rattle.flat.specs.Output.{kindsOver, argsOver, fittingFound, WritesFound}
 use Rattle.flat.specs.declared.error.Error.{Error}
 use Rattle.flat.specs.declared.error.Error.the-variants.{OutputTooShort}
+use Rattle.flat.specs.declared.Optional.{Optional}
 use Rattle.flat.specs.declared.Root.{Root}
 use Rattle.flat.proofs.Outputs.{few-kinds, few-args, room, found-refused}
 use Rattle.flat.proofs.Pairs as pairs
-use Rattle.flat.specs.Output.{fittingFound, WritesFound}
-use Rattle.supertype_answer.specs.Join.{Node, node, Supertype, Some, Nothing, rootNode, foundOf, commonOf, foundCommon, resultOf, joining, joiningRoots}
-use Rattle.supertype_answer.specs.declared.Found.{Found}
-use Rattle.flat.specs.declared.Optional.{Optional}
 use Rattle.flat.proofs.Truths.{over-one}
+use Rattle.supertype_answer.specs.Join.{Node, node, Supertype, Some, Nothing, rootNode, foundOf, commonOf}
+use Rattle.supertype_answer.specs.Join.{foundCommon, resultOf, joining, joiningRoots}
+use Rattle.supertype_answer.specs.declared.Found.{Found}
 
--- ---- what a rule finds that rests on the two roots alone
 pub found-common : (s : Supertype) → foundCommon (commonOf s) ≡ foundOf s
 found-common (Some n) = refl
 found-common Nothing = refl
 
-pub joining-roots : (rule : Node → Node → Option Reading) (left right : Reading) → joining (λ t u. rule (rootNode t) (rootNode u)) left right ≡ joiningRoots rule (rootOf left) (rootOf right)
+-- ---- two roots: a refusal of the left, of the right, or what the rule says
+module _ {A : Type 0} (refusal : Error → A) (rule : DataType → DataType → A) where
+  pub left-refused : {l : Root} {e : Error} (right : Reading) → l ≡ Root.Refused e
+      → refusal e ≡ bothOf refusal rule (rootReading l) right
+  left-refused right h = sym (pairs.left-refused _ _ _ _ (ap rootReading h))
+
+  module _ {l r : Root} {k a : ℕ} (left : l ≡ Root.Node k a) where
+    pub right-refused : {e : Error} → r ≡ Root.Refused e
+        → refusal e ≡ bothOf refusal rule (rootReading l) (rootReading r)
+    right-refused h = sym (pairs.right-refused _ _ _ _ (ap rootReading left) (ap rootReading h))
+
+    pub both-roots : {m b : ℕ} → r ≡ Root.Node m b
+        → rule (leaf k a) (leaf m b) ≡ bothOf refusal rule (rootReading l) (rootReading r)
+    both-roots h = sym (pairs.both-types _ _ _ _ (ap rootReading left) (ap rootReading h))
+
+-- what a rule finds that rests on the two roots alone
+pub joining-roots : (rule : Node → Node → Option Reading) (left right : Reading)
+    → joining (λ t u. rule (rootNode t) (rootNode u)) left right ≡ joiningRoots rule (rootOf left) (rootOf right)
 joining-roots rule = pairs.by-roots (λ e. some (refused e)) (λ k a l b. rule (node k a) (node l b))
-
-module _ (rule : Node → Node → Option Reading) (l r : Root) where
-  pub left-refused : {e : Error} → l ≡ Root.Refused e → some (refused e) ≡ joiningRoots rule l r
-  left-refused h = sym (pairs.left-refused _ _ _ _ (ap rootReading h))
-
-  pub right-refused : {k a : ℕ} {e : Error} → l ≡ Root.Node k a → r ≡ Root.Refused e → some (refused e) ≡ joiningRoots rule l r
-  right-refused h g = sym (pairs.right-refused _ _ _ _ (ap rootReading h) (ap rootReading g))
-
-  pub both-roots : {k a m b : ℕ} → l ≡ Root.Node k a → r ≡ Root.Node m b → rule (node k a) (node m b) ≡ joiningRoots rule l r
-  unfolding headKind headArg
-  both-roots h g = sym (pairs.both-types _ _ _ _ (ap rootReading h) (ap rootReading g))
 
 -- ---- what is written
 module _ (s : Found) (k a : ℕ) (found : s ≡ Found.Some k a) (ks xs : List ℕ) where
-  pub kinds-too-short : length ks ≡ 0 → WritesFound (fittingFound (length ks) (length xs) (resultOf s)) ks xs ks xs (Optional.Refused OutputTooShort)
-  unfolding size
-  kinds-too-short h = rw found (found-refused (ap some (few-kinds (length ks) (length xs) (leaf k a) (omega arith))))
+  -- what there is room for
+  abbrev fitted : Option Reading
+  fitted = fittingFound (length ks) (length xs) (resultOf s)
 
-  pub args-too-short : (length ks ≡ 0 → ⊥) → length xs ≡ 0 → WritesFound (fittingFound (length ks) (length xs) (resultOf s)) ks xs ks xs (Optional.Refused OutputTooShort)
+  pub kinds-too-short : length ks ≡ 0 → WritesFound fitted ks xs ks xs (Optional.Refused OutputTooShort)
   unfolding size
-  args-too-short g h = rw found (found-refused (ap some (few-args (length ks) (length xs) (leaf k a) (omega arith) (omega arith))))
+  kinds-too-short h = rw found (found-refused (ap some (few-kinds _ _ (leaf k a) (omega arith))))
 
-  pub one-node : (length ks ≡ 0 → ⊥) → (length xs ≡ 0 → ⊥) → WritesFound (fittingFound (length ks) (length xs) (resultOf s)) ks xs (set ks 0 k) (set xs 0 a) (Optional.Some 1)
-  unfolding size kindsOf argsOf kindsOver argsOver
-  one-node g h =
-      rw (found, room (length ks) (length xs) (leaf k a) (omega arith) (omega arith))
-      (record { answers = refl; kinds = over-one ks (omega arith) k; args = over-one xs (omega arith) a })
+  module _ (some-kinds : length ks ≡ 0 → ⊥) where
+    pub args-too-short : length xs ≡ 0 → WritesFound fitted ks xs ks xs (Optional.Refused OutputTooShort)
+    unfolding size
+    args-too-short h = rw found (found-refused (ap some (few-args _ _ (leaf k a) (omega arith) (omega arith))))
+
+    pub one-node : (length xs ≡ 0 → ⊥) → WritesFound fitted ks xs (set ks 0 k) (set xs 0 a) (Optional.Some 1)
+    unfolding size kindsOf argsOf kindsOver argsOver
+    one-node h =
+        rw (found, room (length ks) (length xs) (leaf k a) (omega arith) (omega arith))
+        (record { answers = refl; kinds = over-one ks (omega arith) k; args = over-one xs (omega arith) a })

@@ -1,2 +1,3 @@
--- What a call comes to that joins two types.
+-- What a call comes to that joins two types, and what is known of a node.
 pub mod Joins
+pub mod Nodes

@@ -34,7 +34,7 @@ abbrev pub foundOf : Supertype → Option Reading
 foundOf (Some n) = some (type (typeOf n))
 foundOf Nothing = none
 
--- as the code has it, and what was found by that
+-- the Option as the code has it, and what was found by that
 abbrev pub commonOf : Supertype → Common
 commonOf (Some n) = Common.Some (n .kind) (n .arg)
 commonOf Nothing = Common.Nothing
@@ -43,7 +43,7 @@ abbrev pub foundCommon : Common → Option Reading
 foundCommon (Common.Some k a) = some (type (leaf k a))
 foundCommon Common.Nothing = none
 
--- so, or the refusal
+-- what was found, or the refusal of the call
 abbrev pub resultOf : Found → Option Reading
 resultOf (Found.Some k a) = some (type (leaf k a))
 resultOf Found.Nothing = none

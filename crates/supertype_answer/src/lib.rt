@@ -1,5 +1,4 @@
 // What a call answers that joins two types.
-ghost use mathlib.Core.Path.{_≡_};
 ghost use lib.ListN.{length};
 ghost use Rattle.flat.specs.Output.{fittingFound, WritesFound};
 ghost use Rattle.supertype_answer.specs.Join.{resultOf};
@@ -12,7 +11,7 @@ pub enum Common {
     Nothing,
 }
 
-// The same, or the refusal of the call.
+// What a call finds: the type that two types have in common, None, or the refusal of the call.
 pub enum Found {
     Some(u8, u64),
     Nothing,
@@ -21,7 +20,11 @@ pub enum Found {
 
 // Writes the type that was found to the front of out_kinds and out_args: refusal 8.
 pub fn put(found: Found, out_kinds: &mut [u8], out_args: &mut [u64]) -> Optional
-    ensures { λ r. ⌜ WritesFound (fittingFound (length (now («out_kinds» .entry))) (length (now («out_args» .entry))) (resultOf found)) (now («out_kinds» .entry)) (now («out_args» .entry)) (now («out_kinds» .exit)) (now («out_args» .exit)) r ⌝ }
+    ensures { λ r. do
+      let ks = now («out_kinds» .entry)
+      let xs = now («out_args» .entry)
+      let fitted = fittingFound (length ks) (length xs) (resultOf found)
+      ⌜ WritesFound fitted ks xs (now («out_kinds» .exit)) (now («out_args» .exit)) r ⌝ }
 {
     match found {
         Found::Nothing => Optional::Nothing,

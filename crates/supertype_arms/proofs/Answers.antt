@@ -1,28 +1,34 @@
--- From plans of kinds to answers for types: what the definition gives in its two tries is what the plan of the kinds in order gives. Assumes nothing.
+-- From plans of kinds to answers for types: what the definition gives in its two tries is what the plan of the kinds in
+-- order gives. Assumes nothing.
 use mathlib.Core.Path.{_≡_, refl, sym, _∙_, ap, subst}
-use mathlib.Core.Bool.{Bool, true, false, not, _&&_, _||_, and-comm, and-eq-true-iff}
+use mathlib.Core.Bool.{Bool, true, false, not, _&&_, _||_, and-comm, and-false}
 use mathlib.Core.List.{[], _∷_}
 use Prim.Native.Nat.{ℕ, _≤_, _<_}
 use native.Mathlib.Nat.{max-comm}
 use native.Mathlib.Omega.{arith}
 use native.Mathlib.Decide.{ℕ-discrete}
 use lib.Dec.{T, leb, ltb, eqb, eqb→eq}
-use borrow.Author.Tests.{eq-eqb, ne-eqb, eqb-true, leb-true, le-ltb, lt-leb}
-use Rattle.flat.specs.Kind.{Duration, Datetime, String, UnknownAny, UnknownStr, UnknownFloat, UnknownIntPos, UnknownIntNeg, Field}
-use Rattle.flat.specs.Argument.{follows, argumentFits, ruleOf as argumentRule}
-use Rattle.flat.proofs.Rules.{in-run, area, in-area, and-left, and-right, or-right, isZero, zero-follows}
+use borrow.Author.Tests.{eq-eqb, ne-eqb, leb-true, le-ltb, lt-leb}
+use Rattle.flat.specs.Kind.{Duration, Datetime, String, UnknownAny, UnknownStr, UnknownFloat, UnknownIntPos}
+use Rattle.flat.specs.Kind.{UnknownIntNeg}
+use Rattle.flat.specs.Argument.{argumentFits, argumentRule}
+use Rattle.flat.proofs.Rules.{in-run, area, in-area, and-left, and-right, or-right, implies, isZero}
+use Rattle.flat.proofs.Truths.{never, is-true, to-T, both-true}
 use Rattle.dtype.specs.Match.{among}
 use Rattle.dtype.specs.Predicate.{isUnknownInt}
 use Rattle.dtype.specs.Equality.{equalNode}
-use Rattle.dtype.specs.TimeUnit.{unitNumber}
+use Rattle.dtype.specs.TimeUnit.{unitNumber, unitOf}
 use Rattle.dtype.specs.declared.time_unit.TimeUnit.{TimeUnit}
 use Rattle.dtype.specs.declared.time_unit.TimeUnit.the-variants.{Nanoseconds, Microseconds, Milliseconds}
 use Rattle.dtype.specs.TimeUnits.{getTimeUnits}
 use Rattle.supertype_answer.specs.Join.{Node, Supertype, Some, Nothing, node}
+use Rattle.supertype_answer.proofs.Nodes.{no-argument}
 use Rattle.dtype.proofs.Coarser.{coarser}
 use Rattle.supertype_arms.specs.declared.plan.Plan.{Plan}
-use Rattle.supertype_arms.specs.declared.plan.Plan.the-variants.{No, Left, Right, Kind, Decimals, DatetimeDuration, Datetimes, Durations, DynNumber, DynBoolean, DynDecimal}
-use Rattle.supertype_arms.specs.Node.{unitAt, unit, zone, same, plain, fits}
+use Rattle.supertype_arms.specs.declared.plan.Plan.the-variants.{No, Left, Right, Kind, Decimals}
+use Rattle.supertype_arms.specs.declared.plan.Plan.the-variants.{DatetimeDuration, Datetimes, Durations}
+use Rattle.supertype_arms.specs.declared.plan.Plan.the-variants.{DynNumber, DynBoolean, DynDecimal}
+use Rattle.supertype_arms.specs.Node.{unitIn, unit, zone, same, plain, fits}
 use Rattle.supertype_arms.specs.Supertype.{is, planOf, pick, Call, sameZone, run, orElse, inner, supertypeWith}
 use Rattle.supertype_arms.specs.Rule.{turn, orPlan, ruleOf, skip, Apart}
 use Rattle.supertype_arms.proofs.Areas.{alike, alike-eq, right-at}
@@ -30,19 +36,12 @@ use Rattle.supertype_arms.proofs.Areas.{alike, alike-eq, right-at}
 -- ---- Booleans and answers
 
 or-no : (a b : Bool) → (a || b) ≡ false → (a ≡ false) × (b ≡ false)
-or-no true b e = absurd (subst T e tt)
+or-no true b e = never (sym e)
 or-no false b e = (refl, e)
 
 or-cases : (x y : Bool) {X : Type 0} → T (x || y) → (T x → X) → (T y → X) → X
 or-cases true y t f g = f t
 or-cases false y t f g = g t
-
-pub is-true : (b : Bool) → T b → b ≡ true
-is-true true t = refl
-is-true false t = absurd t
-
-pub to-T : {b : Bool} → b ≡ true → T b
-to-T e = subst T (sym e) tt
 
 or-nothing : (s : Supertype) → orElse s Nothing ≡ s
 or-nothing (Some n) = refl
@@ -57,24 +56,27 @@ eqb-sym a b = go (ℕ-discrete a b)
 
 pub same-sym : (l r : Node) → same l r ≡ same r l
 unfolding equalNode
-same-sym l r = λ i. and-comm (isUnknownInt (l .kind)) (isUnknownInt (r .kind)) i || (eqb-sym (l .kind) (r .kind) i && eqb-sym (l .arg) (r .arg) i)
+same-sym l r =
+    λ i. and-comm (isUnknownInt (l .kind)) (isUnknownInt (r .kind)) i
+    || (eqb-sym (l .kind) (r .kind) i && eqb-sym (l .arg) (r .arg) i)
 
 -- ---- types that fit
 
 module _ (n : Node) (f : fits n ≡ true) where
   both : (leb (n .kind) UnknownIntNeg ≡ true) × (argumentFits (n .kind) (n .arg) ≡ true)
   unfolding fits
-  both = and-eq-true-iff (leb (n .kind) UnknownIntNeg) (argumentFits (n .kind) (n .arg)) .0 f
+  both = both-true (leb (n .kind) UnknownIntNeg) _ f
 
   pub in-range : n .kind ≤ UnknownIntNeg
   in-range = leb-true (n .kind) UnknownIntNeg (both .0)
 
   -- a kind that has no argument has the argument 0
   pub plain-zero : plain (n .kind) ≡ true → n .arg ≡ 0
-  unfolding plain argumentFits argumentRule among
+  unfolding plain argumentRule among
   plain-zero p =
-      let zero : T (isZero (argumentRule (n .kind))) = or-right (isZero (argumentRule (n .kind))) (ap not p) (in-run (λ k. not (plain k) || isZero (argumentRule k)) 0 28 tt (n .kind) (omega arith) (omega (arith, in-range))) in
-      eqb-true (n .arg) 0 (zero-follows (argumentRule (n .kind)) (n .arg) zero ∙ and-eq-true-iff (leb (n .kind) Field) (follows (argumentRule (n .kind)) (n .arg)) .0 (both .1) .1)
+      let low : n .kind < 28 = omega (arith, in-range) in
+      let t = in-run (λ k. not (plain k) || isZero (argumentRule k)) 0 28 tt (n .kind) (omega arith) low in
+      no-argument (n .kind) (n .arg) (implies (plain (n .kind)) _ t (to-T p)) (both .1)
 
 pub same-node : (n : Node) → n .arg ≡ 0 → node (n .kind) 0 ≡ n
 same-node n e = λ i. record { kind = n .kind; arg = sym e i }
@@ -137,9 +139,10 @@ zones x y = go (ℕ-discrete x 0) (ℕ-discrete y 0)
     go (yes e) (no f) = simp (eq-eqb x 0 e, ne-eqb y 0 f, ne-eqb x y (λ g. f (omega arith)))
     go (no e) d = simp (ne-eqb x 0 e)
 
-pick-twice : (a b : Bool) (x y : Node) → a ≡ b → orElse (pick a (Some x) Nothing) (pick b (Some y) Nothing) ≡ pick a (Some x) Nothing
+pick-twice : (a b : Bool) (x y : Node) → a ≡ b
+    → orElse (pick a (Some x) Nothing) (pick b (Some y) Nothing) ≡ pick a (Some x) Nothing
 pick-twice true b x y e = refl
-pick-twice false true x y e = absurd (subst T (sym e) tt)
+pick-twice false true x y e = never e
 pick-twice false false x y e = refl
 
 module _ (call : Call) (l r : Node) where
@@ -151,7 +154,9 @@ module _ (call : Call) (l r : Node) where
   merged (Kind k) q t = refl
   merged Decimals q t = refl
   merged DatetimeDuration q t = refl
-  merged Datetimes q t = rw (alike-eq q Datetimes t) (pick-twice _ _ _ _ (zones (zone l) (zone r) ∙ eqb-sym (zone l) (zone r) ∙ sym (zones (zone r) (zone l))))
+  merged Datetimes q t =
+      rw (alike-eq q Datetimes t)
+      (pick-twice _ _ _ _ (zones (zone l) (zone r) ∙ eqb-sym (zone l) (zone r) ∙ sym (zones (zone r) (zone l))))
   merged Durations q t = refl
   merged DynNumber q t = none-after call l r DynNumber q t
   merged DynBoolean q t = none-after call l r DynBoolean q t
@@ -160,7 +165,9 @@ module _ (call : Call) (l r : Node) where
 -- ---- the laws
 
 -- two different types: both tries run a plan
-pub tries : (call : Call) (s : Bool) (l r : Node) → same l r ≡ false → supertypeWith call s l r ≡ orElse (run call (planOf s (l .kind) (r .kind)) l r) (run call (planOf s (r .kind) (l .kind)) r l)
+pub tries : (call : Call) (s : Bool) (l r : Node) → same l r ≡ false
+    → supertypeWith call s l r
+    ≡ orElse (run call (planOf s (l .kind) (r .kind)) l r) (run call (planOf s (r .kind) (l .kind)) r l)
 unfolding supertypeWith inner
 tries call s l r e = rw (e, sym (same-sym l r) ∙ e)
 
@@ -175,20 +182,35 @@ of-flag f t false = and-right (f true) (f false) t
 
 pub at-apart : (f : Bool → ℕ → ℕ → Bool) → T (everywhere f) → (s : Bool) (a b : ℕ) → Apart a b → T (f s a b)
 unfolding everywhere
-at-apart f t s a b h = of-flag (λ s. f s a b) (or-right (f true a b && f false a b) (h .two) (in-area (λ a b. skip a b || (f true a b && f false a b)) 0 28 0 28 t a b (omega arith))) s
+at-apart f t s a b h =
+    of-flag (λ s. f s a b)
+    (or-right (f true a b && f false a b) (h .two)
+    (in-area (λ a b. skip a b || (f true a b && f false a b)) 0 28 0 28 t a b (omega arith))) s
 
 -- two types in the order of their kinds
-pub settled : (call : Call) (s : Bool) (l r : Node) → Apart (l .kind) (r .kind) → same l r ≡ false → supertypeWith call s l r ≡ run call (ruleOf s (l .kind) (r .kind)) l r
+pub settled : (call : Call) (s : Bool) (l r : Node) → Apart (l .kind) (r .kind) → same l r ≡ false
+    → supertypeWith call s l r ≡ run call (ruleOf s (l .kind) (r .kind)) l r
 unfolding ruleOf
 settled call s l r h e =
     tries call s l r e
-    ∙ merged call l r (planOf s (l .kind) (r .kind)) (planOf s (r .kind) (l .kind)) (at-apart (λ s a b. merges (planOf s a b) (planOf s b a)) (unfold everywhere in tt) s (l .kind) (r .kind) h)
+    ∙ merged call l r (planOf s (l .kind) (r .kind)) (planOf s (r .kind) (l .kind))
+    (at-apart (λ s a b. merges (planOf s a b) (planOf s b a)) (unfold everywhere in tt) s (l .kind) (r .kind) h)
 
 -- ---- the other order
 
 -- any with String, and dyn float or a dyn int with str: the two orders differ
 unfoldable pub lopsided : ℕ → ℕ → Bool
-lopsided a b = (is UnknownAny a && is String b) || (among (UnknownFloat ∷ UnknownIntPos ∷ UnknownIntNeg ∷ []) a && is UnknownStr b)
+lopsided a b =
+    (is UnknownAny a && is String b) || (among (UnknownFloat ∷ UnknownIntPos ∷ UnknownIntNeg ∷ []) a && is UnknownStr b)
+
+-- pairs that don't depend on their order
+pub level-any : (a b : ℕ) → a ≡ UnknownAny → (b ≡ String → ⊥) → lopsided a b ≡ false
+unfolding lopsided among
+level-any a b e n = rw (e, ne-eqb b String n)
+
+pub level : (a b : ℕ) → (a ≡ UnknownAny → ⊥) → (b ≡ UnknownStr → ⊥) → lopsided a b ≡ false
+unfolding lopsided
+level a b m n = rw (ne-eqb a UnknownAny m, ne-eqb b UnknownStr n, and-false)
 
 -- the test t holds, and the plans p and q are these
 abbrev these : Bool → Plan → Plan → Plan → Plan → Bool
@@ -199,27 +221,36 @@ of-these t p x q y u =
     let v = and-right t _ u in
     (and-left t _ u, alike-eq p x (and-left (alike p x) _ v), alike-eq q y (and-right (alike p x) _ v))
 
--- (a, b) out of order and its plans p of (a, b) and q of (b, a): their answers don't depend on which is tried first. One plan gives none, the two are one, one
--- names the kind of the type that the other gives, or a Duration meets a Datetime
+-- (a, b) out of order and its plans p of (a, b) and q of (b, a): their answers don't depend on which is tried first.
+-- One plan gives none, the two are one, one names the kind of the type that the other gives, or a Duration meets a
+-- Datetime
 abbrev swaps : ℕ → ℕ → Plan → Plan → Bool
 swaps a b p q =
     alike p No || (alike q No || ((turns q && alike p (turn q))
-    || (these (plain a) p Left q (Kind a) || (these (plain b) p (Kind b) q Left || these (is Duration a && is Datetime b) p DatetimeDuration q DatetimeDuration))))
+    || (these (plain a) p Left q (Kind a)
+    || (these (plain b) p (Kind b) q Left
+    || these (is Duration a && is Datetime b) p DatetimeDuration q DatetimeDuration))))
 
 swap-of : (s : Bool) (a b : ℕ) → b < a → Apart b a → lopsided a b ≡ false → T (swaps a b (planOf s a b) (planOf s b a))
 swap-of s a b lt h n =
     or-right (swaps a b (planOf s a b) (planOf s b a)) n
     (or-right (lopsided a b || swaps a b (planOf s a b) (planOf s b a)) (lt-leb a b lt)
-    (at-apart (λ s b a. leb a b || (lopsided a b || swaps a b (planOf s a b) (planOf s b a))) (unfold everywhere lopsided in tt) s b a h))
+    (at-apart (λ s b a. leb a b || (lopsided a b || swaps a b (planOf s a b) (planOf s b a)))
+    (unfold everywhere lopsided in tt) s b a h))
 
--- the coarser of two units is the same in either order
-of-number : (u : TimeUnit) → unitAt (unitNumber u) ≡ u
+-- a unit is read back from its number
+of-number : (u : TimeUnit) → unitIn (unitOf (unitNumber u)) ≡ u
+unfolding unitOf
 of-number Nanoseconds = refl
 of-number Microseconds = refl
 of-number Milliseconds = refl
 
-pub units-sym : (u v : TimeUnit) → getTimeUnits u v ≡ getTimeUnits v u
-units-sym u v = sym (of-number (getTimeUnits u v)) ∙ ap unitAt (coarser u v ∙ max-comm (unitNumber u) (unitNumber v) ∙ sym (coarser v u)) ∙ of-number (getTimeUnits v u)
+-- the coarser of two units, in either order
+units-sym : (u v : TimeUnit) → getTimeUnits u v ≡ getTimeUnits v u
+units-sym u v =
+    sym (of-number (getTimeUnits u v))
+    ∙ ap (λ (n : ℕ). unitIn (unitOf n)) (coarser u v ∙ max-comm (unitNumber u) (unitNumber v) ∙ sym (coarser v u))
+    ∙ of-number (getTimeUnits v u)
 
 module _ (call : Call) (l r : Node) (fl : fits l ≡ true) (fr : fits r ≡ true) where
   -- the answers of p and q, whichever is tried first
@@ -231,7 +262,8 @@ module _ (call : Call) (l r : Node) (fl : fits l ≡ true) (fr : fits r ≡ true
   swapped p q t =
       or-cases (alike p No) _ t (λ u. rw (alike-eq p No u) (sym (or-nothing (run call q r l))))
       (λ t. or-cases (alike q No) _ t (λ u. rw (alike-eq q No u) (or-nothing (run call p l r)))
-      (λ t. or-cases (turns q && alike p (turn q)) _ t (λ u. rw (alike-eq p (turn q) (and-right (turns q) _ u), turned call l r q (and-left (turns q) _ u)))
+      (λ t. or-cases (turns q && alike p (turn q)) _ t
+      (λ u. rw (alike-eq p (turn q) (and-right (turns q) _ u), turned call l r q (and-left (turns q) _ u)))
       (λ t. or-cases (these (plain (l .kind)) p Left q (Kind (l .kind))) _ t named-left
       (λ t. or-cases (these (plain (r .kind)) p (Kind (r .kind)) q Left) _ t named-right timed))))
     where
@@ -245,7 +277,8 @@ module _ (call : Call) (l r : Node) (fl : fits l ≡ true) (fr : fits r ≡ true
           let v = of-these (plain (r .kind)) p (Kind (r .kind)) q Left u in
           rw (v .1, v .2) (ap Some (same-node r (plain-zero r fr (is-true (plain (r .kind)) (v .0)))))
 
-      timed : T (these (is Duration (l .kind) && is Datetime (r .kind)) p DatetimeDuration q DatetimeDuration) → Level p q
+      timed : T (these (is Duration (l .kind) && is Datetime (r .kind)) p DatetimeDuration q DatetimeDuration)
+          → Level p q
       timed u =
           let v = of-these (is Duration (l .kind) && is Datetime (r .kind)) p DatetimeDuration q DatetimeDuration u in
           let a = eqb→eq (l .kind) Duration (and-left (is Duration (l .kind)) _ (v .0)) in
@@ -253,28 +286,37 @@ module _ (call : Call) (l r : Node) (fl : fits l ≡ true) (fr : fits r ≡ true
           rw (v .1, v .2, a, b, units-sym (unit l) (unit r))
 
 -- two types against the order of their kinds, the lopsided pairs apart
-pub either-order : (call : Call) (s : Bool) (l r : Node) → fits l ≡ true → fits r ≡ true → r .kind < l .kind → Apart (r .kind) (l .kind) → lopsided (l .kind) (r .kind) ≡ false → same l r ≡ false → supertypeWith call s l r ≡ supertypeWith call s r l
+pub either-order : (call : Call) (s : Bool) (l r : Node) → fits l ≡ true → fits r ≡ true → r .kind < l .kind
+    → Apart (r .kind) (l .kind) → lopsided (l .kind) (r .kind) ≡ false → same l r ≡ false
+    → supertypeWith call s l r ≡ supertypeWith call s r l
 either-order call s l r fl fr lt h n e =
     tries call s l r e
-    ∙ swapped call l r fl fr (planOf s (l .kind) (r .kind)) (planOf s (r .kind) (l .kind)) (swap-of s (l .kind) (r .kind) lt h n)
+    ∙ swapped call l r fl fr (planOf s (l .kind) (r .kind)) (planOf s (r .kind) (l .kind))
+    (swap-of s (l .kind) (r .kind) lt h n)
     ∙ sym (tries call s r l (same-sym r l ∙ e))
 
 -- ---- two different types are apart
 
-apart : (l r : Node) → fits l ≡ true → fits r ≡ true → same l r ≡ false → l .kind ≤ r .kind → skip (l .kind) (r .kind) ≡ false
+apart : (l r : Node) → fits l ≡ true → fits r ≡ true → same l r ≡ false → l .kind ≤ r .kind
+    → skip (l .kind) (r .kind) ≡ false
 unfolding skip equalNode
 apart l r fl fr e h = go (plain (l .kind)) refl (ℕ-discrete (l .kind) (r .kind))
   where
-    neither : ((isUnknownInt (l .kind) && isUnknownInt (r .kind)) ≡ false) × ((eqb (l .kind) (r .kind) && eqb (l .arg) (r .arg)) ≡ false)
-    neither = or-no (isUnknownInt (l .kind) && isUnknownInt (r .kind)) (eqb (l .kind) (r .kind) && eqb (l .arg) (r .arg)) e
+    neither : ((isUnknownInt (l .kind) && isUnknownInt (r .kind)) ≡ false)
+        × ((eqb (l .kind) (r .kind) && eqb (l .arg) (r .arg)) ≡ false)
+    neither =
+        or-no (isUnknownInt (l .kind) && isUnknownInt (r .kind)) (eqb (l .kind) (r .kind) && eqb (l .arg) (r .arg)) e
 
-    go : (b : Bool) → plain (l .kind) ≡ b → Dec (l .kind ≡ r .kind) → ((isUnknownInt (l .kind) && isUnknownInt (r .kind)) || (eqb (l .kind) (r .kind) && b) || ltb (r .kind) (l .kind)) ≡ false
+    go : (b : Bool) → plain (l .kind) ≡ b → Dec (l .kind ≡ r .kind)
+        → ((isUnknownInt (l .kind) && isUnknownInt (r .kind)) || (eqb (l .kind) (r .kind) && b)
+        || ltb (r .kind) (l .kind)) ≡ false
     go b p (no n) = rw (neither .0, ne-eqb (l .kind) (r .kind) n, le-ltb (r .kind) (l .kind) h)
     go false p (yes k) = rw (neither .0, eq-eqb (l .kind) (r .kind) k, le-ltb (r .kind) (l .kind) h)
     go true p (yes k) =
         let x : l .arg ≡ 0 = plain-zero l fl p in
         let y : r .arg ≡ 0 = plain-zero r fr (subst (λ (j : ℕ). plain j ≡ true) k p) in
-        absurd (subst T (rw (eq-eqb (l .kind) (r .kind) k, eq-eqb (l .arg) (r .arg) (omega arith)) at (neither .1)) tt)
+        never (sym (rw (eq-eqb (l .kind) (r .kind) k, eq-eqb (l .arg) (r .arg) (omega arith)) at (neither .1)))
 
-pub are-apart : (l r : Node) → fits l ≡ true → fits r ≡ true → same l r ≡ false → l .kind ≤ r .kind → Apart (l .kind) (r .kind)
+pub are-apart : (l r : Node) → fits l ≡ true → fits r ≡ true → same l r ≡ false → l .kind ≤ r .kind
+    → Apart (l .kind) (r .kind)
 are-apart l r fl fr e h = record { in-order = h; in-range = in-range r fr; two = apart l r fl fr e h }

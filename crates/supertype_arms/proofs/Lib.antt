@@ -1,4 +1,5 @@
 -- The rows meet the definition, and what the definition comes to.
 pub mod Areas
 pub mod Answers
+pub mod Bare
 pub mod Recursive

@@ -1,4 +1,5 @@
--- What holds of the supertype of any two types that are not nested. Assumes nothing: these are statements, proved in proofs/Recursive.antt.
+-- What holds of the supertype of any two types that are not nested. Assumes nothing: these are statements, proved in
+-- proofs/Recursive.antt.
 use mathlib.Core.Path.{_≡_}
 use mathlib.Core.Bool.{Bool, true, false}
 use lib.IntN.{ℤ}
@@ -10,14 +11,16 @@ use Rattle.supertype_arms.specs.Node.{same, fits}
 use Rattle.supertype_arms.specs.Supertype.{planOf, maxDyn, supertypeWith, supertype}
 
 pub record SupertypeLaws : Type 0 where
-  -- the implode flag changes no answer: the source reads it in its nested arms alone, and the definition has none of them
+  -- the implode flag changes no answer: the source reads it in its nested arms alone, which the definition has not
   pub implode : (i j s : Bool) (l r : Node) → supertype i s l r ≡ supertype j s l r
   -- the source's own recursion: the calls that its arms make are calls of the function itself, with its default flags
-  pub recursive : (i s : Bool) (l r : Node) → fits l ≡ true → fits r ≡ true → supertype i s l r ≡ supertypeWith (supertype false true) s l r
+  pub recursive : (i s : Bool) (l r : Node) → fits l ≡ true → fits r ≡ true
+      → supertype i s l r ≡ supertypeWith (supertype false true) s l r
   -- corner 1: two dyn ints are equal whatever they hold, so the left one returns
-  pub dyn-ints : (i s : Bool) (l r : Node) → isUnknownInt (l .kind) ≡ true → isUnknownInt (r .kind) ≡ true → supertype i s l r ≡ Some l
-  -- the arm of two dyn ints takes the larger value of the two ...
+  pub dyn-ints : (i s : Bool) (l r : Node) → isUnknownInt (l .kind) ≡ true → isUnknownInt (r .kind) ≡ true
+      → supertype i s l r ≡ Some l
+  -- the arm of two dyn ints takes the larger value of the two
   pub maximum : (v w : ℤ) → v ≤ℤ w → (maxDyn v w ≡ w) × (maxDyn w v ≡ w)
-  -- ... but never answers: the types that would reach it are equal, which `inner` asks first
-  pub no-maximum : (s : Bool) (l r : Node) → fits l ≡ true → fits r ≡ true → planOf s (l .kind) (r .kind) ≡ DynNumber → isUnknownInt (l .kind) ≡ true
-      → same l r ≡ true
+  -- the arm of two dyn ints never answers: the types that would reach it are equal, which `inner` asks first
+  pub no-maximum : (s : Bool) (l r : Node) → fits l ≡ true → fits r ≡ true → planOf s (l .kind) (r .kind) ≡ DynNumber
+      → isUnknownInt (l .kind) ≡ true → same l r ≡ true

@@ -1,17 +1,18 @@
 -- The parts of a node's argument, and the types that have them. Assumes nothing: these are definitions.
-use mathlib.Core.Bool.{Bool, cond, not}
+use mathlib.Core.Bool.{Bool, not}
 use mathlib.Core.List.{[], _∷_}
 use Prim.Native.Nat.{ℕ, _+_, _*_, _/_, _%_}
-use lib.Dec.{eqb}
 use lib.IntN.{ℤ, pos, negsuc}
 use Rattle.flat.specs.Kind
 use Rattle.flat.specs.Argument.{leafFits}
 use Rattle.dtype.specs.Match.{among}
-use Rattle.dtype.specs.TimeUnit.{unitNumber}
-use Rattle.supertype_numbers.specs.DynInt.{valueOf}
+use Rattle.dtype.specs.TimeUnit.{unitNumber, unitOf}
 use Rattle.dtype.specs.Equality.{equalNode}
 use Rattle.dtype.specs.declared.time_unit.TimeUnit.{TimeUnit}
-use Rattle.dtype.specs.declared.time_unit.TimeUnit.the-variants.{Nanoseconds, Microseconds, Milliseconds}
+use Rattle.dtype.specs.declared.time_unit.TimeUnit.the-variants.{Milliseconds}
+use Rattle.dtype.specs.declared.time_unit.Unit.{Unit}
+use Rattle.dtype.specs.declared.time_unit.Unit.the-variants.{Of, Refused}
+use Rattle.supertype_numbers.specs.DynInt.{valueOf}
 use Rattle.supertype_answer.specs.Join.{Node, node}
 
 -- Decimal(precision, scale): 256 × scale + precision
@@ -24,12 +25,14 @@ scale n = n .arg / 256
 abbrev pub decimal : ℕ → ℕ → Node
 decimal p s = node Kind.Decimal (256 * s + p)
 
--- Datetime(unit, zone): 4 × zone + unit, zone 0 for none; Duration(unit) has the unit alone
-abbrev pub unitAt : ℕ → TimeUnit
-unitAt n = cond (eqb n (unitNumber Nanoseconds)) Nanoseconds (cond (eqb n (unitNumber Microseconds)) Microseconds Milliseconds)
+-- the unit that was read: a type has one, and where there is none Milliseconds stands for it
+abbrev pub unitIn : Unit → TimeUnit
+unitIn (Of u) = u
+unitIn (Refused e) = Milliseconds
 
+-- Datetime(unit, zone): 4 × zone + unit, zone 0 for none; Duration(unit) has the unit alone
 abbrev pub unit : Node → TimeUnit
-unit n = unitAt (n .arg % 4)
+unit n = unitIn (unitOf (n .arg % 4))
 
 abbrev pub zone : Node → ℕ
 zone n = n .arg / 4

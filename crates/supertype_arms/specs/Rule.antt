@@ -1,10 +1,13 @@
--- The plan of two kinds in ascending order: what the definition answers for them in either of its two tries. Assumes nothing: these are definitions.
+-- The plan of two kinds in ascending order: what the definition answers for them in either of its two tries. Assumes
+-- nothing: these are definitions.
 use mathlib.Core.Path.{_≡_}
 use mathlib.Core.Bool.{Bool, false, _&&_, _||_}
 use Prim.Native.Nat.{ℕ, _≤_}
 use lib.Dec.{ltb, eqb}
 use Rattle.supertype_arms.specs.declared.plan.Plan.{Plan}
-use Rattle.supertype_arms.specs.declared.plan.Plan.the-variants.{No, Left, Right, Kind, Decimals, DatetimeDuration, Datetimes, Durations, DynNumber, DynBoolean, DynDecimal}
+use Rattle.supertype_arms.specs.declared.plan.Plan.the-variants.{No, Left, Right, Kind, Decimals}
+use Rattle.supertype_arms.specs.declared.plan.Plan.the-variants.{DatetimeDuration, Datetimes, Durations}
+use Rattle.supertype_arms.specs.declared.plan.Plan.the-variants.{DynNumber, DynBoolean, DynDecimal}
 use Rattle.flat.specs.Kind.{UnknownIntNeg}
 use Rattle.dtype.specs.Predicate.{isUnknownInt}
 use Rattle.supertype_arms.specs.Node.{plain}

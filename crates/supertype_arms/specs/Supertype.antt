@@ -1,20 +1,26 @@
--- `get_supertype_with_options` of supertype.rs for two types that are not nested: its `inner`, arm by arm in the source's order, then `or_else` the other
--- way round. Assumes nothing: these are definitions.
+-- `get_supertype_with_options` of supertype.rs for two types that are not nested: its `inner`, arm by arm in the
+-- source's order, then `or_else` the other way round. Assumes nothing: these are definitions.
 use mathlib.Core.Bool.{Bool, true, false, cond, not, _&&_, _||_}
 use mathlib.Core.List.{List, [], _∷_}
 use Prim.Native.Nat.{ℕ, max}
 use lib.Dec.{eqb}
 use lib.IntN.{ℤ}
 use lib.Signed.{leZ, nonNeg}
-use Rattle.flat.specs.Kind.{Null, Boolean, UInt8, UInt16, UInt32, UInt64, UInt128, Int8, Int16, Int32, Int64, Int128, Float16, Float32, Float64, Decimal, String, Binary, Date, Datetime, Duration, Time, UnknownAny, UnknownStr, UnknownFloat}
-use Rattle.dtype.specs.Predicate.{isFloat, isUnknownInt, isSignedInteger, isUnsignedInteger, isInteger, isPrimitiveNumeric, isPrimitive, isString, isUnknown}
+use Rattle.flat.specs.Kind.{Null, Boolean, UInt8, UInt16, UInt32, UInt64, UInt128, Int8, Int16, Int32, Int64, Int128}
+use Rattle.flat.specs.Kind.{Float16, Float32, Float64, Decimal, String, Binary, Date, Datetime, Duration, Time}
+use Rattle.flat.specs.Kind.{UnknownAny, UnknownStr, UnknownFloat}
+use Rattle.dtype.specs.Predicate.{isFloat, isUnknownInt, isSignedInteger, isUnsignedInteger, isInteger}
+use Rattle.dtype.specs.Predicate.{isPrimitiveNumeric, isPrimitive, isString, isUnknown}
 use Rattle.dtype.specs.Physical.{physicalKind}
 use Rattle.supertype_numbers.specs.DynInt.{materializeDynInt, materializeDynIntPos, materializeSmallestDynInt}
 use Rattle.dtype.specs.TimeUnits.{getTimeUnits}
 use Rattle.supertype_answer.specs.Join.{Node, Supertype, Some, Nothing, node}
-use Rattle.supertype_arms.specs.Node.{precision, scale, decimal, unit, zone, datetime, duration, value, dynInt, same}
+use Rattle.supertype_arms.specs.Node.{precision, scale, decimal, unit, zone, datetime, duration}
+use Rattle.supertype_arms.specs.Node.{value, dynInt, same}
 use Rattle.supertype_arms.specs.declared.plan.Plan.{Plan}
-use Rattle.supertype_arms.specs.declared.plan.Plan.the-variants.{No, Left, Right, Kind, Decimals, DatetimeDuration, Datetimes, Durations, DynNumber, DynBoolean, DynDecimal}
+use Rattle.supertype_arms.specs.declared.plan.Plan.the-variants.{No, Left, Right, Kind, Decimals}
+use Rattle.supertype_arms.specs.declared.plan.Plan.the-variants.{DatetimeDuration, Datetimes, Durations}
+use Rattle.supertype_arms.specs.declared.plan.Plan.the-variants.{DynNumber, DynBoolean, DynDecimal}
 
 -- ---- the arms
 
@@ -167,7 +173,8 @@ arms toString =
     ∷ Time & Float32 ⇒ Float64
     ∷ Time & Float64 ⇒ Float64
     -- `&&` binds before `||`
-    ∷ arm (λ dt. not (is UnknownAny dt) && not (is Binary dt) && toString || not (isPrimitive (physicalKind dt))) (is String) (Kind String)
+    ∷ arm (λ dt. not (is UnknownAny dt) && not (is Binary dt) && toString || not (isPrimitive (physicalKind dt)))
+    (is String) (Kind String)
     ∷ String & Binary ⇒ Binary
     ∷ arm every (is Null) Left
     -- with a zone or without one: the Datetime's own zone
@@ -212,7 +219,7 @@ Call = Node → Node → Supertype
 unfoldable pub smallestFitting : ℕ → ℤ → ℕ
 smallestFitting dt v = cond (isUnsignedInteger dt && nonNeg v) (materializeDynIntPos v) (materializeSmallestDynInt v)
 
--- and what it is joined to
+-- what the smallest fitting type is joined to
 unfoldable pub dynNumber : Call → Node → ℤ → Supertype
 dynNumber getSupertype dt v =
     pick (is UInt64 (dt .kind) && isSignedInteger (smallestFitting (dt .kind) v)) (Some (node Int64 0))
@@ -229,11 +236,14 @@ run getSupertype Left l r = Some l
 run getSupertype Right l r = Some r
 run getSupertype (Kind k) l r = Some (node k 0)
 run getSupertype Decimals l r = Some (decimal (max (precision l) (precision r)) (max (scale l) (scale r)))
-run getSupertype DatetimeDuration l r = Some (datetime (getTimeUnits (unit l) (unit r)) (cond (is Datetime (l .kind)) (zone l) (zone r)))
-run getSupertype Datetimes l r = pick (sameZone (zone l) (zone r)) (Some (datetime (getTimeUnits (unit l) (unit r)) (zone r))) Nothing
+run getSupertype DatetimeDuration l r =
+    Some (datetime (getTimeUnits (unit l) (unit r)) (cond (is Datetime (l .kind)) (zone l) (zone r)))
+run getSupertype Datetimes l r =
+    pick (sameZone (zone l) (zone r)) (Some (datetime (getTimeUnits (unit l) (unit r)) (zone r))) Nothing
 run getSupertype Durations l r = Some (duration (getTimeUnits (unit l) (unit r)))
 -- the maximum, were the left a dyn int too; but two dyn ints are equal
-run getSupertype DynNumber l r = pick (isUnknownInt (l .kind)) (Some (dynInt (maxDyn (value r) (value l)))) (dynNumber getSupertype l (value r))
+run getSupertype DynNumber l r =
+    pick (isUnknownInt (l .kind)) (Some (dynInt (maxDyn (value r) (value l)))) (dynNumber getSupertype l (value r))
 run getSupertype DynBoolean l r = getSupertype l (node (materializeDynInt (value r)) 0)
 -- DEC128_MAX_PREC is 38
 run getSupertype DynDecimal l r = Some (decimal 38 (scale l))
@@ -254,6 +264,7 @@ supertypeWith getSupertype toString l r = orElse (inner getSupertype toString l 
 unfoldable pub knownSupertype : Call
 knownSupertype = supertypeWith (λ l r. Nothing) true
 
--- `get_supertype_with_options`, its two flags explicit: the inner calls of the dyn arms meet known types only (proofs/Recursive.antt)
+-- `get_supertype_with_options`, its two flags explicit: the inner calls of the dyn arms meet known types only
+-- (proofs/Recursive.antt)
 unfoldable pub supertype : Bool → Bool → Node → Node → Supertype
 supertype implode toString = supertypeWith knownSupertype toString

@@ -1,7 +1,8 @@
 // The rows of Boolean, the integers and the floats, 1 to 14.
 ghost use mathlib.Core.Path.{_≡_};
 ghost use Prim.Native.Nat.{_≤_, max};
-ghost use Rattle.flat.specs.Kind.{UInt8, UInt128, Int8, Int128, Boolean, Float16, Float64, Date, Time, UnknownFloat, UnknownIntNeg};
+ghost use Rattle.flat.specs.Kind.{Boolean, UInt8, UInt128, Int8, Int128, Float16, Float64, Date, Time};
+ghost use Rattle.flat.specs.Kind.{UnknownFloat, UnknownIntNeg};
 ghost use Rattle.supertype_arms.specs.Rule.{ruleOf, Apart, Settles};
 use crate::plan::Plan;
 use crate::row::string_if;
@@ -45,7 +46,7 @@ fn to_float(a: u8, b: u8) -> u8
     }
 }
 
-// Two of them.
+// Two of Boolean, the integers and the floats.
 pub fn numeric(a: u8, b: u8) -> u8
     requires { ⌜ Apart a b × (Boolean ≤ a) × (b ≤ Float64) ⌝ }
     ensures { λ r. ⌜ Settles a b (Plan.Kind r) ⌝ }
@@ -63,7 +64,7 @@ pub fn numeric(a: u8, b: u8) -> u8
     b
 }
 
-// With Date, Datetime, Duration or Time.
+// Boolean, an integer or a float with Date, Datetime, Duration or Time.
 fn timed(a: u8, b: u8) -> Plan
     requires { ⌜ (Boolean ≤ a) × (a ≤ Float64) × (Date ≤ b) × (b ≤ Time) ⌝ }
     ensures { λ r. ⌜ Settles a b r ⌝ }
@@ -98,7 +99,7 @@ fn timed(a: u8, b: u8) -> Plan
     }
 }
 
-// With dyn float or a dyn int.
+// Boolean, an integer or a float with dyn float or a dyn int.
 fn dynamic(a: u8, b: u8) -> Plan
     requires { ⌜ (Boolean ≤ a) × (a ≤ Float64) × (UnknownFloat ≤ b) × (b ≤ UnknownIntNeg) ⌝ }
     ensures { λ r. ⌜ Settles a b r ⌝ }
@@ -121,7 +122,7 @@ fn dynamic(a: u8, b: u8) -> Plan
     Plan::DynNumber
 }
 
-// With any kind that is not below it.
+// Boolean, an integer or a float with any kind that is not below it.
 pub fn number_row(to_string: bool, a: u8, b: u8) -> Plan
     requires { ⌜ Apart a b × (Boolean ≤ a) × (a ≤ Float64) ⌝ }
     ensures { λ r. ⌜ r ≡ ruleOf «to_string» a b ⌝ }

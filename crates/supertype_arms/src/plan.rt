@@ -5,7 +5,8 @@ use crate::number::number_row;
 use crate::row;
 use flat::kind::Kind;
 
-// What an arm answers for two types: None, one of them, a type of a kind without an argument, or one made of their arguments.
+// What an arm answers for two types: None, one of them, a type of a kind without an argument, or one made of their
+// arguments.
 pub enum Plan {
     No,
     Left,

@@ -26,7 +26,7 @@ fn left_if(to_string: bool) -> Plan
     if to_string { Plan::Left } else { Plan::No }
 }
 
-// str with them: the left type where primitives may become strings, else any.
+// str with dyn float or a dyn int: the left type where primitives may become strings, else any.
 fn str_if(to_string: bool) -> Plan
     ensures { λ r. ⌜ r ≡ cond «to_string» Plan.Left (Plan.Kind UnknownAny) ⌝ }
 {

@@ -9,18 +9,17 @@ use lib.Dec.{T, leb, eqb, leb→le, T-not}
 use borrow.Author.Tests.{eqb-true}
 use Rattle.flat.specs.Kind
 use Rattle.flat.proofs.Rules.{and-left, and-right, and-both, implies, area, in-area}
-use Rattle.dtype.specs.Match.{among}
-use Rattle.dtype.specs.Predicate.{isFloat, isUnknownInt, isSignedInteger, isUnsignedInteger, isInteger, isNested, isUnknown}
+use Rattle.flat.proofs.Truths.{impossible}
 use Rattle.supertype_numbers.specs.Range.{Listed, isListed, Covers, Least, Room}
 use Rattle.supertype_numbers.specs.Format.{Format, formatOf, FormatIncludes}
 use Rattle.supertype_numbers.proofs.Tests.{to-listed, each, at, pairs, at-pair}
 use Rattle.supertype_numbers.proofs.Ranges.{inside, includes, least-one}
 use Rattle.supertype_numbers.proofs.Formats.{wider-format}
-use Rattle.supertype_lossless.specs.Lossless.{upcastBy, floats, signed, unsigned, mixed, upcastWhere, upcastOf}
+use Rattle.supertype_lossless.specs.Lossless.{upcastOf}
 use Rattle.supertype_lossless.specs.Laws.{LosslessLaws}
 use Rattle.supertype_lossless.specs.declared.upcast.Upcast.{Upcast}
 use Rattle.supertype_lossless.specs.declared.upcast.Upcast.the-variants.{To, Nothing}
-use Rattle.supertype_lossless.proofs.Upcasts.{apart, of-apart}
+use Rattle.supertype_lossless.proofs.Upcasts.{right as right-kinds, apart, of-apart}
 
 -- ---- integers
 
@@ -35,7 +34,7 @@ abbrev right : ℕ → ℕ → Bool
 right l r = least l r (upcastOf l r)
 
 tested : T (pairs (apart right))
-unfolding isListed upcastOf upcastWhere upcastBy signed unsigned mixed among isFloat isUnknownInt isSignedInteger isUnsignedInteger isInteger isNested isUnknown
+unfolding isListed right-kinds
 tested = tt
 
 module _ (l r : ℕ) (p : Listed l) (q : Listed r) where
@@ -45,8 +44,10 @@ module _ (l r : ℕ) (p : Listed l) (q : Listed r) where
   is-least : (t : ℕ) → T (least l r (To t)) → Least t (l ∷ r ∷ [])
   is-least t e = record {
     is-listed = h;
-    covers = (includes t l h p .1 (and-left (inside t l) (inside t r) o), (includes t r h q .1 (and-right (inside t l) (inside t r) o), tt));
-    innermost = λ u i c. includes u t i h .1 (implies (over l r u) (inside u t) (at (λ u. not (over l r u) || inside u t) m u i) (covered u i c));
+    covers = (includes t l h p .1 (and-left (inside t l) _ o), (includes t r h q .1 (and-right (inside t l) _ o), tt));
+    innermost =
+        λ u i c. includes u t i h .1
+        (implies (over l r u) _ (at (λ u. not (over l r u) || inside u t) m u i) (covered u i c));
   }
     where
       h : Listed t
@@ -89,12 +90,17 @@ module _ (l r : ℕ) (p : Listed l) (q : Listed r) where
 
 -- the format h has the bits of f, and reaches as far down and up
 abbrev wider : Format → Format → Bool
-wider h f = leb (f .precision) (h .precision) && leb (f .emax + f .precision) (h .emax + h .precision) && leb (f .emax + 1 - f .precision) (h .emax + 1 - h .precision)
+wider h f =
+    leb (f .precision) (h .precision)
+    && (leb (f .emax + f .precision) (h .emax + h .precision)
+    && leb (f .emax + 1 - f .precision) (h .emax + 1 - h .precision))
 
 is-wider : (h f : Format) → T (wider h f) → FormatIncludes h f
 is-wider h f t =
-    let s = and-left (leb (f .precision) (h .precision) && leb (f .emax + f .precision) (h .emax + h .precision)) _ t in
-    wider-format h f (leb→le _ _ (and-left (leb (f .precision) (h .precision)) _ s)) (leb→le _ _ (and-right (leb (f .precision) (h .precision)) _ s)) (leb→le _ _ (and-right (leb (f .precision) (h .precision) && leb (f .emax + f .precision) (h .emax + h .precision)) _ t))
+    let s = and-right (leb (f .precision) (h .precision)) _ t in
+    let up = leb (f .emax + f .precision) (h .emax + h .precision) in
+    wider-format h f (leb→le _ _ (and-left (leb (f .precision) (h .precision)) _ t)) (leb→le _ _ (and-left up _ s))
+    (leb→le _ _ (and-right up _ s))
 
 -- the test of a format, where there is one
 abbrev ofFormat : Option Format → (Format → Bool) → Bool
@@ -106,31 +112,43 @@ ofUpcast (To t) p = ofFormat (formatOf t) p
 ofUpcast Nothing p = false
 
 abbrev kept : ℕ → ℕ → Bool
-kept l r = ofFormat (formatOf l) (λ f. ofFormat (formatOf r) (λ g. ofUpcast (upcastOf l r) (λ h. wider h f && wider h g)))
+kept l r =
+    ofFormat (formatOf l) (λ f. ofFormat (formatOf r) (λ g. ofUpcast (upcastOf l r) (λ h. wider h f && wider h g)))
 
 tested-floats : T (area (apart kept) Kind.Float16 3 Kind.Float16 3)
-unfolding formatOf upcastOf upcastWhere upcastBy floats among isFloat isUnknownInt isSignedInteger isUnsignedInteger isInteger isNested isUnknown
+unfolding formatOf right-kinds
 tested-floats = tt
 
 is-float : (k : ℕ) (f : Format) → formatOf k ≡ some f → (Kind.Float16 ≤ k) × (k < Kind.Float16 + 3)
 unfolding formatOf
 is-float k f = go (eqb k Kind.Float16) (eqb k Kind.Float32) (eqb k Kind.Float64) _ _ _ refl refl refl
   where
-    go : (a b c : Bool) (x y z : Format) → eqb k Kind.Float16 ≡ a → eqb k Kind.Float32 ≡ b → eqb k Kind.Float64 ≡ c → cond a (some x) (cond b (some y) (cond c (some z) none)) ≡ some f → (Kind.Float16 ≤ k) × (k < Kind.Float16 + 3)
+    go : (a b c : Bool) (x y z : Format) → eqb k Kind.Float16 ≡ a → eqb k Kind.Float32 ≡ b → eqb k Kind.Float64 ≡ c
+        → cond a (some x) (cond b (some y) (cond c (some z) none)) ≡ some f
+        → (Kind.Float16 ≤ k) × (k < Kind.Float16 + 3)
     go true b c x y z p q r e = omega (arith, eqb-true)
     go false true c x y z p q r e = omega (arith, eqb-true)
     go false false true x y z p q r e = omega (arith, eqb-true)
-    go false false false x y z p q r e = absurd (let z : _≡_ {A = ℕ} 0 1 = cc in omega arith)
+    go false false false x y z p q r e = impossible cc
 
 module _ (l r : ℕ) (f g : Format) (p : formatOf l ≡ some f) (q : formatOf r ≡ some g) (d : l ≡ r → ⊥) where
-  has-both : (t : ℕ) × (h : Format) × (upcastOf l r ≡ To t) × (formatOf t ≡ some h) × FormatIncludes h f × FormatIncludes h g
-  has-both = go (upcastOf l r) refl (rw (p, q) at (of-apart kept l r d (in-area (apart kept) Kind.Float16 3 Kind.Float16 3 tested-floats l r (is-float l f p, is-float r g q))))
-    where
-      at-format : (t : ℕ) → upcastOf l r ≡ To t → (o : Option Format) → formatOf t ≡ o → T (ofFormat o (λ h. wider h f && wider h g)) → (t : ℕ) × (h : Format) × (upcastOf l r ≡ To t) × (formatOf t ≡ some h) × FormatIncludes h f × FormatIncludes h g
-      at-format t e none s i = absurd i
-      at-format t e (some h) s i = (t, h, e, s, is-wider h f (and-left (wider h f) (wider h g) i), is-wider h g (and-right (wider h f) (wider h g) i))
+  -- the upcast has a format that includes both
+  abbrev Wide : Type 0
+  Wide =
+      (t : ℕ) × (h : Format) × (upcastOf l r ≡ To t) × (formatOf t ≡ some h) × FormatIncludes h f × FormatIncludes h g
 
-      go : (a : Upcast) → upcastOf l r ≡ a → T (ofUpcast a (λ h. wider h f && wider h g)) → (t : ℕ) × (h : Format) × (upcastOf l r ≡ To t) × (formatOf t ≡ some h) × FormatIncludes h f × FormatIncludes h g
+  has-both : Wide
+  has-both =
+      let t = in-area (apart kept) Kind.Float16 3 Kind.Float16 3 tested-floats l r (is-float l f p, is-float r g q) in
+      go (upcastOf l r) refl (rw (p, q) at (of-apart kept l r d t))
+    where
+      at-format : (t : ℕ) → upcastOf l r ≡ To t → (o : Option Format) → formatOf t ≡ o
+          → T (ofFormat o (λ h. wider h f && wider h g)) → Wide
+      at-format t e none s i = absurd i
+      at-format t e (some h) s i =
+          (t, h, e, s, is-wider h f (and-left (wider h f) _ i), is-wider h g (and-right (wider h f) _ i))
+
+      go : (a : Upcast) → upcastOf l r ≡ a → T (ofUpcast a (λ h. wider h f && wider h g)) → Wide
       go (To t) e i = at-format t e (formatOf t) refl i
       go Nothing e i = absurd i
 

@@ -1,4 +1,4 @@
 -- The upcast by kinds, and its laws.
-mod Upcasts
+pub mod Upcasts
 pub mod Roots
 pub mod Laws

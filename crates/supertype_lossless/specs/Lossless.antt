@@ -1,4 +1,5 @@
--- `get_numeric_upcast_supertype_lossless` of supertype.rs, arm by arm in the source's order. Assumes nothing: these are definitions.
+-- `get_numeric_upcast_supertype_lossless` of supertype.rs, arm by arm in the source's order. Assumes nothing: these are
+-- definitions.
 use mathlib.Core.Bool.{Bool, cond, _&&_, _||_}
 use mathlib.Core.List.{List, [], _∷_}
 use mathlib.Core.Option.{Option, none, some}
@@ -23,7 +24,8 @@ infix 68 _⇒_
 abbrev pub _⇒_ : List ℕ → Upcast → UpcastArm
 ks ⇒ a = record { kinds = ks; answer = a }
 
--- the answer of the first arm that takes a side; behind the last arm the source has None, or a panic where it is debugged, and no pair comes there
+-- the answer of the first arm that takes a side; behind the last arm the source has None, or a panic where it is
+-- debugged, and no pair comes there
 unfoldable pub upcastBy : List UpcastArm → ℕ → ℕ → Upcast
 upcastBy [] l r = Nothing
 upcastBy (x ∷ xs) l r = cond (among (x .kinds) l || among (x .kinds) r) (x .answer) (upcastBy xs l r)
@@ -59,7 +61,7 @@ mixed =
     ∷ (UInt8 ∷ Int16 ∷ []) ⇒ To Int16
     ∷ []
 
--- of two kinds, by whether the two types are equal
+-- the upcast of two kinds, by whether the two types are equal
 unfoldable pub upcastWhere : Bool → ℕ → ℕ → Upcast
 upcastWhere same l r =
     cond (isUnknown l || isUnknown r || isNested l || isNested r || same) Nothing
@@ -69,23 +71,23 @@ upcastWhere same l r =
     (cond (isInteger l && isInteger r) (upcastBy mixed l r)
     Nothing))))
 
--- of two types
+-- the upcast of two types
 unfoldable pub lossless : DataType → DataType → Upcast
 lossless l r = upcastWhere (equal l r) (headKind l) (headKind r)
 
--- of two types without an argument, by their kinds
+-- the upcast of two types without an argument, by their kinds
 unfoldable pub upcastOf : ℕ → ℕ → Upcast
 upcastOf l r = upcastWhere (eqb l r) l r
 
--- as what a call found
+-- an upcast as what a call found
 abbrev pub foundUpcast : Upcast → Option Reading
 foundUpcast (To k) = some (type (leaf k 0))
 foundUpcast Nothing = none
 
--- of two roots, by their kinds
+-- what a call finds for two roots, by their kinds
 unfoldable pub rootUpcast : Node → Node → Option Reading
 rootUpcast l r = foundUpcast (upcastOf (l .kind) (r .kind))
 
--- of two types
+-- what a call finds for two types
 unfoldable pub losslessOf : DataType → DataType → Option Reading
 losslessOf l r = foundUpcast (lossless l r)

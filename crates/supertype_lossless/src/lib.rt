@@ -15,7 +15,7 @@ use supertype_answer::put;
 use upcast::Upcast;
 use upcast::upcast_kinds;
 
-// Of the roots of two types: the refusal of the left, of the right, or the upcast by their kinds.
+// What is found for the roots of two types: the refusal of the left, of the right, or the upcast by their kinds.
 pub fn upcast_roots(left: Root, right: Root) -> Found
     ensures { λ t. ⌜ resultOf t ≡ joiningRoots rootUpcast left right ⌝ }
 {
@@ -31,8 +31,8 @@ pub fn upcast_roots(left: Root, right: Root) -> Found
     }
 }
 
-// The smallest numeric type that keeps every number of both, where there is one and the two differ, to the front of out_kinds and out_args: refusals 1 to 5
-// of the left type, of the right, then 8.
+// The smallest numeric type that keeps every number of both, where there is one and the two differ, to the front of
+// out_kinds and out_args: refusals 1 to 5 of the left type, of the right, then 8.
 pub fn get_numeric_upcast_supertype_lossless(
     left_kinds: &[u8],
     left_args: &[u64],
@@ -44,7 +44,13 @@ pub fn get_numeric_upcast_supertype_lossless(
     ensures { λ r. do
       nodes ← ⟦Flat::MAX_NODES⟧ .entry
       deep ← ⟦Flat::MAX_DEPTH⟧ .entry
-      ⌜ WritesFound (fittingFound (length (now («out_kinds» .entry))) (length (now («out_args» .entry))) (joining losslessOf (reading nodes deep (now («left_kinds» .entry)) (now («left_args» .entry))) (reading nodes deep (now («right_kinds» .entry)) (now («right_args» .entry))))) (now («out_kinds» .entry)) (now («out_args» .entry)) (now («out_kinds» .exit)) (now («out_args» .exit)) r ⌝ }
+      let left = reading nodes deep (now («left_kinds» .entry)) (now («left_args» .entry))
+      let right = reading nodes deep (now («right_kinds» .entry)) (now («right_args» .entry))
+      let found = joining losslessOf left right
+      let ks = now («out_kinds» .entry)
+      let xs = now («out_args» .entry)
+      let fitted = fittingFound (length ks) (length xs) found
+      ⌜ WritesFound fitted ks xs (now («out_kinds» .exit)) (now («out_args» .exit)) r ⌝ }
 {
     let left = flat::check_root(left_kinds, left_args);
     let right = flat::check_root(right_kinds, right_args);

@@ -11,14 +11,14 @@ pub enum Upcast {
     Nothing,
 }
 
-// Of two kinds of one class: the larger code is the wider type.
+// The upcast of two kinds of one class: the larger code is the wider type.
 fn wider(l: u8, r: u8) -> u8
     ensures { λ a. ⌜ a ≡ max l r ⌝ }
 {
     if l < r { r } else { l }
 }
 
-// Of an unsigned type and a signed one. Six above UInt8 to UInt64 stands the signed type of twice the width.
+// The upcast of an unsigned type and a signed one. Six above UInt8 to UInt64 stands the signed type of twice the width.
 fn mixed(u: u8, s: u8) -> Upcast
     requires { ⌜ (UInt8 ≤ u) × (u ≤ UInt128) × (Int8 ≤ s) × (s ≤ Int128) ⌝ }
     ensures { λ a. ⌜ (a ≡ upcastOf u s) × (a ≡ upcastOf s u) ⌝ }
@@ -29,7 +29,7 @@ fn mixed(u: u8, s: u8) -> Upcast
     Upcast::To(wider(u + 6, s))
 }
 
-// Of any two kinds.
+// The upcast of any two kinds.
 pub fn upcast_kinds(l: u8, r: u8) -> Upcast
     ensures { λ a. ⌜ a ≡ upcastOf l r ⌝ }
 {

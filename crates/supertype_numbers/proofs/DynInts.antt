@@ -35,8 +35,8 @@ smallest-dyn-int = record { is = λ v. refl }
 abbrev limit : ℕ → ℕ
 limit t = 2 ^ bits (isSignedInteger t) (widthOf t)
 
--- of the arguments from lo on and below hi, where v is not below 0 if p is true: the first type that holds any v holds all of them, and is x.
--- antt computes it.
+-- Of the arguments from lo on and below hi, where v is not below 0 if p is true: the first type that holds any v holds all
+-- of them, and is x. antt computes it.
 unfoldable pub first : Bool → ℕ → ℕ → List ℕ → ℕ → ℕ → Bool
 unfolding isSignedInteger among
 first p lo hi [] other x = eqb x other
@@ -75,7 +75,7 @@ module _ {f : ℤ → ℕ} {ts : List ℕ} {other : ℕ} (d : First f ts other) 
   pub if-neg : (k ≡ Kind.UnknownIntPos → ⊥) → T (first false lo hi ts other x) → x ≡ f (valueOf k a)
   if-neg e = of-sign false (ne-eqb k Kind.UnknownIntPos e)
 
-  -- whichever sign
+  -- v has either sign
   pub if-any : T (first true lo hi ts other x) → T (first false lo hi ts other x) → x ≡ f (valueOf k a)
   if-any s t = go (eqb k Kind.UnknownIntPos) refl
     where

@@ -1,4 +1,5 @@
--- When the range of an integer type includes another: one law over the signs and the widths, and what it comes to for the ten. Assumes nothing.
+-- When the range of an integer type includes another: one law over the signs and the widths, and what it comes to for the
+-- ten. Assumes nothing.
 use mathlib.Core.Path.{_≡_, sym, subst}
 use mathlib.Core.Bool.{Bool, true, false, not, _&&_, _||_}
 use mathlib.Core.Logic.{_↔_}
@@ -18,7 +19,7 @@ use Rattle.supertype_numbers.proofs.Integers.{bits, in-range}
 use Rattle.supertype_numbers.specs.Range.{Listed, Includes, Least}
 use Rattle.supertype_numbers.proofs.Tests.{at-pair}
 
--- z is in a range by its sign and its size
+-- z is in the range of a type by its sign and its size
 module _ (s : Bool) (w : ℕ) (z : ℤ) where
   into : T (s || nonNeg z) → mag z < 2 ^ bits s w → T (inRange s w z)
   into i l = subst T (sym (in-range s w z)) (and-both (s || nonNeg z) _ i (lt→ltb (mag z) (2 ^ bits s w) l))
@@ -74,7 +75,7 @@ module _ (s : Bool) (w : ℕ) (t : Bool) (v : ℕ) where
   law =
       ((λ h. and-both (s || not t) _ (least h) (le→leb (bits t v) (bits s w) (most h))), (λ i. all (and-left (s || not t) _ i) (leb→le (bits t v) (bits s w) (and-right (s || not t) _ i))))
 
--- of two kinds, by their signs and widths
+-- whether the range of t includes that of k, by their signs and widths
 abbrev pub inside : ℕ → ℕ → Bool
 inside t k = within (isSignedInteger t) (widthOf t) (isSignedInteger k) (widthOf k)
 
@@ -87,10 +88,10 @@ includes t k p q =
 abbrev apart : ℕ → ℕ → Bool
 apart a b = not (inside a b && inside b a) || eqb a b
 
-pub same : (a b : ℕ) → Listed a → Listed b → Includes a b → Includes b a → a ≡ b
+same : (a b : ℕ) → Listed a → Listed b → Includes a b → Includes b a → a ≡ b
 unfolding isSignedInteger among
 same a b p q f g = eqb→eq a b (implies (inside a b && inside b a) (eqb a b) (at-pair apart tt a b p q) (and-both (inside a b) (inside b a) (includes a b p q .0 f) (includes b a q p .0 g)))
 
--- so that there is one least type
+-- at most one type is the least over the same types
 pub least-one : {ks : List ℕ} {t u : ℕ} → Least t ks → Least u ks → t ≡ u
 least-one {ks} {t} {u} l m = same t u (l .is-listed) (m .is-listed) (m .innermost t (l .is-listed) (l .covers)) (l .innermost u (m .is-listed) (m .covers))

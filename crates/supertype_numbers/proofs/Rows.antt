@@ -1,14 +1,15 @@
 -- The fixed table of the integer types: the row of each, and what comparing two of them tells. Assumes nothing.
-use mathlib.Core.Path.{_≡_, sym, ap, ap₂, subst, _∙_}
+use mathlib.Core.Path.{_≡_, sym, ap, ap₂, _∙_}
 use mathlib.Core.Bool.{Bool, true, false, cond}
 use mathlib.Core.Logic.{_↔_}
 use mathlib.Core.List.{List, [], _∷_}
 use Prim.Native.Nat.{ℕ, zero, suc, _+_, _-_, _≤_, _<_}
 use native.Mathlib.Omega.{arith}
 use native.Mathlib.Decide.{ℕ-discrete as decEq}
-use lib.Dec.{T, leb, ltb}
+use lib.Dec.{leb, ltb}
 use lib.ListN.{getD}
 use Rattle.flat.specs.Kind
+use Rattle.flat.proofs.Truths.{is-true, to-T}
 use Rattle.dtype.specs.Match.{among}
 use Rattle.dtype.specs.Predicate.{isSignedInteger}
 use Rattle.dtype.proofs.Runs.{same, are-same}
@@ -34,20 +35,30 @@ row-from lo (suc n) k d l h = go (decEq k lo) (λ m. row-from (suc lo) n k d m (
 pub row-at : (k : ℕ) → Listed k → getD (rowsFrom Kind.UInt8 10) (k - Kind.UInt8) (record { width = 0; signed = false }) ≡ rowOf k
 row-at k l = row-from Kind.UInt8 10 k _ (l .0) (omega arith)
 
--- what two rows come to
+-- what the code compares: the signs of two rows, then their widths
 abbrev pub compared : IntegerType → IntegerType → Bool
-compared a b = cond (a .signed) (cond (b .signed) (leb (b .width) (a .width)) (ltb (b .width) (a .width))) (cond (b .signed) false (leb (b .width) (a .width)))
+compared a b =
+    cond (a .signed)
+    (cond (b .signed) (leb (b .width) (a .width)) (ltb (b .width) (a .width)))
+    (cond (b .signed) false (leb (b .width) (a .width)))
 
 compared-inside : (t k : ℕ) → Listed t → Listed k → compared (rowOf t) (rowOf k) ≡ inside t k
 unfolding rowOf isSignedInteger among
 compared-inside t k p q = are-same _ _ (at-pair (λ t k. same (compared (rowOf t) (rowOf k)) (inside t k)) tt t k p q)
 
--- an answer that is that comparison, of the rows of two types
-pub told : {t k : ℕ} → Listed t × Listed k → {a b : IntegerType} → a ≡ rowOf t → b ≡ rowOf k → {r : Bool} → r ≡ compared a b → (r ≡ true) ↔ Includes t k
-told {t} {k} l e f g =
-    let h = g ∙ ap₂ compared e f ∙ compared-inside t k (l .0) (l .1) in
-    let i = includes t k (l .0) (l .1) in
-    ((λ y. i .1 (subst T (sym y ∙ h) tt)), (λ n. h ∙ go (inside t k) (i .0 n)))
-  where
-    go : (b : Bool) → T b → b ≡ true
-    go b t = sym (are-same true b t)
+-- two listed kinds, and their rows
+pub record TwoRows : Type 0 where
+  pub t : ℕ
+  pub k : ℕ
+  pub a : IntegerType
+  pub b : IntegerType
+  pub listed : Listed t × Listed k
+  pub left : a ≡ rowOf t
+  pub right : b ≡ rowOf k
+
+-- an answer that compares the rows tells whether one range includes the other
+pub told : (p : TwoRows) {r : Bool} → r ≡ compared (p .a) (p .b) → (r ≡ true) ↔ Includes (p .t) (p .k)
+told p {r} e =
+    let i = includes (p .t) (p .k) (p .listed .0) (p .listed .1) in
+    let h : r ≡ inside (p .t) (p .k) = e ∙ ap₂ compared (p .left) (p .right) ∙ compared-inside (p .t) (p .k) (p .listed .0) (p .listed .1) in
+    ((λ y. i .1 (to-T (sym h ∙ y))), (λ n. h ∙ is-true (inside (p .t) (p .k)) (i .0 n)))

@@ -1,4 +1,5 @@
--- The ranges of the integer types over the whole numbers, by width and sign: the Rust Reference. Assumes nothing: these are definitions.
+-- The ranges of the integer types over the whole numbers, by width and sign: the Rust Reference. Assumes nothing: these
+-- are definitions.
 use mathlib.Core.Bool.{Bool, true, false, cond, _&&_}
 use mathlib.Core.List.{List, [], _∷_}
 use Prim.Native.Nat.{ℕ, _-_, _^_}

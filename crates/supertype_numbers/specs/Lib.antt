@@ -1,4 +1,5 @@
--- Which numbers a column of each type could hold: the ranges of the integer types, the dyn integer helpers, and the float formats.
+-- Which numbers a column of each type could hold: the ranges of the integer types, the dyn integer helpers, and the
+-- float formats.
 pub mod Integer
 pub mod DynInt
 pub mod Range

@@ -1,5 +1,5 @@
--- The ten integer types, document 01's listed ones: when the range of one includes another, and which is the least over some. Assumes nothing: these are
--- definitions.
+-- The ten integer types, document 01's listed ones: when the range of one includes another, and which is the least over
+-- some. Assumes nothing: these are definitions.
 use mathlib.Core.Bool.{Bool, _&&_}
 use mathlib.Core.List.{List, [], _∷_}
 use Prim.Native.Nat.{ℕ, _≤_}
@@ -12,7 +12,7 @@ use Rattle.supertype_numbers.specs.Integer.{holds}
 abbrev pub Listed : ℕ → Type 0
 Listed k = (Kind.UInt8 ≤ k) × (k ≤ Kind.Int128)
 
--- the same as a test
+-- whether a kind is listed
 unfoldable pub isListed : ℕ → Bool
 isListed k = leb Kind.UInt8 k && leb k Kind.Int128
 

@@ -1,4 +1,5 @@
-// The ten integer types, document 01's listed ones: their widths and signs in one fixed table, and whether one holds all numbers of another.
+// The ten integer types, document 01's listed ones: their widths and signs in one fixed table, and whether one holds
+// all numbers of another.
 ghost use mathlib.Core.Path.{_≡_};
 ghost use mathlib.Core.Bool.{true};
 ghost use mathlib.Core.Logic.{_↔_};
@@ -6,12 +7,13 @@ ghost use Rattle.supertype_numbers.specs.Range.{Listed, isListed, Includ
 ghost use Rattle.supertype_numbers.specs.Table.{rowOf};
 use flat::kind::Kind;
 
+// A row of the table: the width in bits, and whether the type has a sign.
 pub struct IntegerType {
     pub width: u8,
     pub signed: bool,
 }
 
-// From UInt8 on, in the order of the kinds.
+// The rows from UInt8 on, in the order of the kinds.
 const INTEGERS: [IntegerType; 10] = [
     IntegerType {
         width: 8, // UInt8
@@ -55,7 +57,7 @@ const INTEGERS: [IntegerType; 10] = [
     },
 ];
 
-// Whether a kind is one of them.
+// Whether a kind is a listed integer type.
 pub fn is_listed(kind: u8) -> bool
     ensures { λ r. ⌜ r ≡ isListed kind ⌝ }
 {
@@ -65,7 +67,7 @@ pub fn is_listed(kind: u8) -> bool
     }
 }
 
-// The row of a kind.
+// The row of a listed kind.
 pub fn integer(k: u8) -> IntegerType
     requires { ⌜ Listed k ⌝ }
     ensures { λ r. ⌜ r ≡ rowOf k ⌝ }

@@ -10,6 +10,7 @@ use lib.IntN.{ℤ, pos}
 use borrow.Author.Tests.{eqb-true}
 use Rattle.flat.specs.Kind.{UInt64, UInt128, Int8, Int16, Int32, Int64, Int128, Float64}
 use Rattle.flat.proofs.Rules.{and-left, and-right}
+use Rattle.flat.proofs.Truths.{never, to-T}
 use Rattle.dtype.specs.Match.{among}
 use Rattle.dtype.specs.Predicate.{isSignedInteger}
 use Rattle.supertype_answer.specs.Join.{Some, node}
@@ -18,8 +19,8 @@ use Rattle.supertype_numbers.proofs.Tests.{to-listed}
 use Rattle.supertype_lossless.specs.Lossless.{upcastOf}
 use Rattle.supertype_lossless.specs.declared.upcast.Upcast.the-variants.{To}
 use Rattle.supertype_arms.specs.Supertype.{supertype}
-use Rattle.supertype_arms.proofs.Answers.{to-T}
-use Rattle.supertype_report.specs.Laws.{uint128WithSigned, uint64WithSigned, Logged, left, right, MadeOne, NumberLaws}
+use Rattle.supertype_report.specs.Laws.{uint128WithSigned, signedTo64, uint64WithSigned, Logged, left, right}
+use Rattle.supertype_report.specs.Laws.{MadeOne, NumberLaws}
 use Rattle.supertype_report.proofs.Rounding.{merged}
 use Rattle.supertype_report.proofs.Pairs.{joined, is-joined, Answered, float64, integral, answered, told}
 
@@ -56,11 +57,12 @@ both-listed {u} {js} {a} {b} l t (second m e) = (among-listed js t a m, subst Li
 
 uint128-listed : (a b : ℕ) → uint128WithSigned a b ≡ true → Listed a × Listed b
 unfolding isListed uint128WithSigned isSignedInteger
-uint128-listed a b e = both-listed (omega arith) tt (one-is UInt128 (Int8 ∷ Int16 ∷ Int32 ∷ Int64 ∷ Int128 ∷ []) a b (to-T e))
+uint128-listed a b e =
+    both-listed (omega arith) tt (one-is UInt128 (Int8 ∷ Int16 ∷ Int32 ∷ Int64 ∷ Int128 ∷ []) a b (to-T e))
 
-uint64-is : (a b : ℕ) → uint64WithSigned a b ≡ true → OneIs UInt64 (Int8 ∷ Int16 ∷ Int32 ∷ Int64 ∷ []) a b
+uint64-is : (a b : ℕ) → uint64WithSigned a b ≡ true → OneIs UInt64 signedTo64 a b
 unfolding uint64WithSigned
-uint64-is a b e = one-is UInt64 (Int8 ∷ Int16 ∷ Int32 ∷ Int64 ∷ []) a b (to-T e)
+uint64-is a b e = one-is UInt64 signedTo64 a b (to-T e)
 
 uint64-listed : (a b : ℕ) → uint64WithSigned a b ≡ true → Listed a × Listed b
 unfolding isListed
@@ -70,7 +72,7 @@ uint64-listed a b e = both-listed (omega arith) tt (uint64-is a b e)
 pub uint64-logged : (a b : ℕ) → uint64WithSigned a b ≡ true → (z : ℤ) → Holds UInt64 z → Logged a b z
 uint64-logged a b e z h = go (uint64-is a b e)
   where
-    go : OneIs UInt64 (Int8 ∷ Int16 ∷ Int32 ∷ Int64 ∷ []) a b → Logged a b z
+    go : OneIs UInt64 signedTo64 a b → Logged a b z
     go (first f m) = left (subst (λ (k : ℕ). Holds k z) (sym f) h)
     go (second m f) = right (subst (λ (k : ℕ). Holds k z) (sym f) h)
 
@@ -84,7 +86,8 @@ module _ (i s : Bool) (a b : ℕ) (p : Listed a) (q : Listed b) where
       go (float64 e f u x y) n = absurd (n f)
       go (integral e l k) n = l
 
-  integers : (t : ℕ) → Listed t → supertype i s (node a 0) (node b 0) ≡ Some (node t 0) → (Includes t a × Includes t b) ↔ (uint128WithSigned a b ≡ false)
+  integers : (t : ℕ) → Listed t → supertype i s (node a 0) (node b 0) ≡ Some (node t 0)
+      → (Includes t a × Includes t b) ↔ (uint128WithSigned a b ≡ false)
   integers t l e = go (told a b p q i s t e)
     where
       go : Answered a b t → (Includes t a × Includes t b) ↔ (uint128WithSigned a b ≡ false)
@@ -101,11 +104,13 @@ module _ (i s : Bool) (a b : ℕ) (p : Listed a) (q : Listed b) where
           go (float64 d f u x y) = d
           go (integral d l k) = absurd (omega arith)
 
-      back : Answered a b (joined a b) → uint64WithSigned a b ≡ true → supertype i s (node a 0) (node b 0) ≡ Some (node Float64 0)
+      back : Answered a b (joined a b) → uint64WithSigned a b ≡ true
+          → supertype i s (node a 0) (node b 0) ≡ Some (node Float64 0)
       back (float64 d f u x y) e = is-joined a b p q i s ∙ ap (λ (t : ℕ). Some (node t 0)) f
-      back (integral d l k) e = absurd (subst T (sym e ∙ d) tt)
+      back (integral d l k) e = never (sym d ∙ e)
 
-uint128 : (i s : Bool) (a b : ℕ) → uint128WithSigned a b ≡ true → supertype i s (node a 0) (node b 0) ≡ Some (node Int128 0)
+uint128 : (i s : Bool) (a b : ℕ) → uint128WithSigned a b ≡ true
+    → supertype i s (node a 0) (node b 0) ≡ Some (node Int128 0)
 unfolding joined
 uint128 i s a b e = let l = uint128-listed a b e in is-joined a b (l .0) (l .1) i s ∙ rw e
 
@@ -114,7 +119,7 @@ avoidable a b e = let l = uint64-listed a b e in go (answered a b (l .0) (l .1))
   where
     go : {t : ℕ} → Answered a b t → (upcastOf a b ≡ To Int128) × Includes Int128 a × Includes Int128 b
     go (float64 d f u x y) = (u, x, y)
-    go (integral d l k) = absurd (subst T (sym e ∙ d) tt)
+    go (integral d l k) = never (sym d ∙ e)
 
 merges : (a b : ℕ) → uint64WithSigned a b ≡ true → MadeOne a b
 unfolding isSignedInteger among

@@ -4,3 +4,4 @@ mod Pairs
 mod Laws
 mod Keeping
 mod Settled
+pub mod Roots

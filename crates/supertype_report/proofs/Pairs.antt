@@ -1,32 +1,30 @@
 -- The supertype of two integer types, by tests that antt computes over all pairs of the ten. Assumes nothing.
-use mathlib.Core.Path.{_≡_, refl, ap, subst, _∙_}
-use mathlib.Core.Bool.{Bool, true, false, cond, not, _&&_, _||_}
+use mathlib.Core.Path.{_≡_, refl, sym, ap, subst}
+use mathlib.Core.Bool.{Bool, true, false, cond, not, _&&_}
 use mathlib.Core.Logic.{_↔_}
-use Prim.Native.Nat.{ℕ, _<_}
+use Prim.Native.Nat.{ℕ, _≤_, _<_}
 use native.Mathlib.Omega.{arith}
-use borrow.Author.Tests.{lt-leb}
-use lib.Dec.{T, leb, eqb, eqb→eq}
+use borrow.Author.Tests.{not-true}
+use lib.Dec.{T, eqb, eqb→eq}
 use Rattle.flat.specs.Kind.{Int128, Float64}
-use Rattle.flat.proofs.Rules.{and-left, and-right, and-both, or-right}
-use Rattle.dtype.specs.Predicate.{isNested}
+use Rattle.flat.proofs.Rules.{and-left, and-right, and-both}
+use Rattle.flat.proofs.Truths.{is-true}
 use Rattle.dtype.specs.Equality.{equalNode}
 use Rattle.dtype.proofs.Runs.{same, are-same}
 use Rattle.supertype_answer.specs.Join.{Node, Supertype, Some, Nothing, node}
 use Rattle.supertype_numbers.specs.Range.{Listed, isListed, Includes}
-use Rattle.supertype_numbers.proofs.Tests.{to-listed, at, pairs, at-pair}
+use Rattle.supertype_numbers.proofs.Tests.{to-listed, pairs, at-pair}
 use Rattle.supertype_numbers.proofs.Ranges.{inside, includes}
-use Rattle.supertype_lossless.specs.Lossless.{upcastBy, floats, signed, unsigned, mixed, upcastWhere, upcastOf}
+use Rattle.supertype_lossless.specs.Lossless.{upcastOf}
 use Rattle.supertype_lossless.specs.declared.upcast.Upcast.{Upcast}
 use Rattle.supertype_lossless.specs.declared.upcast.Upcast.the-variants.{To, Nothing as NoUpcast}
+use Rattle.supertype_lossless.proofs.Upcasts.{right as upcasts}
 use Rattle.supertype_arms.specs.declared.plan.Plan.the-variants.{Kind}
-use Rattle.supertype_arms.specs.Rule.{ruleOf, skip, Apart, Settles}
+use Rattle.supertype_arms.specs.Rule.{Settles}
 use Rattle.supertype_arms.specs.Supertype.{run, inner, supertypeWith, knownSupertype, supertype}
-use Rattle.supertype_arms.proofs.Areas.{alike, alike-eq, right-at}
+use Rattle.supertype_arms.proofs.Areas.{right-at}
+use Rattle.supertype_arms.proofs.Bare.{of-one, up, down}
 use Rattle.supertype_report.specs.Laws.{uint128WithSigned, uint64WithSigned}
-
-not-true : (x : Bool) → T (not x) → x ≡ false
-not-true true h = absurd h
-not-true false h = refl
 
 abbrev kindOf : Upcast → ℕ
 kindOf (To k) = k
@@ -38,8 +36,9 @@ is-int128 NoUpcast t = absurd t
 
 -- the kind of the supertype: that of the lossless upcast, save where UInt128 or UInt64 meets a signed type
 unfoldable pub joined : ℕ → ℕ → ℕ
-unfolding right-at isNested uint128WithSigned uint64WithSigned upcastOf upcastWhere upcastBy floats signed unsigned mixed
-joined a b = cond (uint128WithSigned a b) Int128 (cond (uint64WithSigned a b) Float64 (cond (eqb a b) a (kindOf (upcastOf a b))))
+unfolding right-at upcasts uint128WithSigned uint64WithSigned
+joined a b =
+    cond (uint128WithSigned a b) Int128 (cond (uint64WithSigned a b) Float64 (cond (eqb a b) a (kindOf (upcastOf a b))))
 
 -- ---- it is the supertype's
 
@@ -49,7 +48,10 @@ bare (Some n) k = eqb (n .kind) k && eqb (n .arg) 0
 bare Nothing k = false
 
 is-bare : (t : Supertype) (k : ℕ) → T (bare t k) → t ≡ Some (node k 0)
-is-bare (Some n) k t = λ i. Some (node (eqb→eq (n .kind) k (and-left (eqb (n .kind) k) _ t) i) (eqb→eq (n .arg) 0 (and-right (eqb (n .kind) k) _ t) i))
+is-bare (Some n) k t =
+    λ i. Some
+    (node (eqb→eq (n .kind) k (and-left (eqb (n .kind) k) _ t) i)
+    (eqb→eq (n .arg) 0 (and-right (eqb (n .kind) k) _ t) i))
 is-bare Nothing k t = absurd t
 
 unfoldable joined-at : Bool → ℕ → ℕ → Bool
@@ -62,12 +64,15 @@ joined-hold = tt
 
 -- ---- what it keeps
 
--- t is the kind of the supertype: Float64, although Int128 includes both ranges, or an integer type, which includes them unless UInt128 meets a signed type
+-- t is the kind of the supertype: Float64, although Int128 includes both ranges, or an integer type, which includes
+-- them unless UInt128 meets a signed type
 pub data Answered (a b t : ℕ) : Type 0 where
-  float64 : uint64WithSigned a b ≡ true → t ≡ Float64 → upcastOf a b ≡ To Int128 → Includes Int128 a → Includes Int128 b → Answered a b t
-  integral : uint64WithSigned a b ≡ false → Listed t → (Includes t a × Includes t b) ↔ (uint128WithSigned a b ≡ false) → Answered a b t
+  float64 : uint64WithSigned a b ≡ true → t ≡ Float64 → upcastOf a b ≡ To Int128 → Includes Int128 a → Includes Int128 b
+      → Answered a b t
+  integral : uint64WithSigned a b ≡ false → Listed t → (Includes t a × Includes t b) ↔ (uint128WithSigned a b ≡ false)
+      → Answered a b t
 
--- the same as tests
+-- the two cases as tests
 abbrev isFloat : ℕ → ℕ → ℕ → Bool
 isFloat a b t = eqb t Float64 && (eqb (kindOf (upcastOf a b)) Int128 && (inside Int128 a && inside Int128 b))
 
@@ -85,7 +90,9 @@ answered-hold = tt
 module _ (a b : ℕ) (p : Listed a) (q : Listed b) where
   pub is-joined : (i s : Bool) → supertype i s (node a 0) (node b 0) ≡ Some (node (joined a b) 0)
   unfolding supertype joined-at
-  is-joined i s = is-bare (supertype false s (node a 0) (node b 0)) (joined a b) (go s (at-pair (λ a b. joined-at true a b && joined-at false a b) joined-hold a b p q))
+  is-joined i s =
+      is-bare (supertype false s (node a 0) (node b 0)) (joined a b)
+      (go s (at-pair (λ a b. joined-at true a b && joined-at false a b) joined-hold a b p q))
     where
       go : (s : Bool) → T (joined-at true a b && joined-at false a b) → T (joined-at s a b)
       go true t = and-left (joined-at true a b) _ t
@@ -95,8 +102,10 @@ module _ (a b : ℕ) (p : Listed a) (q : Listed b) where
   to-float t e u =
       let v = and-right (eqb t Float64) _ u in
       let w = and-right (eqb (kindOf (upcastOf a b)) Int128) _ v in
-      float64 e (eqb→eq t Float64 (and-left (eqb t Float64) _ u)) (is-int128 (upcastOf a b) (and-left (eqb (kindOf (upcastOf a b)) Int128) _ v))
-      (includes Int128 a (omega arith) p .1 (and-left (inside Int128 a) _ w)) (includes Int128 b (omega arith) q .1 (and-right (inside Int128 a) _ w))
+      float64 e (eqb→eq t Float64 (and-left (eqb t Float64) _ u))
+      (is-int128 (upcastOf a b) (and-left (eqb (kindOf (upcastOf a b)) Int128) _ v))
+      (includes Int128 a (omega arith) p .1 (and-left (inside Int128 a) _ w))
+      (includes Int128 b (omega arith) q .1 (and-right (inside Int128 a) _ w))
 
   to-integer : (t : ℕ) → uint64WithSigned a b ≡ false → T (isInteger a b t) → Answered a b t
   to-integer t e u = integral e l (there, back)
@@ -108,7 +117,9 @@ module _ (a b : ℕ) (p : Listed a) (q : Listed b) where
       alike = are-same _ _ (and-right (isListed t) _ u)
 
       there : Includes t a × Includes t b → uint128WithSigned a b ≡ false
-      there h = not-true _ (subst T alike (and-both (inside t a) _ (includes t a l p .0 (h .0)) (includes t b l q .0 (h .1))))
+      there h =
+          let both = and-both (inside t a) _ (includes t a l p .0 (h .0)) (includes t b l q .0 (h .1)) in
+          not-true _ (is-true _ (subst T alike both))
 
       back : uint128WithSigned a b ≡ false → Includes t a × Includes t b
       back f =
@@ -119,7 +130,8 @@ module _ (a b : ℕ) (p : Listed a) (q : Listed b) where
   unfolding answered-at
   answered = go (uint64WithSigned a b) refl (at-pair answered-at answered-hold a b p q)
     where
-      go : (x : Bool) → uint64WithSigned a b ≡ x → T (cond x (isFloat a b (joined a b)) (isInteger a b (joined a b))) → Answered a b (joined a b)
+      go : (x : Bool) → uint64WithSigned a b ≡ x → T (cond x (isFloat a b (joined a b)) (isInteger a b (joined a b)))
+          → Answered a b (joined a b)
       go true e t = to-float (joined a b) e t
       go false e t = to-integer (joined a b) e t
 
@@ -132,42 +144,17 @@ module _ (a b : ℕ) (p : Listed a) (q : Listed b) where
 
 -- ---- it is the code's
 
--- of two kinds in order, the plan's, and the same in either order
-unfoldable ordered-at : ℕ → ℕ → Bool
-unfolding joined skip
-ordered-at a b = leb b a || (not (skip a b) && (alike (Kind (joined a b)) (ruleOf false a b) && eqb (joined b a) (joined a b)))
-
-ordered-hold : T (pairs ordered-at)
-unfolding ordered-at
-ordered-hold = tt
-
-module _ (a b : ℕ) (p : Listed a) (q : Listed b) (h : a < b) where
-  ordered : T (not (skip a b) && (alike (Kind (joined a b)) (ruleOf false a b) && eqb (joined b a) (joined a b)))
-  unfolding ordered-at
-  ordered = or-right _ (lt-leb b a h) (at-pair ordered-at ordered-hold a b p q)
-
-  pub apart : Apart a b
-  apart = record { in-order = omega arith; in-range = omega arith; two = not-true _ (and-left (not (skip a b)) _ ordered) }
-
-  either-way : joined b a ≡ joined a b
-  either-way = eqb→eq (joined b a) (joined a b) (and-right (alike (Kind (joined a b)) (ruleOf false a b)) _ (and-right (not (skip a b)) _ ordered))
-
-  planned : {r : ℕ} → Settles a b (Kind r) → joined a b ≡ r
-  planned f =
-      let e = alike-eq (Kind (joined a b)) (ruleOf false a b) (and-left (alike (Kind (joined a b)) (ruleOf false a b)) _ (and-right (not (skip a b)) _ ordered)) in
-      let g = f false in
-      cc
-
-module _ {a b : ℕ} (l : Listed a × Listed b) where
-  of-kind : {t : ℕ} → joined a b ≡ t → supertype false false (node a 0) (node b 0) ≡ Some (node t 0)
-  of-kind e = is-joined a b (l .0) (l .1) false false ∙ ap (λ (k : ℕ). Some (node k 0)) e
-
+module _ {a b : ℕ} where
   pub of-equal : a ≡ b → supertype false false (node a 0) (node b 0) ≡ Some (node a 0)
-  unfolding joined
-  of-equal e = of-kind (subst (λ (k : ℕ). joined a k ≡ a) e (eqb→eq (joined a a) a (at (λ k. eqb (joined k k) k) tt a (l .0))))
+  unfolding supertype
+  of-equal e = sym (of-one knownSupertype false e)
 
-  pub in-order : {r : ℕ} → a < b → Settles a b (Kind r) → supertype false false (node a 0) (node b 0) ≡ Some (node r 0)
-  in-order h f = of-kind (planned a b (l .0) (l .1) h f)
+  pub in-order : {r : ℕ} → a < b → b ≤ Float64 → Settles a b (Kind r)
+      → supertype false false (node a 0) (node b 0) ≡ Some (node r 0)
+  unfolding supertype run
+  in-order h n f = sym (up knownSupertype false h n (f false))
 
-  pub out-of-order : {r : ℕ} → b < a → Settles b a (Kind r) → supertype false false (node a 0) (node b 0) ≡ Some (node r 0)
-  out-of-order h f = of-kind (either-way b a (l .1) (l .0) h ∙ planned b a (l .1) (l .0) h f)
+  pub out-of-order : {r : ℕ} → b < a → a ≤ Float64 → Settles b a (Kind r)
+      → supertype false false (node a 0) (node b 0) ≡ Some (node r 0)
+  unfolding supertype run
+  out-of-order h n f = sym (down knownSupertype false h n (f false))

@@ -3,7 +3,9 @@ use mathlib.Core.Path.{_≡_, refl, sym, ap, subst, _∙_}
 use mathlib.Core.Bool.{Bool, true, false, cond, _&&_, _||_}
 use mathlib.Core.Option.{some}
 use Prim.Native.Nat.{ℕ, zero, suc, _+_, _-_, _*_, _/_, _%_, _^_, _≤_, _<_}
-use native.Mathlib.Nat.{le-of-lt, lt-of-lt-of-le, lt-of-le-of-lt, not-le-of-lt, lt-of-not-le, ne-of-lt, add-mul, mul-assoc, mul-left-comm, mul-le-mul-left, mul-le-mul-right, mul-lt-mul-of-pos-right, div-add-mod', div-lt-iff-lt-mul, mod-lt, pow-succ'}
+use native.Mathlib.Nat.{le-of-lt, lt-of-lt-of-le, lt-of-le-of-lt, not-le-of-lt, lt-of-not-le, ne-of-lt, add-mul}
+use native.Mathlib.Nat.{mul-assoc, mul-left-comm, mul-le-mul-left, mul-le-mul-right, mul-lt-mul-of-pos-right}
+use native.Mathlib.Nat.{div-add-mod', div-lt-iff-lt-mul, mod-lt, pow-succ'}
 use native.Mathlib.Omega.{arith}
 use native.Mathlib.Decide.{decLe}
 use lib.Dec.{ltb, eqb, ltb→lt, le→leb}
@@ -20,7 +22,8 @@ use Rattle.supertype_numbers.specs.Range.{Listed}
 use Rattle.supertype_numbers.specs.Format.{Format, binary64, formatOf, magnitude, WholeIn}
 use Rattle.supertype_numbers.proofs.Tests.{at}
 use Rattle.supertype_numbers.proofs.Ranges.{size}
-use Rattle.supertype_report.specs.Rounding.{halvings, lastUnit, nearestQuotient, nearest, asFloat64, distance, RoundingLaws}
+use Rattle.supertype_report.specs.Rounding.{halvings, lastUnit, nearestQuotient, nearest, asFloat64, distance}
+use Rattle.supertype_report.specs.Rounding.{RoundingLaws}
 
 -- ---- the unit
 
@@ -44,7 +47,8 @@ unfolding halvings
 last zero p n l = record { below = omega (arith, pow-pos p); from = λ g j. absurd (omega arith) }
 last (suc most) p n l = go (ltb n (2 ^ p)) refl (last most p (n / 2) (omega arith))
   where
-    go : (b : Bool) → ltb n (2 ^ p) ≡ b → Last p (n / 2) (halvings most p (n / 2)) → Last p n (elim b [ true ↦ 0 | false ↦ suc (halvings most p (n / 2)) ])
+    go : (b : Bool) → ltb n (2 ^ p) ≡ b → Last p (n / 2) (halvings most p (n / 2))
+        → Last p n (elim b [ true ↦ 0 | false ↦ suc (halvings most p (n / 2)) ])
     go true e s = record { below = omega (arith, ltb-true n (2 ^ p) e); from = λ g j. absurd (omega arith) }
     go false e s = halved p n (halvings most p (n / 2)) (ltb-false n (2 ^ p) e) s
 
@@ -72,7 +76,8 @@ module _ (n h : ℕ) where
   unfolding nearestQuotient
   step = go (ltb u (2 * r)) refl (eqb u (2 * r)) refl (eqb (c % 2) 1) refl
     where
-      go : (a : Bool) → ltb u (2 * r) ≡ a → (b : Bool) → eqb u (2 * r) ≡ b → (o : Bool) → eqb (c % 2) 1 ≡ o → Step (c + cond (a || (b && o)) 1 0)
+      go : (a : Bool) → ltb u (2 * r) ≡ a → (b : Bool) → eqb u (2 * r) ≡ b → (o : Bool) → eqb (c % 2) 1 ≡ o
+          → Step (c + cond (a || (b && o)) 1 0)
       go true e b f o g = let i = ltb-true u (2 * r) e in up (omega arith) (λ j. omega arith)
       go false e true f true g = up (omega (arith, eqb-true u (2 * r) f)) (λ j. eqb-true (c % 2) 1 g)
       go false e true f false g = down (omega (arith, eqb-true u (2 * r) f)) (λ j. omega (arith, eqb-false (c % 2) 1 g))
@@ -132,7 +137,15 @@ written (suc p) v h i l = go (decLe (2 ^ suc p) v)
     go : Dec (2 ^ suc p ≤ v) → Written (suc p) v h
     go (yes j) =
         let e : v ≡ 2 ^ suc p = omega arith in
-        record { m = 2 ^ p; q = suc h; low = omega (arith, pow-succ' 2 p, pow-pos p); is = rw e (carried p h); even = λ d f. even p d; close = omega arith }
+        record {
+          m = 2 ^ p;
+          q = suc h;
+          low = omega (arith, pow-succ' 2 p, pow-pos p);
+          is = rw e
+              (carried p h);
+          even = λ d f. even p d;
+          close = omega arith;
+        }
     go (no j) = record { m = v; q = h; low = omega arith; is = refl; even = λ d f. f; close = omega arith }
 
 -- each such number is a multiple of the unit, or farther from n than one
@@ -147,7 +160,9 @@ beside (suc p) n m q h i l s = go h s (decLe h q)
     go : (h : ℕ) → Last (suc p) n h → Dec (h ≤ q) → Beside n (2 ^ h) (m * 2 ^ q)
     go h s (yes j) =
         let e : q ≡ q - h + h = omega arith in
-        multiple (m * 2 ^ (q - h)) (mul-assoc m (2 ^ (q - h)) (2 ^ h) ∙ ap (λ (x : ℕ). m * x) (sym (ap (λ (x : ℕ). 2 ^ x) e ∙ pow-add 2 (q - h) h)))
+        multiple (m * 2 ^ (q - h))
+        (mul-assoc m (2 ^ (q - h)) (2 ^ h)
+        ∙ ap (λ (x : ℕ). m * x) (sym (ap (λ (x : ℕ). 2 ^ x) e ∙ pow-add 2 (q - h) h)))
     go zero s (no j) = absurd (omega arith)
     go (suc g) s (no j) =
         let x : m * 2 ^ q < 2 ^ suc p * 2 ^ q = mul-lt-mul-of-pos-right l (pow-pos q) in
@@ -167,7 +182,9 @@ module _ (p n : ℕ) where
   unit = last n p n (omega arith)
 
   rounded : 1 ≤ p → Written p v h
-  rounded i = let l : n / 2 ^ h < 2 ^ p = div-lt-iff-lt-mul (pow-pos h) .1 (unit .below) in written p v h i (omega (arith, next n h v (step n h)))
+  rounded i =
+      let l : n / 2 ^ h < 2 ^ p = div-lt-iff-lt-mul (pow-pos h) .1 (unit .below) in
+      written p v h i (omega (arith, next n h v (step n h)))
 
   as-near : (k : ℕ) → distance n (v * 2 ^ h) ≤ distance n (k * 2 ^ h)
   as-near k = near n h k v (side n h k) (step n h)
@@ -210,7 +227,12 @@ unfolding nearest lastUnit
 in-format n l z e = record {
   m = w .m;
   q = w .q;
-  finite = record { significand = w .low; least = leZ-yes tt; most = leZ-yes (le→leb (w .q) 971 (omega (arith, w .close, few))) };
+  finite =
+      record {
+        significand = w .low;
+        least = leZ-yes tt;
+        most = leZ-yes (le→leb (w .q) 971 (omega (arith, w .close, few)));
+      };
   is = e ∙ w .is;
 }
   where
@@ -223,12 +245,16 @@ in-format n l z e = record {
 -- the integer types' numbers have no more
 few-bits : (k : ℕ) → Listed k → 2 ^ bits (isSignedInteger k) (widthOf k) < 2 ^ 129
 unfolding isSignedInteger among
-few-bits k l = pow-lt (ltb→lt (bits (isSignedInteger k) (widthOf k)) 129 (at (λ k. ltb (bits (isSignedInteger k) (widthOf k)) 129) tt k l))
+few-bits k l =
+    pow-lt (ltb→lt (bits (isSignedInteger k) (widthOf k)) 129
+    (at (λ k. ltb (bits (isSignedInteger k) (widthOf k)) 129) tt k l))
 
-integers : (k : ℕ) (z : ℤ) → Listed k → mag z < 2 ^ bits (isSignedInteger k) (widthOf k) → WholeIn binary64 (asFloat64 z)
+integers : (k : ℕ) (z : ℤ) → Listed k → mag z < 2 ^ bits (isSignedInteger k) (widthOf k)
+    → WholeIn binary64 (asFloat64 z)
 unfolding asFloat64
 integers k (pos n) l i = in-format n (lt-of-lt-of-le i (le-of-lt (few-bits k l))) (pos (nearest p64 n)) refl
-integers k (negsuc n) l i = in-format (suc n) (lt-of-le-of-lt i (few-bits k l)) (negℤ (pos (nearest p64 (suc n)))) (go (nearest p64 (suc n)))
+integers k (negsuc n) l i =
+    in-format (suc n) (lt-of-le-of-lt i (few-bits k l)) (negℤ (pos (nearest p64 (suc n)))) (go (nearest p64 (suc n)))
   where
     go : (n : ℕ) → magnitude (negℤ (pos n)) ≡ n
     go zero = refl
@@ -245,7 +271,9 @@ rounding-laws = record {
       let w = rounded p n j in
       (w .m, w .q, w .low, w .even i (even p n (m * 2 ^ q) (beside p n m q (h p n) j l (unit p n)) d x), w .is);
   whole = λ z f e l. whole z (subst (λ (g : Format). magnitude z < 2 ^ g .precision) (the-format f e) l);
-  in-format = λ k z f e w. subst (λ (g : Format). WholeIn g (asFloat64 z)) (sym (the-format f e)) (integers k z (w .0) (size (isSignedInteger k) (widthOf k) z (w .1)));
+  in-format =
+      λ k z f e w. subst (λ (g : Format). WholeIn g (asFloat64 z)) (sym (the-format f e))
+      (integers k z (w .0) (size (isSignedInteger k) (widthOf k) z (w .1)));
 }
 
 -- 2 ^ 53 + 1 lies between two numbers of the format and goes to the even one, 2 ^ 53

@@ -9,7 +9,8 @@ use Rattle.supertype_numbers.specs.Range.{Holds}
 use Rattle.supertype_numbers.specs.Format.{Format, formatOf, WholeIn}
 use Rattle.supertype_arms.specs.Supertype.{supertype}
 
--- the type of the kind k has the whole number z: an integer type whose range holds it, or a float of whose format it is a number
+-- the type of the kind k has the whole number z: an integer type whose range holds it, or a float of whose format it is
+-- a number
 pub data Has (k : ℕ) (z : ℤ) : Type 0 where
   integer : Holds k z → Has k z
   float : (f : Format) → formatOf k ≡ some f → WholeIn f z → Has k z

@@ -1,8 +1,9 @@
--- What the two rules do to whole numbers, each law over all pairs of integer types and both flags. Assumes nothing: these are definitions.
+-- What the two rules do to whole numbers, each law over all pairs of integer types and both flags. Assumes nothing:
+-- these are definitions.
 use mathlib.Core.Path.{_≡_}
 use mathlib.Core.Logic.{_↔_}
 use mathlib.Core.Bool.{Bool, true, false, _&&_, _||_}
-use mathlib.Core.List.{[], _∷_}
+use mathlib.Core.List.{List, [], _∷_}
 use Prim.Native.Nat.{ℕ}
 use lib.Dec.{eqb}
 use lib.IntN.{ℤ}
@@ -20,9 +21,13 @@ use Rattle.supertype_report.specs.Rounding.{asFloat64}
 unfoldable pub uint128WithSigned : ℕ → ℕ → Bool
 uint128WithSigned a b = (eqb a UInt128 && isSignedInteger b) || (isSignedInteger a && eqb b UInt128)
 
+-- the signed types that are no wider than UInt64
+abbrev pub signedTo64 : List ℕ
+signedTo64 = Int8 ∷ Int16 ∷ Int32 ∷ Int64 ∷ []
+
 -- one is UInt64, the other signed and no wider than it
 unfoldable pub uint64WithSigned : ℕ → ℕ → Bool
-uint64WithSigned a b = (eqb a UInt64 && among (Int8 ∷ Int16 ∷ Int32 ∷ Int64 ∷ []) b) || (among (Int8 ∷ Int16 ∷ Int32 ∷ Int64 ∷ []) a && eqb b UInt64)
+uint64WithSigned a b = (eqb a UInt64 && among signedTo64 b) || (among signedTo64 a && eqb b UInt64)
 
 -- a number of one of two columns
 pub data Logged (a b : ℕ) (z : ℤ) : Type 0 where
@@ -42,13 +47,18 @@ pub record NumberLaws : Type 0 where
   -- two integer types always have a supertype, and it is Float64 or an integer type
   pub answers : (i s : Bool) (a b : ℕ) → Listed a → Listed b
       → (t : ℕ) × (supertype i s (node a 0) (node b 0) ≡ Some (node t 0)) × ((t ≡ Float64 → ⊥) → Listed t)
-  -- (a) where it is an integer type, it includes both ranges unless UInt128 meets a signed type; those pairs, which give Int128, lose numbers
-  pub integers : (i s : Bool) (a b t : ℕ) → Listed a → Listed b → Listed t → supertype i s (node a 0) (node b 0) ≡ Some (node t 0)
+  -- (a) where the supertype is an integer type, it includes both ranges unless UInt128 meets a signed type; those
+  -- pairs, which give Int128, lose numbers
+  pub integers : (i s : Bool) (a b t : ℕ) → Listed a → Listed b → Listed t
+      → supertype i s (node a 0) (node b 0) ≡ Some (node t 0)
       → (Includes t a × Includes t b) ↔ (uint128WithSigned a b ≡ false)
-  pub uint128 : (i s : Bool) (a b : ℕ) → uint128WithSigned a b ≡ true → supertype i s (node a 0) (node b 0) ≡ Some (node Int128 0)
-  -- (b) it is Float64 exactly where UInt64 meets a signed type no wider than it, as it was for tank 7 ...
-  pub floats : (i s : Bool) (a b : ℕ) → Listed a → Listed b → (supertype i s (node a 0) (node b 0) ≡ Some (node Float64 0)) ↔ (uint64WithSigned a b ≡ true)
-  -- ... although an integer type includes both ranges, which the lossless upcast finds
-  pub avoidable : (a b : ℕ) → uint64WithSigned a b ≡ true → (upcastOf a b ≡ To Int128) × Includes Int128 a × Includes Int128 b
-  -- (c) and Float64 makes one number of two that such a pair of columns could hold
+  pub uint128 : (i s : Bool) (a b : ℕ) → uint128WithSigned a b ≡ true
+      → supertype i s (node a 0) (node b 0) ≡ Some (node Int128 0)
+  -- (b) the supertype is Float64 exactly where UInt64 meets a signed type no wider than it, as it was for tank 7
+  pub floats : (i s : Bool) (a b : ℕ) → Listed a → Listed b
+      → (supertype i s (node a 0) (node b 0) ≡ Some (node Float64 0)) ↔ (uint64WithSigned a b ≡ true)
+  -- of such a pair an integer type includes both ranges, which the lossless upcast finds
+  pub avoidable : (a b : ℕ) → uint64WithSigned a b ≡ true
+      → (upcastOf a b ≡ To Int128) × Includes Int128 a × Includes Int128 b
+  -- (c) Float64 makes one number of two that such a pair of columns could hold
   pub merges : (a b : ℕ) → uint64WithSigned a b ≡ true → MadeOne a b

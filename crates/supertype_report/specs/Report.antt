@@ -4,7 +4,9 @@ use mathlib.Core.Bool.{cond, _&&_, _||_}
 use mathlib.Core.List.{[], _∷_}
 use Prim.Native.Nat.{ℕ}
 use Rattle.flat.specs.Refusal.{numberOf}
-use Rattle.flat.specs.Reading.{Reading, rootOf}
+use Rattle.flat.specs.Tree.{headKind}
+use Rattle.flat.specs.Reading.{Reading}
+use Rattle.flat.specs.Both.{bothOf, rootReading}
 use Rattle.flat.specs.declared.Root.{Root}
 use Rattle.supertype_numbers.specs.Range.{Listed, isListed, Room}
 use Rattle.supertype_lossless.specs.Lossless.{upcastOf}
@@ -22,9 +24,9 @@ Integers a b = Listed a × Listed b
 abbrev pub Says : ℕ → ℕ → Report → Type 0
 -- the supertype keeps every whole number of both
 Says a b Report.Kept = Integers a b × Kept a b
--- it doesn't, and an integer type does
+-- the supertype doesn't, and an integer type does
 Says a b Report.Avoidable = Integers a b × (Kept a b → ⊥) × Room (a ∷ b ∷ [])
--- it doesn't, and none does
+-- the supertype doesn't, and no integer type does
 Says a b Report.Unavoidable = Integers a b × (Kept a b → ⊥) × (Room (a ∷ b ∷ []) → ⊥)
 -- the question doesn't arise
 Says a b Report.NotIntegers = Integers a b → ⊥
@@ -34,11 +36,12 @@ abbrev pub byUpcast : Upcast → Report
 byUpcast (To k) = Report.Avoidable
 byUpcast Nothing = Report.Unavoidable
 
--- the report on two kinds: where UInt64 or UInt128 meets a signed type that is no wider the supertype loses numbers, and the lossless upcast tells whether an
--- integer type keeps them
+-- the report on two kinds: where UInt64 or UInt128 meets a signed type that is no wider the supertype loses numbers,
+-- and the lossless upcast tells whether an integer type keeps them
 unfoldable pub reportOf : ℕ → ℕ → Report
 reportOf a b =
-    cond (isListed a && isListed b) (cond (uint64WithSigned a b || uint128WithSigned a b) (byUpcast (upcastOf a b)) Report.Kept)
+    cond (isListed a && isListed b)
+    (cond (uint64WithSigned a b || uint128WithSigned a b) (byUpcast (upcastOf a b)) Report.Kept)
     Report.NotIntegers
 
 -- exactly one report is so, and it is the definition's (proved in proofs/Settled.antt)
@@ -46,15 +49,13 @@ pub record ReportLaws : Type 0 where
   pub means : (a b : ℕ) → Says a b (reportOf a b)
   pub only : (a b : ℕ) (r : Report) → Says a b r → r ≡ reportOf a b
 
--- of two roots: the left one's refusal, then the right one's, then the report on their kinds
-unfoldable pub rootsReport : Root → Root → Report
-rootsReport (Root.Refused e) right = Report.Refused e
-rootsReport (Root.Node k a) (Root.Refused e) = Report.Refused e
-rootsReport (Root.Node k a) (Root.Node l b) = reportOf k l
-
--- of two types: the left through 1 to 5, then the right
+-- the report on two types: the left through 1 to 5, then the right, then the report on their kinds
 unfoldable pub typesReport : Reading → Reading → Report
-typesReport left right = rootsReport (rootOf left) (rootOf right)
+typesReport left right = bothOf Report.Refused (λ t u. reportOf (headKind t) (headKind u)) left right
+
+-- the report on two types told by their roots
+abbrev pub rootsReport : Root → Root → Report
+rootsReport left right = typesReport (rootReading left) (rootReading right)
 
 -- document 01's number of a report, and the value beside it
 abbrev pub reportNumber : Report → ℕ

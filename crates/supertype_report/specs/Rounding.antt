@@ -41,12 +41,12 @@ pub record RoundingLaws : Type 0 where
   pub kept : (p n : ℕ) → n < 2 ^ p → nearest p n ≡ n
   -- what n is rounded to is a number of p bits
   pub fits : (p n : ℕ) → 1 ≤ p → (m q : ℕ) × (m < 2 ^ p) × (nearest p n ≡ m * 2 ^ q)
-  -- and none of them is nearer to n
+  -- no number of p bits is nearer to n
   pub nearer : (p n m q : ℕ) → 1 ≤ p → m < 2 ^ p → distance n (nearest p n) ≤ distance n (m * 2 ^ q)
-  -- where another is as near, the last of its p bits is 0 (a single bit leaves no such choice)
-  pub even : (p n m q : ℕ) → 2 ≤ p → m < 2 ^ p → distance n (m * 2 ^ q) ≡ distance n (nearest p n) → (m * 2 ^ q ≡ nearest p n → ⊥)
-      → (j i : ℕ) × (j < 2 ^ p) × (j % 2 ≡ 0) × (nearest p n ≡ j * 2 ^ i)
-  -- by Float64's format: its whole numbers of at most p bits are kept ...
+  -- where another number of p bits is as near, the last bit of what n is rounded to is 0 (one bit leaves no choice)
+  pub even : (p n m q : ℕ) → 2 ≤ p → m < 2 ^ p → distance n (m * 2 ^ q) ≡ distance n (nearest p n)
+      → (m * 2 ^ q ≡ nearest p n → ⊥) → (j i : ℕ) × (j < 2 ^ p) × (j % 2 ≡ 0) × (nearest p n ≡ j * 2 ^ i)
+  -- by Float64's format: its whole numbers of at most p bits are kept
   pub whole : (z : ℤ) (f : Format) → formatOf Float64 ≡ some f → magnitude z < 2 ^ f .precision → asFloat64 z ≡ z
-  -- ... and the numbers of every integer type are rounded to numbers of it
+  -- by Float64's format: the numbers of every integer type are rounded to numbers of it
   pub in-format : (k : ℕ) (z : ℤ) (f : Format) → formatOf Float64 ≡ some f → Holds k z → WholeIn f (asFloat64 z)

@@ -15,7 +15,8 @@ use supertype_lossless::upcast::Upcast;
 use supertype_lossless::upcast::upcast_kinds;
 use supertype_numbers::integer::includes;
 
-// Whether the supertype of two integer types keeps every whole number of both; where it doesn't, whether an integer type would.
+// Whether the supertype of two integer types keeps every whole number of both; where it doesn't, whether an integer
+// type would.
 pub enum Report {
     Kept,
     Avoidable,
@@ -66,7 +67,7 @@ fn integer_supertype(a: u8, b: u8) -> u8
     numeric(b, a)
 }
 
-// Of two integer types.
+// The report on two integer types.
 fn report_integers(a: u8, b: u8) -> Report
     requires { ⌜ Listed a × Listed b ⌝ }
     ensures { λ r. ⌜ r ≡ reportOf a b ⌝ }
@@ -85,7 +86,7 @@ fn report_integers(a: u8, b: u8) -> Report
     }
 }
 
-// Of the kinds of two valid types.
+// The report on the kinds of two valid types.
 fn report_kinds(a: u8, b: u8) -> Report
     ensures { λ r. ⌜ r ≡ reportOf a b ⌝ }
 {
@@ -98,7 +99,7 @@ fn report_kinds(a: u8, b: u8) -> Report
     }
 }
 
-// Of the roots of two types: the refusal of the left, of the right, or the report on their kinds.
+// The report on the roots of two types: the refusal of the left, of the right, or the report on their kinds.
 pub fn report_roots(left: Root, right: Root) -> Report
     ensures { λ r. ⌜ r ≡ rootsReport left right ⌝ }
 {
@@ -111,7 +112,7 @@ pub fn report_roots(left: Root, right: Root) -> Report
     }
 }
 
-// Of two types: refusals 1 to 5 of the left type, then of the right.
+// The report on two types: refusals 1 to 5 of the left type, then of the right.
 pub fn join_report(
     left_kinds: &[u8],
     left_args: &[u64],
@@ -121,7 +122,9 @@ pub fn join_report(
     ensures { λ r. do
       nodes ← ⟦Flat::MAX_NODES⟧ .entry
       deep ← ⟦Flat::MAX_DEPTH⟧ .entry
-      ⌜ r ≡ typesReport (reading nodes deep (now («left_kinds» .entry)) (now («left_args» .entry))) (reading nodes deep (now («right_kinds» .entry)) (now («right_args» .entry))) ⌝ }
+      let left = reading nodes deep (now («left_kinds» .entry)) (now («left_args» .entry))
+      let right = reading nodes deep (now («right_kinds» .entry)) (now («right_args» .entry))
+      ⌜ r ≡ typesReport left right ⌝ }
 {
     let left = flat::check_root(left_kinds, left_args);
     let right = flat::check_root(right_kinds, right_args);

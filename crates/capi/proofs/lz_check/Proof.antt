@@ -1,4 +1,4 @@
--- `lz_check` meets its contract. Assumes nothing.
+-- `capi::lz_check` meets its contract. Assumes nothing.
 use borrow.Author.Needs.{needs}
 use mathlib.Core.Path.{ap, _∙_}
 use Rattle.capi.specs.Reply.{checkReply}

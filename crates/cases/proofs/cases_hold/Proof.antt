@@ -7,18 +7,22 @@ use Rattle.flat.specs.Reader.{children, nodeAt, nodeIn}
 use Rattle.flat.specs.Reading.{lengthFits, kindsFit, argumentsFit, reading}
 use Rattle.flat.specs.Limits.{lists, fieldsOf}
 use Rattle.flat.specs.Output.{fitting}
-use Rattle.encoded.specs.Encoding.{littleEndian, number, argBytes, argsFrom, encoding, countIn, kindsIn, argsIn, sizeFits, decoding}
+use Rattle.flat.specs.Both.{bothOf}
+use Rattle.encoded.specs.Encoding.{littleEndian, number, argBytes, argsFrom, encoding}
+use Rattle.encoded.specs.Encoding.{countIn, kindsIn, argsIn, sizeFits, decoding}
 use Rattle.dtype.specs.Match.{among}
-use Rattle.dtype.specs.Predicate.{isFloat, isUnknownInt, isSignedInteger, isUnsignedInteger, isInteger, isPrimitiveNumeric, isPrimitive, isNested, isString, isUnknown}
+use Rattle.dtype.specs.Predicate.{isFloat, isUnknownInt, isSignedInteger, isUnsignedInteger, isInteger}
+use Rattle.dtype.specs.Predicate.{isPrimitiveNumeric, isPrimitive, isNested, isString, isUnknown}
 use Rattle.dtype.specs.Equality.{equalNode, equal}
 use Rattle.dtype_cast.specs.Cast.{castsWithBoolean, beforeNested, canCastTo}
 use Rattle.supertype_numbers.specs.DynInt.{valueOf, materializeDynInt, materializeDynIntPos, materializeSmallestDynInt}
 use Rattle.dtype_build.specs.Materialize.{materialize, materializeUnknown}
 use Rattle.dtype.specs.Physical.{physicalLeaf, physicalKind}
 use Rattle.dtype_build.specs.Build.{materialized}
-use Rattle.supertype_answer.specs.Join.{joining}
-use Rattle.supertype_lossless.specs.Lossless.{upcastBy, floats, signed, unsigned, mixed, upcastWhere, upcastOf, lossless, losslessOf}
-use Rattle.supertype_arms.specs.Supertype.{unknownArms, arms, planOf, smallestFitting, dynNumber, run, inner, supertypeWith, knownSupertype, supertype}
+use Rattle.supertype_lossless.specs.Lossless.{upcastBy, floats, signed, unsigned, mixed, upcastWhere, upcastOf}
+use Rattle.supertype_lossless.specs.Lossless.{lossless, losslessOf}
+use Rattle.supertype_arms.specs.Supertype.{unknownArms, arms, planOf, smallestFitting, dynNumber, run, inner}
+use Rattle.supertype_arms.specs.Supertype.{supertypeWith, knownSupertype, supertype}
 use Rattle.supertype_numbers.specs.Range.{isListed}
 use Rattle.supertype.specs.Pair.{decimalWithInteger, pairChecked, rootSupertype, supertypeOf}
 use Rattle.channels.specs.Merge.{mergedWith, mergedOf}
@@ -26,7 +30,14 @@ use Rattle.cases.proofs.cases_hold.Statement.{statement}
 use Rattle.cases.proofs.cases_hold.Tie as tie
 
 returns : tie.Need-returns
-unfolding lists fieldsOf argumentFits argumentRule count headKind headArg size depth kindsOf argsOf children nodeAt nodeIn lengthFits kindsFit argumentsFit reading fitting littleEndian number argBytes argsFrom encoding countIn kindsIn argsIn sizeFits decoding among isFloat isUnknownInt isSignedInteger isUnsignedInteger isInteger isPrimitiveNumeric isPrimitive isNested isString isUnknown equalNode equal castsWithBoolean beforeNested canCastTo valueOf materializeDynInt materializeDynIntPos materializeSmallestDynInt materialize materializeUnknown physicalLeaf physicalKind materialized joining upcastBy floats signed unsigned mixed upcastWhere upcastOf lossless losslessOf unknownArms arms planOf smallestFitting dynNumber run inner supertypeWith knownSupertype supertype isListed decimalWithInteger pairChecked rootSupertype supertypeOf mergedWith mergedOf
+unfolding lists fieldsOf bothOf argumentFits argumentRule count headKind headArg size depth kindsOf argsOf children
+    nodeAt nodeIn lengthFits kindsFit argumentsFit reading fitting littleEndian number argBytes argsFrom encoding
+    countIn kindsIn argsIn sizeFits decoding among isFloat isUnknownInt isSignedInteger isUnsignedInteger isInteger
+    isPrimitiveNumeric isPrimitive isNested isString isUnknown equalNode equal castsWithBoolean beforeNested canCastTo
+    valueOf materializeDynInt materializeDynIntPos materializeSmallestDynInt materialize materializeUnknown
+    physicalLeaf physicalKind materialized upcastBy floats signed unsigned mixed upcastWhere upcastOf lossless
+    losslessOf unknownArms arms planOf smallestFitting dynNumber run inner supertypeWith knownSupertype supertype
+    isListed decimalWithInteger pairChecked rootSupertype supertypeOf mergedWith mergedOf
 returns c i true empty = refl
 returns c i false empty = refl
 returns c i true (field name t fs) = refl

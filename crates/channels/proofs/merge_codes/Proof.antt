@@ -15,12 +15,14 @@ returns-2 c = refused-column _ _ _ (c .before .column .given .1)
 returns-3 : tie.Need-returns-3
 returns-3 c =
     let met = c .before .before .before in
-    on-channel _ _ _ (met .before .before .before .before .column2 .given .1) (omega arith) (sym (c .before .c .given .1) ∙ met .merge-kind .ensures)
+    on-channel _ _ _ (met .before .before .before .before .column2 .given .1) (omega arith)
+    (sym (c .before .c .given .1) ∙ met .merge-kind .ensures)
 
 returns-4 : tie.Need-returns-4
 returns-4 c =
     let met = c .before .before .before in
-    on-channel _ _ _ (met .before .before .before .before .column2 .given .1) (omega arith) (sym (c .before .e .given .1) ∙ met .merge-kind .ensures)
+    on-channel _ _ _ (met .before .before .before .before .column2 .given .1) (omega arith)
+    (sym (c .before .e .given .1) ∙ met .merge-kind .ensures)
 
 pub merge-codes-spec : {M : Type 1} → statement M
 merge-codes-spec =

@@ -5,13 +5,12 @@ use Rattle.dtype_inner.specs.Nodes.{arrayLeafNodes}
 use Rattle.dtype_inner.proofs.array_leaf_nodes.Statement.{statement}
 use Rattle.dtype_inner.proofs.array_leaf_nodes.Tie as tie
 
-returns : tie.Need-returns
-unfolding arrayLeafNodes
-returns c = rw (← c .before .leading .ensures .0, eq-eqb _ _ (c .if1 .taken))
-
-returns-2 : tie.Need-returns-2
-unfolding arrayLeafNodes
-returns-2 c = rw (← c .before .leading .ensures .0, ne-eqb _ _ (c .if1 .left))
-
 pub array-leaf-nodes-spec : {M : Type 1} → statement M
-array-leaf-nodes-spec = tie.close (tie.spec (λ c κs. search needs) returns (λ c. search needs) returns-2)
+unfolding arrayLeafNodes
+array-leaf-nodes-spec =
+    tie.close
+    (tie.spec
+    (λ c κs. search needs)
+    (λ c. rw (← c .before .leading .ensures .0, eq-eqb _ _ (c .if1 .taken)))
+    (λ c. search needs)
+    (λ c. rw (← c .before .leading .ensures .0, ne-eqb _ _ (c .if1 .left))))

@@ -2,15 +2,15 @@
 use borrow.Author.Needs.{needs}
 use native.Mathlib.Omega.{arith}
 use Rattle.dtype_inner.proofs.Endings.{finds-inner}
-use Rattle.dtype_inner.proofs.Parts.{kinds-last, end-of}
+use Rattle.dtype_inner.proofs.Parts.{kinds-within, kinds-last, end-of}
 use Rattle.dtype_inner.proofs.inner_dtype_kinds.Statement.{statement}
 use Rattle.dtype_inner.proofs.inner_dtype_kinds.Tie as tie
 
-sub-at : tie.Need-sub-at
-sub-at c = kinds-last finds-inner _ _ _ _ (c .before .inner-dtype .ensures) (c .value .ensures) .within
-
-returns : tie.Need-returns
-returns c = end-of _ _ _ _ (kinds-last finds-inner _ _ _ _ (c .before .before .inner-dtype .ensures) (c .before .value .ensures)) (omega arith)
-
 pub inner-dtype-kinds-spec : {M : Type 1} → statement M
-inner-dtype-kinds-spec = tie.close (tie.spec (λ c κs. search needs) (λ c κs. search needs) sub-at (λ c. search needs) (λ c. search needs) (λ c. search needs) returns)
+inner-dtype-kinds-spec =
+    tie.close
+    (tie.spec
+    (λ c κs. search needs) (λ c κs. search needs)
+    (λ c. search (kinds-within finds-inner))
+    (λ c. search needs) (λ c. search needs) (λ c. search needs)
+    (λ c. end-of _ _ _ _ (search (kinds-last finds-inner)) (omega arith)))

@@ -4,9 +4,6 @@ use Rattle.dtype_inner.specs.Nodes.{leafNodes}
 use Rattle.dtype_inner.proofs.leaf_nodes.Statement.{statement}
 use Rattle.dtype_inner.proofs.leaf_nodes.Tie as tie
 
-returns : tie.Need-returns
-unfolding leafNodes
-returns c = rw (c .leading .ensures .0)
-
 pub leaf-nodes-spec : {M : Type 1} → statement M
-leaf-nodes-spec = tie.close (tie.spec (λ c κs. search needs) (λ c. search needs) returns)
+unfolding leafNodes
+leaf-nodes-spec = tie.close (tie.spec (λ c κs. search needs) (λ c. search needs) (λ c. rw (c .leading .ensures .0)))

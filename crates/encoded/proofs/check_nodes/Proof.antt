@@ -9,18 +9,19 @@ use Rattle.encoded.proofs.check_nodes.Tie as tie
 returns : tie.Need-returns
 returns c = ap checkedOf (sym (decoding-none _ _ _ _ (c .before .node-count .ensures) (c .if1 .taken)))
 
--- room for few, for some, and for many
+-- room for few, and for some, as the tests say
 check-with-requires : tie.Need-check-with-requires
 check-with-requires c κs = search needs
 
 check-with-requires-2 : tie.Need-check-with-requires-2
 check-with-requires-2 c κs = search needs
 
+-- room for many, since there are never more
 check-with-requires-3 : tie.Need-check-with-requires-3
 check-with-requires-3 c κs =
-    let counted = c .before .before .before .before .node-count .ensures in
-    let some = c .before .before .before .if1 .left in
-    (counted, some, nodes-some counted some .few)
+    let at = c .before .before .before in
+    let counted = at .before .node-count .ensures in
+    (counted, at .if1 .left, nodes-some counted (at .if1 .left) .few)
 
 pub check-nodes-spec : {M : Type 1} → statement M
 check-nodes-spec =

@@ -2,20 +2,25 @@
 use borrow.Author.Needs.{needs}
 use mathlib.Core.Path.{sym, _∙_}
 use Rattle.flat.specs.Reading.{reading}
+use Rattle.flat.proofs.Truths.{Fact, fact}
 use Rattle.flat.proofs.Meaning.{check-passed, checked-refused}
 use Rattle.encoded.specs.Answer.{fittingBytes}
 use Rattle.encoded.proofs.Answers.{encodes-refused, puts-type}
 use Rattle.encoded.proofs.encode.Statement.{statement}
 use Rattle.encoded.proofs.encode.Tie as tie
 
+-- the arrays are a type
+abbrev passed : tie.After-enum-told → Fact
+passed c = fact (check-passed (sym (c .enum-told .given .1) ∙ c .before .before .check .ensures))
+
 put-requires : tie.Need-put-requires
-put-requires c κs = let p = check-passed (sym (c .before .enum-told .given .1) ∙ c .before .before .before .check .ensures) in (p .even, rw (← p .whole) (p .form .is-type .within))
+put-requires c κs = let p = passed (c .before) .proof in (p .even, rw (← p .whole) (p .form .is-type .within))
 
 returns : tie.Need-returns
 returns c =
-    let at = c .before .before .before .before in
-    let p = check-passed (sym (at .enum-told .given .1) ∙ at .before .before .check .ensures) in
-    rw (p .reads) (puts-type (p .tree) (p .form .kinds) (p .form .args) (c .before .before .put .ensures))
+    let put = c .before .before in
+    let p = passed (put .before .before) .proof in
+    rw (p .reads) (puts-type (p .tree) (p .form .kinds) (p .form .args) (put .put .ensures))
 
 returns-2 : tie.Need-returns-2
 unfolding fittingBytes

@@ -14,19 +14,30 @@ returns c = simp (lt-leb _ _ (c .if1 .taken))
 
 returns-2 : tie.Need-returns-2
 unfolding nodesIn sizeFits
-returns-2 c = simp (sym (c .before .count .ensures .0), le-leb _ _ (c .before .before .if1 .left), c .if2 .taken)
+returns-2 c = let at = c .before in simp (sym (at .count .ensures .0), le-leb _ _ (at .before .if1 .left), c .if2 .taken)
 
 returns-3 : tie.Need-returns-3
 unfolding nodesIn sizeFits
-returns-3 c = simp (sym (c .before .before .count .ensures .0), le-leb _ _ (c .before .before .before .if1 .left), lt-ltb _ _ (pos-of-ne-zero (c .before .if2 .left)), lt-leb _ _ (c .if3 .taken))
+returns-3 c =
+    let some = c .before in
+    let at = some .before in
+    simp (sym (at .count .ensures .0), le-leb _ _ (at .before .if1 .left), lt-ltb _ _ (pos-of-ne-zero (some .if2 .left)), lt-leb _ _ (c .if3 .taken))
 
 returns-4 : tie.Need-returns-4
 unfolding nodesIn sizeFits
-returns-4 c = simp (sym (c .before .before .before .count .ensures .0), le-leb _ _ (c .before .before .before .before .if1 .left), lt-ltb _ _ (pos-of-ne-zero (c .before .before .if2 .left)), le-leb _ _ (c .before .if3 .left), ne-eqb _ _ (c .if4 .taken))
+returns-4 c =
+    let few = c .before in
+    let some = few .before in
+    let at = some .before in
+    simp (sym (at .count .ensures .0), le-leb _ _ (at .before .if1 .left), lt-ltb _ _ (pos-of-ne-zero (some .if2 .left)), le-leb _ _ (few .if3 .left), ne-eqb _ _ (c .if4 .taken))
 
 returns-5 : tie.Need-returns-5
 unfolding nodesIn sizeFits
-returns-5 c = simp (sym (c .before .before .before .count .ensures .0), le-leb _ _ (c .before .before .before .before .if1 .left), lt-ltb _ _ (pos-of-ne-zero (c .before .before .if2 .left)), le-leb _ _ (c .before .if3 .left), eq-eqb _ _ (c .if4 .left))
+returns-5 c =
+    let few = c .before in
+    let some = few .before in
+    let at = some .before in
+    simp (sym (at .count .ensures .0), le-leb _ _ (at .before .if1 .left), lt-ltb _ _ (pos-of-ne-zero (some .if2 .left)), le-leb _ _ (few .if3 .left), eq-eqb _ _ (c .if4 .left))
 
 pub node-count-spec : {M : Type 1} → statement M
 node-count-spec =

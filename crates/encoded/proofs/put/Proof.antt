@@ -16,21 +16,23 @@ returns : tie.Need-returns
 returns c = let short = lt-leb _ _ (c .if1 .taken) in record { answers = rw short; bytes = rw short }
 
 write-args-requires : tie.Need-write-args-requires
-write-args-requires c κs = rw (part-to-end, length-drop) (omega (arith, c .before .before .before .before .before .before .before .before .before .before .before .before .before .pre))
+write-args-requires c κs = rw (part-to-end, length-drop) (omega arith)
 
 -- the count, then the kinds, then the arguments are written
 returns-2 : tie.Need-returns-2
 returns-2 c =
-    let at = c .before .before .before .before .before .before .before .before .before .before .before .before in
-    let start = at .before .before .before .before in
+    let third = c .before .before in
+    let second = third .before .before .before .before in
+    let first = second .before .before .before .before in
+    let fits = le-leb _ _ (first .before .before .if1 .left) in
+    let start = first .before .before .before .before .before .before in
     let kinds = start .args .kinds .now in
     let args = start .args .args .now in
     let out = start .args .out .now in
     let n = length kinds in
     let head = littleEndian 2 n in
-    let two = write-next _ head out kinds _ 2 n (c .before .before .before .before .before .before .before .before .before .before .put-count .ensures) (littleEndian-length 2 n) (c .before .before .before .before .before .before .copy .ensures) in
-    let three = write-next _ (head ++ kinds) out _ _ (2 + n) _ two (rw (length-append, littleEndian-length)) (c .before .before .write-args .ensures) in
-    let fits = le-leb _ _ (at .if1 .left) in
+    let two = write-next _ head out kinds _ 2 n (first .put-count .ensures) (littleEndian-length 2 n) (second .copy .ensures) in
+    let three = write-next _ (head ++ kinds) out _ _ (2 + n) _ two (rw (length-append, littleEndian-length)) (third .write-args .ensures) in
     record { answers = rw fits; bytes = rw fits (three ∙ encoding-over _ kinds args out (sym (start .pre .0))) }
 
 pub put-spec : {M : Type 1} → statement M

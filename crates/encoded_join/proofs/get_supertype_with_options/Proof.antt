@@ -7,9 +7,15 @@ use Rattle.encoded_join.proofs.get_supertype_with_options.Tie as tie
 
 returns : tie.Need-returns
 returns c =
-    let at = c .before .before .before .before in
-    let to-string = at .before .before .before .before .before .before .args .allow-primitive-to-string in
-    rw (← joined _ to-string (decoding _ _ _ _) (decoding _ _ _ _) (at .before .before .check-root .ensures .0) (at .before .check-root2 .ensures .0) (at .join-roots .ensures)) (c .before .before .put .ensures)
+    let put = c .before .before in
+    let roots = put .before .before in
+    let left = roots .before .before .check-root .ensures .0 in
+    rw (← joined _ _ (decoding _ _ _ _) (decoding _ _ _ _) left (roots .before .check-root2 .ensures .0)
+    (roots .join-roots .ensures))
+    (put .put .ensures)
 
 pub get-supertype-with-options-spec : {M : Type 1} → statement M
-get-supertype-with-options-spec = tie.close (tie.spec (λ c κs. search needs) (λ c κs. search needs) (λ c κs. search needs) (λ c κs. search needs) (λ c. search needs) returns)
+get-supertype-with-options-spec =
+    tie.close
+    (tie.spec (λ c κs. search needs) (λ c κs. search needs) (λ c κs. search needs) (λ c κs. search needs)
+    (λ c. search needs) returns)

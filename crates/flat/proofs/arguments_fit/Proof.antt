@@ -1,41 +1,34 @@
 -- `flat::arguments_fit` meets its contract: what is left to test after i nodes decides. Assumes nothing.
-use mathlib.Core.Path.{sym, _∙_, _≡_, refl}
-use borrow.Author.Tests.{not-true, not-false}
-use Prim.Native.Nat.{_≤_, _-_}
+use Prim.Native.Nat.{_-_}
 use native.Mathlib.Omega.{arith}
-use lib.ListN.{length, drop}
+use lib.ListN.{length}
 use borrow.Author.Needs.{needs}
-use Rattle.flat.specs.Reading.{argumentsFit}
-use Rattle.flat.proofs.Scans.{arguments-on, arguments-stop, arguments-end}
+use Rattle.flat.proofs.Truths.{answered-no, answered-yes}
+use Rattle.flat.proofs.Scans.{ArgumentsLeft, all-arguments, arguments-on, arguments-stop, arguments-end}
 use Rattle.flat.proofs.arguments_fit.Statement.{statement}
 use Rattle.flat.proofs.arguments_fit.Tie as tie
 
 abbrev Inv-loop : tie.InvT-loop
-Inv-loop kinds args i₀ i = (i ≤ length kinds) × (argumentsFit kinds args ≡ argumentsFit (drop i kinds) (drop i args))
+Inv-loop kinds args i₀ i = ArgumentsLeft kinds args i
 
 abbrev μ-loop : tie.MeasureT-loop
 μ-loop kinds args i₀ i = length kinds - i
 
 loop-holds : tie.Need-loop-holds Inv-loop μ-loop
-loop-holds c = (omega arith, refl)
+loop-holds c = all-arguments (c .before .before .pre)
 
 returns : tie.Need-returns Inv-loop μ-loop
 returns c =
-    let s = c .before .before .before .before .before .before .before .before in
-    let l = c .before .before .before .before .before in
-    arguments-stop (s .args .kinds .now) (s .args .args .now) (l .loop .i) (l .loop .inv .1) (omega arith) (omega arith) (sym (c .before .argument-fits .ensures) ∙ not-true _ (c .if1 .taken))
+    arguments-stop (c .before .before .before .before .before .loop .inv) (omega arith)
+    (answered-no (c .before .argument-fits .ensures) (c .if1 .taken))
 
 loop-again : tie.Need-loop-again Inv-loop μ-loop
 loop-again c =
-    let s = c .before .before .before .before .before .before .before .before in
-    let l = c .before .before .before .before .before in
-    (omega arith, arguments-on (s .args .kinds .now) (s .args .args .now) (l .loop .i) (l .loop .inv .1) (omega arith) (omega arith) (sym (c .before .argument-fits .ensures) ∙ not-false _ (c .if1 .left)))
+    arguments-on (c .before .before .before .before .before .loop .inv) (omega arith)
+    (answered-yes (c .before .argument-fits .ensures) (c .if1 .left))
 
 returns-2 : tie.Need-returns-2 Inv-loop μ-loop
-returns-2 c =
-    let s = c .before .before .before .before in
-    let l = c .before in
-    arguments-end (s .args .kinds .now) (s .args .args .now) (l .loop .i) (l .loop .inv .1) (c .loop-test .left)
+returns-2 c = arguments-end (c .before .loop .inv) (c .loop-test .left)
 
 pub arguments-fit-spec : {M : Type 1} → statement M
 arguments-fit-spec =

@@ -4,17 +4,22 @@ use native.Mathlib.Omega.{arith}
 use lib.Dec.{lit≤}
 use lib.ListN.{length}
 use borrow.Author.Needs.{needs}
+use Rattle.flat.proofs.Truths.{Fact, fact}
 use Rattle.flat.proofs.Positions.{rest}
 use Rattle.flat.proofs.Plain.{plain-type}
 use Rattle.flat.proofs.Roots.{plain-root}
 use Rattle.flat.proofs.check_root.Statement.{statement}
 use Rattle.flat.proofs.check_root.Tie as tie
 
+-- the arrays are one plain leaf
+abbrev plain : tie.Then1 → Fact
+plain c = fact (sym (c .before .is-plain .ensures) ∙ c .if1 .taken)
+
 shared-slice-read-t5 : tie.Need-shared-slice-read-t5
-shared-slice-read-t5 c = omega (arith, ap length (plain-type 1 0 _ _ (lit≤ tt) (sym (c .before .before .is-plain .ensures) ∙ c .before .if1 .taken) .kinds))
+shared-slice-read-t5 c = omega (arith, ap length (plain-type 1 0 _ _ (lit≤ tt) (plain (c .before) .proof) .kinds))
 
 returns : tie.Need-returns
-returns c = plain-root (plain-type _ _ _ _ (lit≤ tt) (sym (c .before .before .is-plain .ensures) ∙ c .before .if1 .taken))
+returns c = plain-root (plain-type _ _ _ _ (lit≤ tt) (plain (c .before) .proof))
 
 returns-2 : tie.Need-returns-2
 returns-2 c = rw (rest, rest) at (c .root-of .ensures)
@@ -26,5 +31,6 @@ check-root-spec =
     (λ c κs. search needs)
     shared-slice-read-t5
     returns
-    (λ c. search needs) (λ c. search needs) (λ c. search needs) (λ c. search needs) (λ c. search needs) (λ c. search needs) (λ c κs. search needs)
+    (λ c. search needs) (λ c. search needs) (λ c. search needs) (λ c. search needs) (λ c. search needs)
+    (λ c. search needs) (λ c κs. search needs)
     returns-2)

@@ -1,35 +1,29 @@
 -- `flat::kinds_fit` meets its contract: what is left to test after i kinds decides. Assumes nothing.
-use Prim.Native.Nat.{_≤_, _-_}
-use mathlib.Core.Path.{_≡_, refl}
+use Prim.Native.Nat.{_-_}
 use native.Mathlib.Omega.{arith}
-use lib.ListN.{length, drop}
+use lib.ListN.{length}
 use borrow.Author.Needs.{needs}
-use Rattle.flat.specs.Reading.{kindsFit}
-use Rattle.flat.proofs.Scans.{kinds-on, kinds-stop, kinds-end}
+use Rattle.flat.proofs.Scans.{KindsLeft, all-kinds, kinds-on, kinds-stop, kinds-end}
 use Rattle.flat.proofs.kinds_fit.Statement.{statement}
 use Rattle.flat.proofs.kinds_fit.Tie as tie
 
 abbrev Inv-loop : tie.InvT-loop
-Inv-loop kinds i₀ i = (i ≤ length kinds) × (kindsFit kinds ≡ kindsFit (drop i kinds))
+Inv-loop kinds i₀ i = KindsLeft kinds i
 
 abbrev μ-loop : tie.MeasureT-loop
 μ-loop kinds i₀ i = length kinds - i
 
 loop-holds : tie.Need-loop-holds Inv-loop μ-loop
-loop-holds c = (omega arith, refl)
+loop-holds c = all-kinds
 
 returns : tie.Need-returns Inv-loop μ-loop
-returns c =
-    let l = c .before .before .before in
-    kinds-stop (c .before .before .before .before .args .kinds .now) (l .loop .i) (l .loop .inv .1) (omega arith) (c .if1 .taken)
+returns c = kinds-stop (c .before .before .before .loop .inv) (omega arith) (c .if1 .taken)
 
 loop-again : tie.Need-loop-again Inv-loop μ-loop
-loop-again c =
-    let l = c .before .before .before in
-    (omega arith, kinds-on (c .before .before .before .before .args .kinds .now) (l .loop .i) (l .loop .inv .1) (omega arith) (c .if1 .left))
+loop-again c = kinds-on (c .before .before .before .loop .inv) (omega arith) (c .if1 .left)
 
 returns-2 : tie.Need-returns-2 Inv-loop μ-loop
-returns-2 c = kinds-end (c .before .before .args .kinds .now) (c .before .loop .i) (c .before .loop .inv .1) (c .loop-test .left)
+returns-2 c = kinds-end (c .before .loop .inv) (c .loop-test .left)
 
 pub kinds-fit-spec : {M : Type 1} → statement M
 kinds-fit-spec =

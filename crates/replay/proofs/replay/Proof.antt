@@ -8,7 +8,8 @@ use Rattle.replay.proofs.replay.Statement.{statement}
 use Rattle.replay.proofs.replay.Tie as tie
 
 abbrev Inv-loop : tie.InvT-loop
-Inv-loop text from₀ answers₀ differ₀ t6 from answers differ = (from ≤ length text) × (answers ≤ from) × (differ ≤ answers)
+Inv-loop text from₀ answers₀ differ₀ t6 from answers differ =
+    (from ≤ length text) × (answers ≤ from) × (differ ≤ answers)
 
 abbrev μ-loop : tie.MeasureT-loop
 μ-loop text from₀ answers₀ differ₀ t6 from answers differ = length text - from
@@ -22,8 +23,10 @@ replay-spec =
     (tie.spec
     Inv-loop
     μ-loop
-    (λ c. search needs) (λ c κs. search needs) (λ c. search needs) (λ c. search needs) (λ c. search needs) (λ c κs. search needs) (λ c. search needs) (λ c κs. search needs)
-    (λ c. search needs) (λ c. search needs) (λ c. search needs) (λ c. search needs) (λ c. search needs) (λ c. search needs) (λ c κs. search needs)
+    (λ c. search needs) (λ c κs. search needs) (λ c. search needs) (λ c. search needs) (λ c. search needs)
+    (λ c κs. search needs) (λ c. search needs) (λ c κs. search needs)
+    (λ c. search needs) (λ c. search needs) (λ c. search needs) (λ c. search needs) (λ c. search needs)
+    (λ c. search needs) (λ c κs. search needs)
     (λ c. search needs) (λ c. search needs)
     loop-again
     (λ c. search needs) (λ c κs. search needs) (λ c. search needs))

@@ -7,9 +7,17 @@ use Rattle.supertype_lossless.proofs.get_numeric_upcast_supertype_lossl
 
 returns : tie.Need-returns
 returns c =
-    let at = c .before .before .before .before .before .before .before in
-    rw (← joined (reading _ _ _ _) (reading _ _ _ _) (at .before .before .check-root .ensures) (at .before .check-root2 .ensures) (at .upcast-roots .ensures)) (c .before .before .before .before .put .ensures)
+    let put = c .before .before .before .before in
+    let roots = put .before .before .before in
+    let left = roots .before .before .check-root .ensures in
+    rw (← joined (reading _ _ _ _) (reading _ _ _ _) left (roots .before .check-root2 .ensures)
+    (roots .upcast-roots .ensures))
+    (put .put .ensures)
 
 pub get-numeric-upcast-supertype-lossless-spec : {M : Type 1} → statement M
 get-numeric-upcast-supertype-lossless-spec =
-    tie.close (tie.spec (λ c κs. search needs) (λ c κs. search needs) (λ c κs. search needs) (λ c κs. search needs) (λ c. search needs) (λ c. search needs) returns)
+    tie.close
+    (tie.spec
+    (λ c κs. search needs) (λ c κs. search needs) (λ c κs. search needs) (λ c κs. search needs)
+    (λ c. search needs) (λ c. search needs)
+    returns)

@@ -1,23 +1,24 @@
 -- `supertype_report::integer_supertype` meets its contract. Assumes nothing.
 use native.Mathlib.Omega.{arith}
-use Rattle.supertype_report.proofs.Pairs.{apart, of-equal, in-order, out-of-order}
+use Rattle.supertype_arms.proofs.Bare.{apart-below}
+use Rattle.supertype_report.proofs.Pairs.{of-equal, in-order, out-of-order}
 use Rattle.supertype_report.proofs.integer_supertype.Statement.{statement}
 use Rattle.supertype_report.proofs.integer_supertype.Tie as tie
 
 returns : tie.Need-returns
-returns c = of-equal (c .before .pre) (c .if1 .taken)
+returns c = of-equal (omega arith)
 
 numeric-requires : tie.Need-numeric-requires
-numeric-requires c κs = let l = c .before .before .pre in (apart _ _ (l .0) (l .1) (c .if2 .taken), omega arith, omega arith)
+numeric-requires c κs = (apart-below (omega arith) (omega arith), omega arith, omega arith)
 
 returns-2 : tie.Need-returns-2
-returns-2 c = in-order (c .before .before .before .pre) (c .before .if2 .taken) (c .numeric .ensures)
+returns-2 c = in-order (omega arith) (omega arith) (c .numeric .ensures)
 
 numeric-requires-2 : tie.Need-numeric-requires-2
-numeric-requires-2 c κs = let l = c .before .before .pre in (apart _ _ (l .1) (l .0) (omega arith), omega arith, omega arith)
+numeric-requires-2 c κs = (apart-below (omega arith) (omega arith), omega arith, omega arith)
 
 returns-3 : tie.Need-returns-3
-returns-3 c = out-of-order (c .before .before .before .pre) (omega arith) (c .numeric2 .ensures)
+returns-3 c = out-of-order (omega arith) (omega arith) (c .numeric2 .ensures)
 
 pub integer-supertype-spec : {M : Type 1} → statement M
 integer-supertype-spec = tie.close (tie.spec returns numeric-requires returns-2 numeric-requires-2 returns-3)

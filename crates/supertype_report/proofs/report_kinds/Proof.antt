@@ -18,4 +18,5 @@ returns-5 : tie.Need-returns-5
 returns-5 c = report-laws .only _ _ _ (λ h. omega arith)
 
 pub report-kinds-spec : {M : Type 1} → statement M
-report-kinds-spec = tie.close (tie.spec (λ c κs. search needs) (λ c. search needs) returns-2 returns-3 returns-4 returns-5)
+report-kinds-spec =
+    tie.close (tie.spec (λ c κs. search needs) (λ c. search needs) returns-2 returns-3 returns-4 returns-5)

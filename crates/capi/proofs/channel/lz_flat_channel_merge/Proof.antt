@@ -49,13 +49,13 @@ use Rattle.channels.proofs.merge_in_place.Symbol as place-def
 use Rattle.channels.proofs.merge_in_place.Symbol.{name as #merge-in-place}
 use Rattle.channels.proofs.merge_in_place.Met as place-thm
 use Rattle.capi.specs.Reply.{mergedReply}
-use Rattle.capi.specs.declared.Reply.{Reply}
-use Rattle.capi.proofs.Reply as R
-use Rattle.capi.proofs.Reply.Laws as R′
-use Rattle.capi.proofs.channel.merged_reply as replying
-use Rattle.capi.proofs.channel.merged_reply.Symbol as replying-def
-use Rattle.capi.proofs.channel.merged_reply.Symbol.{name as #merged-reply}
-use Rattle.capi.proofs.channel.merged_reply.Met as replying-thm
+use Rattle.capi.specs.declared.reply.Reply.{Reply}
+use Rattle.capi.proofs.reply.Reply as R
+use Rattle.capi.proofs.reply.Reply.Laws as R′
+use Rattle.capi.proofs.reply.merged_reply as replying
+use Rattle.capi.proofs.reply.merged_reply.Symbol as replying-def
+use Rattle.capi.proofs.reply.merged_reply.Symbol.{name as #merged-reply}
+use Rattle.capi.proofs.reply.merged_reply.Met as replying-thm
 use Rattle.capi.proofs.Merges.{merge-reply}
 use Rattle.capi.proofs.channel.lz_flat_channel_merge.Key.{name as #lz-flat-channel-merge}
 use Rattle.capi.proofs.channel.lz_flat_channel_merge as lent
@@ -192,4 +192,4 @@ lz-flat-channel-merge-spec 𝓤 H 𝓜 𝓖 𝓡 =
     (tables 𝓤 H 𝓜 𝓡 code.env .C) (tables 𝓤 H 𝓜 𝓡 code.env .Λ) #lz-flat-channel-merge code.function (code.unfolded 𝓤 H 𝓜 𝓡)
     (lent-meets 𝓤 H (𝓖 .A) (givenOf 𝓤 H 𝓜 𝓖) (𝓜 .mem) (𝓡 .run) (tablesOf 𝓤 H 𝓜 (tables 𝓤 H 𝓜 𝓡 code.env))
     (cited 𝓤 H (Place 𝓤 H (𝓖 .A) (𝓜 .mem) (𝓡 .run)) 𝓜 𝓡 code.env #merge-in-place place-def.routine code.calls-channels·merge-in-place (place-thm.met 𝓤 H 𝓜 𝓖 𝓡))
-    (cited 𝓤 H (Replying 𝓤 H (𝓖 .A) (𝓜 .mem) (𝓡 .run)) 𝓜 𝓡 code.env #merged-reply replying-def.routine code.calls-capi·channel·merged-reply (replying-thm.met 𝓤 H 𝓜 𝓖 𝓡)))
+    (cited 𝓤 H (Replying 𝓤 H (𝓖 .A) (𝓜 .mem) (𝓡 .run)) 𝓜 𝓡 code.env #merged-reply replying-def.routine code.calls-capi·reply·merged-reply (replying-thm.met 𝓤 H 𝓜 𝓖 𝓡)))

@@ -1,4 +1,5 @@
--- `channels::limits::channel_limit` meets its contract: the number of channels lies where document 01's cases need it. Assumes nothing.
+-- `channels::limits::channel_limit` meets its contract: the number of channels lies where document 01's cases need it.
+-- Assumes nothing.
 use mathlib.Core.Path.{refl}
 use Rattle.flat.specs.Tree.{headKind}
 use Rattle.supertype_numbers.specs.Range.{isListed}

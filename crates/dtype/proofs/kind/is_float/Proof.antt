@@ -1,5 +1,7 @@
 -- `dtype::kind::is_float` meets its contract. Assumes nothing.
+use mathlib.Core.Path.{_≡_}
 use mathlib.Core.Bool.{true, false}
+use Prim.Native.Nat.{ℕ, _<_}
 use native.Mathlib.Omega.{arith}
 use borrow.Author.Tests.{ne-eqb}
 use Rattle.dtype.specs.Match.{among}
@@ -8,11 +10,10 @@ use Rattle.dtype.proofs.Runs.{says, of-run}
 use Rattle.dtype.proofs.kind.is_float.Statement.{statement}
 use Rattle.dtype.proofs.kind.is_float.Tie as tie
 
-returns-4 : tie.Need-returns-4
+past-float64 : (k : ℕ) → 14 < k → (k ≡ 25 → ⊥) → false ≡ isFloat k
 unfolding isFloat among
-returns-4 c =
-    let k = c .before .before .before .args .kind in
-    rw (ne-eqb k 12 (omega arith), ne-eqb k 13 (omega arith), ne-eqb k 14 (omega arith), ne-eqb k 25 (c .before .before .match .rest .1))
+past-float64 k h n =
+    rw (ne-eqb k 12 (omega arith), ne-eqb k 13 (omega arith), ne-eqb k 14 (omega arith), ne-eqb k 25 n)
 
 pub is-float-spec : {M : Type 1} → statement M
 is-float-spec =
@@ -21,4 +22,4 @@ is-float-spec =
     (λ c. of-run isFloat true 25 1 (unfold says in tt) _ (omega arith))
     (λ c. of-run isFloat true 12 3 (unfold says in tt) _ (omega arith))
     (λ c. of-run isFloat false 0 12 (unfold says in tt) _ (omega arith))
-    returns-4)
+    (λ c. past-float64 _ (search) (search)))

@@ -18,7 +18,8 @@ returns-3 c = rw (c .match .keys3)
 
 returns-4 : tie.Need-returns-4
 unfolding unitOf
-returns-4 c = rw (ne-eqb _ 0 (c .match .rest .0 .0 .1), ne-eqb _ 1 (c .match .rest .0 .1), ne-eqb _ 2 (c .match .rest .1))
+returns-4 c =
+    rw (ne-eqb _ 0 (c .match .rest .0 .0 .1), ne-eqb _ 1 (c .match .rest .0 .1), ne-eqb _ 2 (c .match .rest .1))
 
 pub unit-of-spec : {M : Type 1} → statement M
 unit-of-spec = tie.close (tie.spec returns returns-2 returns-3 returns-4)

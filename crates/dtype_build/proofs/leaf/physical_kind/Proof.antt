@@ -2,8 +2,7 @@
 use native.Mathlib.Omega.{arith}
 use Rattle.flat.specs.Tree.{headKind}
 use Rattle.dtype.specs.Match.{among}
-use Rattle.dtype.specs.Physical.{physicalLeaf}
-use Rattle.dtype.specs.Physical.{physicalKind}
+use Rattle.dtype.specs.Physical.{physicalLeaf, physicalKind}
 use Rattle.dtype_build.proofs.Leaves.{physical-int64, physical-same}
 use Rattle.dtype_build.proofs.leaf.physical_kind.Statement.{statement}
 use Rattle.dtype_build.proofs.leaf.physical_kind.Tie as tie

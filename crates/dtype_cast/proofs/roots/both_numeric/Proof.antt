@@ -5,7 +5,9 @@ use Rattle.dtype_cast.proofs.roots.both_numeric.Statement.{statement}
 use Rattle.dtype_cast.proofs.roots.both_numeric.Tie as tie
 
 returns : tie.Need-returns
-returns c = rw (sym (c .before .before .is-primitive-numeric .ensures) ∙ c .before .if1 .taken) (c .is-primitive-numeric2 .ensures)
+returns c =
+    let t = c .before in
+    rw (sym (t .before .is-primitive-numeric .ensures) ∙ t .if1 .taken) (c .is-primitive-numeric2 .ensures)
 
 returns-2 : tie.Need-returns-2
 returns-2 c = rw (sym (c .before .is-primitive-numeric .ensures) ∙ c .if1 .left)

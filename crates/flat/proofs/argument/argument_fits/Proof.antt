@@ -1,4 +1,5 @@
--- `flat::argument::argument_fits` meets its contract: single kinds by computation, runs of kinds by one computed test each. Assumes nothing.
+-- `flat::argument::argument_fits` meets its contract: single kinds by computation, runs of kinds by one computed test
+-- each. Assumes nothing.
 use native.Mathlib.Omega.{arith}
 use borrow.Author.Needs.{needs}
 use Rattle.flat.specs.Argument.{argumentFits, argumentRule}
@@ -40,18 +41,26 @@ returns-8 c = ruled isZero zero-follows 0 15 tt _ _ (omega arith) (omega arith)
 
 returns-9 : tie.Need-returns-9
 unfolding argumentRule
-returns-9 c = ruled isZero zero-follows 16 4 tt _ _ (next 15 (c .before .if1 .left) (c .before .before .match .rest .0 .0 .0 .0 .0 .0 .1)) (c .if2 .taken)
+returns-9 c =
+    ruled isZero zero-follows 16 4 tt _ _
+    (next 15 (c .before .if1 .left) (c .before .before .match .rest .0 .0 .0 .0 .0 .0 .1)) (c .if2 .taken)
 
 returns-10 : tie.Need-returns-10
 unfolding argumentRule
-returns-10 c = ruled isZero zero-follows 22 4 tt _ _ (next 21 (next 20 (c .before .if2 .left) (c .before .before .before .match .rest .0 .0 .0 .0 .0 .1)) (c .before .before .before .match .rest .0 .0 .0 .0 .1)) (c .if3 .taken)
+returns-10 c =
+    let other = c .before .before .before .match .rest in
+    ruled isZero zero-follows 22 4 tt _ _
+    (next 21 (next 20 (c .before .if2 .left) (other .0 .0 .0 .0 .0 .1)) (other .0 .0 .0 .0 .1)) (c .if3 .taken)
 
 returns-11 : tie.Need-returns-11
 unfolding argumentRule
 returns-11 c = ruled isFree free-follows 26 2 tt _ _ (c .before .if3 .left) (c .if4 .taken)
 
 returns-12 : tie.Need-returns-12
-returns-12 c = no-kind _ _ (next 31 (next 30 (next 29 (next 28 (c .if4 .left) (c .before .before .before .before .match .rest .0 .0 .0 .1)) (c .before .before .before .before .match .rest .0 .0 .1)) (c .before .before .before .before .match .rest .0 .1)) (c .before .before .before .before .match .rest .1))
+returns-12 c =
+    let other = c .before .before .before .before .match .rest in
+    no-kind _ _
+    (next 31 (next 30 (next 29 (next 28 (c .if4 .left) (other .0 .0 .0 .1)) (other .0 .0 .1)) (other .0 .1)) (other .1))
 
 pub argument-fits-spec : {M : Type 1} → statement M
 argument-fits-spec =

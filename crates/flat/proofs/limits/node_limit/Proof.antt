@@ -1,4 +1,5 @@
--- `flat::limits::node_limit` meets its contract: the code's limits lie where document 01's trees need them. Assumes nothing.
+-- `flat::limits::node_limit` meets its contract: the code's limits lie where document 01's trees need them. Assumes
+-- nothing.
 use lib.Dec.{lit≤, lit<}
 use Rattle.flat.specs.Tree.{size, depth}
 use Rattle.flat.specs.Limits.{lists, fieldsOf}

@@ -21,4 +21,5 @@ returns-4 : tie.Need-returns-4
 returns-4 c = no-field _ _ (c .before .if3 .left) (c .argument-fits2 .ensures)
 
 pub type-fits-spec : {M : Type 1} → statement M
-type-fits-spec = tie.close (tie.spec returns (λ c κs. search needs) returns-2 returns-3 (λ c κs. search needs) returns-4)
+type-fits-spec =
+    tie.close (tie.spec returns (λ c κs. search needs) returns-2 returns-3 (λ c κs. search needs) returns-4)

@@ -1,56 +1,39 @@
 -- `flat::span::bottom` meets its contract: the Lists and Arrays seen so far, and those to come. Assumes nothing.
-use Prim.Native.Nat.{_+_, _-_, _≤_}
-use mathlib.Core.Path.{_≡_, refl, sym}
-use native.Mathlib.Nat.{zero-add}
+use Prim.Native.Nat.{_-_}
 use native.Mathlib.Omega.{arith}
-use denote.Ref.{now}
-use lib.ListN.{length, drop}
+use lib.ListN.{length}
 use borrow.Author.Needs.{needs}
-use Rattle.flat.specs.Reader.{no-type, under-list, under-array}
-use Rattle.flat.specs.Span.{wrappersOf}
-use Rattle.flat.proofs.Positions.{children-list, children-list-bad, children-array}
-use Rattle.flat.proofs.Spans.{no-wrapper, wrappers-stop, wrappers-on, wrappers-end}
+use Rattle.flat.proofs.Spans.{WrappersSeen, none-seen, list-seen, array-seen, bad-list, no-wrapper, wrappers-end}
 use Rattle.flat.proofs.span.bottom.Statement.{statement}
 use Rattle.flat.proofs.span.bottom.Tie as tie
 
 abbrev Inv-loop : tie.InvT-loop
-Inv-loop kinds args at₀ at = (at ≤ length kinds) × (wrappersOf kinds args ≡ at + wrappersOf (drop at kinds) (drop at args))
+Inv-loop kinds args at₀ at = WrappersSeen kinds args at
 
 abbrev μ-loop : tie.MeasureT-loop
 μ-loop kinds args at₀ at = length kinds - at
 
 loop-holds : tie.Need-loop-holds Inv-loop μ-loop
-loop-holds c = (omega arith, sym (zero-add _))
+loop-holds c = none-seen (c .pre)
 
 returns : tie.Need-returns Inv-loop μ-loop
 returns c =
-    let s = c .before .before .before .before .before .before in
-    let l = c .before .before .before .before .before in
-    (wrappers-stop (now (s .args .kinds)) (now (s .args .args)) (l .loop .at) (l .loop .inv .1) (c .before .before .before .before .loop-test .taken) (search needs) no-type (children-list-bad _ _ (c .before .before .match .keys1) (c .if1 .taken)) refl, search needs)
+    bad-list (c .before .before .before .before .before .loop .inv) (omega arith) (c .before .before .match .keys1)
+    (c .if1 .taken)
 
 loop-again : tie.Need-loop-again Inv-loop μ-loop
 loop-again c =
-    let s = c .before .before .before .before .before .before in
-    let l = c .before .before .before .before .before in
-    (omega arith, wrappers-on (now (s .args .kinds)) (now (s .args .args)) (l .loop .at) (l .loop .inv .1) (c .before .before .before .before .loop-test .taken) (search needs) under-list (children-list _ _ (c .before .before .match .keys1) (c .if1 .left)) refl)
+    list-seen (c .before .before .before .before .before .loop .inv) (omega arith) (c .before .before .match .keys1)
+    (c .if1 .left)
 
 loop-again-2 : tie.Need-loop-again-2 Inv-loop μ-loop
-loop-again-2 c =
-    let s = c .before .before .before .before in
-    let l = c .before .before .before in
-    (omega arith, wrappers-on (now (s .args .kinds)) (now (s .args .args)) (l .loop .at) (l .loop .inv .1) (c .before .before .loop-test .taken) (search needs) under-array (children-array _ _ (c .match .keys2)) refl)
+loop-again-2 c = array-seen (c .before .before .before .loop .inv) (omega arith) (c .match .keys2)
 
 returns-2 : tie.Need-returns-2 Inv-loop μ-loop
-returns-2 c =
-    let s = c .before .before .before .before in
-    let l = c .before .before .before in
-    (wrappers-stop (now (s .args .kinds)) (now (s .args .args)) (l .loop .at) (l .loop .inv .1) (c .before .before .loop-test .taken) (search needs) _ refl (no-wrapper _ _ _ (c .match .rest .0 .1) (c .match .rest .1)), search needs)
+returns-2 c = no-wrapper (c .before .before .before .loop .inv) (omega arith) (c .match .rest .0 .1) (c .match .rest .1)
 
 returns-3 : tie.Need-returns-3 Inv-loop μ-loop
-returns-3 c =
-    let s = c .before .before in
-    let l = c .before in
-    (wrappers-end (now (s .args .kinds)) (now (s .args .args)) (l .loop .at) (l .loop .inv .1) (c .loop-test .left), search needs)
+returns-3 c = wrappers-end (c .before .loop .inv) (c .loop-test .left)
 
 pub bottom-spec : {M : Type 1} → statement M
 bottom-spec =

@@ -1,37 +1,18 @@
 -- `replay::answer::same_numbers` meets its contract: the first i numbers are the same. Assumes nothing.
 use borrow.Author.Needs.{needs}
 use native.Mathlib.Omega.{arith}
-use Prim.Native.Nat.{ℕ, _≤_, _-_}
-use mathlib.Core.Path.{_≡_, refl, ap}
-use mathlib.Core.List.{List}
-use lib.ListN.{length, getD, take}
-use Rattle.replay.proofs.Compare.{denied, same-more, same-all}
+use Prim.Native.Nat.{_-_}
+use mathlib.Core.Path.{refl}
+use lib.ListN.{length}
+use Rattle.replay.proofs.Compare.{other-length, SameTo, same-on, same-stop, same-all}
 use Rattle.replay.proofs.answer.same_numbers.Statement.{statement}
 use Rattle.replay.proofs.answer.same_numbers.Tie as tie
 
 abbrev Inv-loop : tie.InvT-loop
-Inv-loop numbers others i₀ i = (i ≤ length numbers) × (take i numbers ≡ take i others)
+Inv-loop numbers others i₀ i = SameTo numbers others i
 
 abbrev μ-loop : tie.MeasureT-loop
 μ-loop numbers others i₀ i = length numbers - i
-
-returns : tie.Need-returns Inv-loop μ-loop
-returns c = denied (λ e. c .if1 .taken (ap length e))
-
-returns-2 : tie.Need-returns-2 Inv-loop μ-loop
-returns-2 c = denied (λ e. c .if2 .taken (ap (λ (l : List ℕ). getD l (c .before .before .before .before .loop .i) 0) e))
-
-loop-again : tie.Need-loop-again Inv-loop μ-loop
-loop-again c =
-    let l = c .before .before .before .before in
-    let s = l .before .before in
-    (omega arith, same-more (s .args .numbers .now) (s .args .others .now) (l .loop .i) (l .loop .inv .1) (omega arith) (omega arith) (c .if2 .left))
-
-returns-3 : tie.Need-returns-3 Inv-loop μ-loop
-returns-3 c =
-    let l = c .before in
-    let s = l .before .before in
-    same-all (s .args .numbers .now) (s .args .others .now) (l .loop .i) (l .loop .inv .1) (omega arith) (omega arith)
 
 pub same-numbers-spec : {M : Type 1} → statement M
 same-numbers-spec =
@@ -39,10 +20,10 @@ same-numbers-spec =
     (tie.spec
     Inv-loop
     μ-loop
-    returns
-    (λ c. (omega arith, refl))
+    (λ c. search other-length)
+    (λ c. record { even = search; within = omega arith; same = refl })
     (λ c. search needs) (λ c. search needs) (λ c. search needs) (λ c. search needs)
-    returns-2
+    (λ c. search same-stop)
     (λ c. search needs) (λ c. search needs)
-    loop-again
-    returns-3)
+    (λ c. search same-on)
+    (λ c. search same-all))

@@ -1,6 +1,7 @@
 -- `supertype::node::get_supertype_known` meets its contract. Assumes nothing.
 use native.Mathlib.Omega.{arith}
-use Rattle.supertype.proofs.Numbers.{apart-below, known-same, known-null, join-up, join-down}
+use Rattle.supertype_arms.proofs.Bare.{apart-below}
+use Rattle.supertype.proofs.Numbers.{known-same, known-null, join-up, join-down}
 use Rattle.supertype.proofs.node.get_supertype_known.Statement.{statement}
 use Rattle.supertype.proofs.node.get_supertype_known.Tie as tie
 
@@ -23,4 +24,5 @@ returns-4 : tie.Need-returns-4
 returns-4 c = join-down _ _ _ (omega arith) (omega arith) (c .numeric2 .ensures)
 
 pub get-supertype-known-spec : {M : Type 1} → statement M
-get-supertype-known-spec = tie.close (tie.spec returns returns-2 numeric-requires returns-3 numeric-requires-2 returns-4)
+get-supertype-known-spec =
+    tie.close (tie.spec returns returns-2 numeric-requires returns-3 numeric-requires-2 returns-4)

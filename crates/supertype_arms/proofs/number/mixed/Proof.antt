@@ -15,7 +15,9 @@ returns-2 : tie.Need-returns-2
 returns-2 c s = rule (λ s a b. Kind Int128) UInt64 1 Int128 1 (unfold right in tt) s _ _ (omega arith)
 
 returns-3 : tie.Need-returns-3
-returns-3 c s = rw (c .larger .ensures) (rule (λ s a b. Kind (max (a + 6) b)) UInt8 3 Int8 5 (unfold right in tt) s _ _ (omega arith))
+returns-3 c s =
+    rw (c .larger .ensures)
+    (rule (λ s a b. Kind (max (a + 6) b)) UInt8 3 Int8 5 (unfold right in tt) s _ _ (omega arith))
 
 returns-4 : tie.Need-returns-4
 returns-4 c s = rule (λ s a b. Kind Int128) UInt128 1 Int8 5 (unfold right in tt) s _ _ (omega arith)
@@ -24,4 +26,5 @@ returns-5 : tie.Need-returns-5
 returns-5 c s = rule (λ s a b. Kind Int128) UInt128 1 Int8 5 (unfold right in tt) s _ _ (omega arith)
 
 pub mixed-spec : {M : Type 1} → statement M
-mixed-spec = tie.close (tie.spec (λ c. search needs) (λ c κs. search needs) returns returns-2 returns-3 returns-4 returns-5)
+mixed-spec =
+    tie.close (tie.spec (λ c. search needs) (λ c κs. search needs) returns returns-2 returns-3 returns-4 returns-5)

@@ -15,7 +15,9 @@ returns-2 : tie.Need-returns-2
 returns-2 c = rule (λ s a b. Kind Float64) Float16 3 Decimal 1 (unfold right in tt) _ _ _ (omega arith)
 
 returns-3 : tie.Need-returns-3
-returns-3 c = rw (c .string-if .ensures) (rule (λ s a b. cond s (Kind String) No) Boolean 14 String 1 (unfold right in tt) _ _ _ (omega arith))
+returns-3 c =
+    rw (c .string-if .ensures)
+    (rule (λ s a b. cond s (Kind String) No) Boolean 14 String 1 (unfold right in tt) _ _ _ (omega arith))
 
 returns-4 : tie.Need-returns-4
 returns-4 c = c .numeric .ensures _
@@ -33,4 +35,7 @@ returns-8 : tie.Need-returns-8
 returns-8 c = c .dynamic .ensures _
 
 pub number-row-spec : {M : Type 1} → statement M
-number-row-spec = tie.close (tie.spec (λ c κs. search needs) (λ c κs. search needs) (λ c κs. search needs) (λ c κs. search needs) returns returns-2 returns-3 returns-4 returns-5 returns-6 returns-7 returns-8)
+number-row-spec =
+    tie.close
+    (tie.spec (λ c κs. search needs) (λ c κs. search needs) (λ c κs. search needs)
+    (λ c κs. search needs) returns returns-2 returns-3 returns-4 returns-5 returns-6 returns-7 returns-8)

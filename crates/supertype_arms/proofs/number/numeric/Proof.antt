@@ -23,4 +23,5 @@ returns-5 : tie.Need-returns-5
 returns-5 c s = rule-apart (λ s a b. Kind b) Boolean 6 Boolean 6 (unfold right-apart in tt) s _ _ (omega arith) (cc)
 
 pub numeric-spec : {M : Type 1} → statement M
-numeric-spec = tie.close (tie.spec (λ c κs. search needs) returns (λ c κs. search needs) returns-2 returns-3 returns-4 returns-5)
+numeric-spec =
+    tie.close (tie.spec (λ c κs. search needs) returns (λ c κs. search needs) returns-2 returns-3 returns-4 returns-5)

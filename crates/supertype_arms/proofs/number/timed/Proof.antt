@@ -1,6 +1,7 @@
 -- `supertype_arms::number::timed` meets its contract. Assumes nothing.
 use native.Mathlib.Omega.{arith}
-use Rattle.flat.specs.Kind.{Boolean, UInt32, UInt128, Int32, Int64, Int128, Float16, Float32, Float64, Date, Datetime, Time}
+use Rattle.flat.specs.Kind.{Boolean, UInt32, UInt128, Int32, Int64, Int128, Float16, Float32, Float64, Date, Datetime}
+use Rattle.flat.specs.Kind.{Time}
 use Rattle.supertype_arms.specs.declared.plan.Plan.the-variants.{No, Kind}
 use Rattle.supertype_arms.proofs.Areas.{right, rule}
 use Rattle.supertype_arms.proofs.number.timed.Statement.{statement}
@@ -40,4 +41,7 @@ returns-11 : tie.Need-returns-11
 returns-11 c s = rule (λ s a b. Kind Float64) Float64 1 Date 4 (unfold right in tt) s _ _ (omega arith)
 
 pub timed-spec : {M : Type 1} → statement M
-timed-spec = tie.close (tie.spec returns returns-2 returns-3 returns-4 returns-5 returns-6 returns-7 returns-8 returns-9 returns-10 returns-11)
+timed-spec =
+    tie.close
+    (tie.spec returns returns-2 returns-3 returns-4 returns-5 returns-6 returns-7 returns-8 returns-9 returns-10
+    returns-11)

@@ -32,4 +32,7 @@ returns-6 : tie.Need-returns-6
 returns-6 c = c .unknown-row .ensures
 
 pub planned-spec : {M : Type 1} → statement M
-planned-spec = tie.close (tie.spec null-row-requires decimal-row-requires string-row-requires (λ c κs. search needs) (λ c κs. search needs) (λ c κs. search needs) returns returns-2 returns-3 returns-4 returns-5 returns-6)
+planned-spec =
+    tie.close
+    (tie.spec null-row-requires decimal-row-requires string-row-requires (λ c κs. search needs) (λ c κs. search needs)
+    (λ c κs. search needs) returns returns-2 returns-3 returns-4 returns-5 returns-6)

@@ -9,7 +9,9 @@ use Rattle.supertype_arms.proofs.row.decimal_row.Statement.{statement}
 use Rattle.supertype_arms.proofs.row.decimal_row.Tie as tie
 
 returns : tie.Need-returns
-returns c = rw (c .string-if .ensures) (rule (λ s a b. cond s (Kind String) No) Decimal 1 String 1 (unfold right in tt) _ _ _ (omega arith))
+returns c =
+    rw (c .string-if .ensures)
+    (rule (λ s a b. cond s (Kind String) No) Decimal 1 String 1 (unfold right in tt) _ _ _ (omega arith))
 
 returns-2 : tie.Need-returns-2
 returns-2 c = rule (λ s a b. Kind Float64) Decimal 1 UnknownFloat 1 (unfold right in tt) _ _ _ (omega arith)

@@ -28,10 +28,16 @@ returns-3 : tie.Need-returns-3
 returns-3 c = rw (c .before .match .keys3) (c .duration-row .ensures)
 
 returns-4 : tie.Need-returns-4
-returns-4 c = rw (c .alone .ensures) (rule-apart (λ s a b. cond (ltb b UnknownAny) No (Kind UnknownAny)) Binary 2 Binary 11 (unfold right-apart in tt) _ _ _ (omega arith) (cc))
+returns-4 c =
+    rw (c .alone .ensures)
+    (rule-apart (λ s a b. cond (ltb b UnknownAny) No (Kind UnknownAny)) Binary 2 Binary 11
+    (unfold right-apart in tt) _ _ _ (omega arith) (cc))
 
 returns-5 : tie.Need-returns-5
 returns-5 c = rw (c .alone2 .ensures) (alone-right _ _ _ (omega arith) (cc))
 
 pub other-row-spec : {M : Type 1} → statement M
-other-row-spec = tie.close (tie.spec date-row-requires datetime-row-requires duration-row-requires (λ c κs. search needs) (λ c κs. search needs) returns returns-2 returns-3 returns-4 returns-5)
+other-row-spec =
+    tie.close
+    (tie.spec date-row-requires datetime-row-requires duration-row-requires (λ c κs. search needs)
+    (λ c κs. search needs) returns returns-2 returns-3 returns-4 returns-5)

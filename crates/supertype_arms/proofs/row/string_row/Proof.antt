@@ -21,10 +21,16 @@ returns-4 : tie.Need-returns-4
 returns-4 c = rule-apart (λ s a b. Kind Binary) String 1 String 2 (unfold right-apart in tt) _ _ _ (omega arith) (cc)
 
 returns-5 : tie.Need-returns-5
-returns-5 c = rw (c .string-if .ensures) (rule (λ s a b. cond s (Kind String) No) String 1 Date 4 (unfold right in tt) _ _ _ (omega arith))
+returns-5 c =
+    rw (c .string-if .ensures)
+    (rule (λ s a b. cond s (Kind String) No) String 1 Date 4 (unfold right in tt) _ _ _ (omega arith))
 
 returns-6 : tie.Need-returns-6
-returns-6 c = rw (c .left-if .ensures) (rule (λ s a b. cond s Left No) String 1 UnknownFloat 3 (unfold right in tt) _ _ _ (omega arith))
+returns-6 c =
+    rw (c .left-if .ensures)
+    (rule (λ s a b. cond s Left No) String 1 UnknownFloat 3 (unfold right in tt) _ _ _ (omega arith))
 
 pub string-row-spec : {M : Type 1} → statement M
-string-row-spec = tie.close (tie.spec (λ c κs. search needs) (λ c κs. search needs) returns returns-2 returns-3 returns-4 returns-5 returns-6)
+string-row-spec =
+    tie.close
+    (tie.spec (λ c κs. search needs) (λ c κs. search needs) returns returns-2 returns-3 returns-4 returns-5 returns-6)

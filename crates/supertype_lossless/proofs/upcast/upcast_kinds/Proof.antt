@@ -14,7 +14,9 @@ returns : tie.Need-returns
 returns c = same-kind _ _ (c .if1 .taken)
 
 returns-2 : tie.Need-returns-2
-returns-2 c = rw (c .wider .ensures) (rule-apart (λ l r. To (max l r)) UInt8 5 UInt8 5 (unfold right in tt) _ _ (omega arith) (c .before .before .before .before .before .if1 .left))
+returns-2 c =
+    rw (c .wider .ensures)
+    (rule-apart (λ l r. To (max l r)) UInt8 5 UInt8 5 (unfold right in tt) _ _ (omega arith) (omega arith))
 
 returns-3 : tie.Need-returns-3
 returns-3 c = c .mixed .ensures .0
@@ -29,7 +31,9 @@ returns-6 : tie.Need-returns-6
 returns-6 c = c .mixed2 .ensures .1
 
 returns-7 : tie.Need-returns-7
-returns-7 c = rw (c .wider2 .ensures) (rule-apart (λ l r. To (max l r)) Int8 5 Int8 5 (unfold right in tt) _ _ (omega arith) (c .before .before .before .before .before .before .before .if1 .left))
+returns-7 c =
+    rw (c .wider2 .ensures)
+    (rule-apart (λ l r. To (max l r)) Int8 5 Int8 5 (unfold right in tt) _ _ (omega arith) (omega arith))
 
 returns-8 : tie.Need-returns-8
 returns-8 c = rule (λ l r. Nothing) Int8 5 Null 2 (unfold right in tt) _ _ (omega arith)
@@ -38,7 +42,9 @@ returns-9 : tie.Need-returns-9
 returns-9 c = rule (λ l r. Nothing) Int8 5 Float16 244 (unfold right in tt) _ _ (omega arith)
 
 returns-10 : tie.Need-returns-10
-returns-10 c = rw (c .wider3 .ensures) (rule-apart (λ l r. To (max l r)) Float16 3 Float16 3 (unfold right in tt) _ _ (omega arith) (c .before .before .before .before .before .before .before .if1 .left))
+returns-10 c =
+    rw (c .wider3 .ensures)
+    (rule-apart (λ l r. To (max l r)) Float16 3 Float16 3 (unfold right in tt) _ _ (omega arith) (omega arith))
 
 returns-11 : tie.Need-returns-11
 returns-11 c = rule (λ l r. Nothing) Float16 3 Null 12 (unfold right in tt) _ _ (omega arith)
@@ -58,4 +64,5 @@ upcast-kinds-spec =
     (tie.spec
     returns
     (λ c κs. search needs) (λ c κs. search needs) (λ c κs. search needs) (λ c κs. search needs) (λ c κs. search needs)
-    returns-2 returns-3 returns-4 returns-5 returns-6 returns-7 returns-8 returns-9 returns-10 returns-11 returns-12 returns-13 returns-14)
+    returns-2 returns-3 returns-4 returns-5 returns-6 returns-7 returns-8 returns-9 returns-10 returns-11 returns-12
+    returns-13 returns-14)

@@ -1,2 +1,0 @@
--- What a call comes to that joins two encoded types.
-pub mod Join

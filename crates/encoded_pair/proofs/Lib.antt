@@ -1,0 +1,2 @@
+-- What two opened types and a question come to.
+mod Asking
