@@ -22,11 +22,7 @@ pub extern "C" fn lz_materialize_unknown(encoded: &[u8], allow_unknown: u8, out:
       let known = materialized (not (eqb «allow_unknown» 0)) (decoding w nodes deep (now (encoded .entry)))
       ⌜ Replies (Encodes w (fittingBytes w (length held) known) held (now (out .exit))) encodedReply r ⌝ }
 {
-    encoded_reply(encoded_dtype::materialize_unknown(
-        encoded,
-        allow_unknown != 0,
-        out,
-    ))
+    encoded_reply(encoded_dtype::materialize_unknown(encoded, allow_unknown != 0, out))
 }
 
 // The type's physical form.

@@ -48,12 +48,7 @@ impl Verdict {
 }
 
 // The walk's verdict on two types that were checked, at the front of the arrays.
-fn walk_verdict(
-    from_kinds: &[u8],
-    from_args: &[u64],
-    to_kinds: &[u8],
-    to_args: &[u64],
-) -> Verdict
+fn walk_verdict(from_kinds: &[u8], from_args: &[u64], to_kinds: &[u8], to_args: &[u64]) -> Verdict
     requires { ⌜ Valid (now «from_kinds») (now «from_args») ⌝ }
     requires { ⌜ Valid (now «to_kinds») (now «to_args») ⌝ }
     ensures { λ r. do

@@ -2,32 +2,43 @@
 use mathlib.Core.Path.{_≡_, refl, sym, ap, _∙_}
 use mathlib.Core.Bool.{Bool, true, false, cond, not, _&&_}
 use mathlib.Core.List.{List, [], _∷_}
-use Prim.Native.Nat.{ℕ, _+_, _-_, _≤_}
+use Prim.Native.Nat.{ℕ, _+_, _-_, _*_, _≤_}
+use native.Mathlib.Nat.{mul-comm, le-of-mul-le-mul-right}
 use native.Mathlib.Omega.{arith}
-use lib.ListN.{length, take, drop}
-use lib.Seq.{length-take-le, take-at}
+use lib.ListN.{length, take, drop, length-take}
 use Rattle.flat.specs.Tree.{DataType, leaf, size, headKind, kindsOf, argsOf}
 use Rattle.flat.specs.Reading.{Reading, refused, type}
 use Rattle.flat.specs.Walk.{Valid, typeAt}
-use Rattle.flat.specs.Output.{over, kindsOver, argsOver, writtenOf, writtenValue, Writes}
-use Rattle.flat.specs.declared.Written.{Written}
+use Rattle.flat.specs.Output.{kindsOver, argsOver}
 use Rattle.flat.specs.declared.error.Error.{Error}
 use Rattle.flat.specs.declared.error.Error.the-variants.{Unknown}
 use Rattle.flat.proofs.Sizes.{length-kinds, length-args}
-use Rattle.flat.proofs.Outputs.{writes-type}
-use Rattle.encoded.specs.Encoding.{decoding}
-use Rattle.encoded.specs.Answer.{nodesIn, fittingBytes, Encodes, Puts}
+use Rattle.encoded.specs.Encoding.{encodedSize, countIn, sizeFits, decoding}
+use Rattle.encoded.specs.Answer.{nodesIn, argsOpened, fittingBytes, Encodes, Puts}
 use Rattle.encoded.specs.declared.Encoded.{Encoded}
-use Rattle.encoded.proofs.Answers.{nodes-sized, nodes-few, type-form, encodes-refused, puts-type}
-use Rattle.encoded.proofs.Opening.{Opened, written-type, written-refused}
+use Rattle.encoded.proofs.Answers.{sized, nodes-sized, encodes-refused, puts-type}
+use Rattle.encoded.proofs.Opening.{Opened}
 use Rattle.dtype.specs.Physical.{toPhysical}
 use Rattle.dtype_build.specs.Build.{orUnknown, materialized, physical}
 use Rattle.dtype_build.specs.Leaf.{materializedLeaf, leafOf, mapLeaves, hasAny, HasRoom, BuiltType}
 use Rattle.dtype_build.specs.declared.leaf.Form.{Form}
 use Rattle.dtype_build.proofs.Leaves.{zero-is}
 use Rattle.dtype_build.proofs.Forms.{noneIf, physical-is, known-is, size-map}
-use Rattle.encoded_dtype.specs.Forms.{formOf, RoomFor}
-use Rattle.encoded_dtype.proofs.Opening.{ReadsAs}
+use Rattle.dtype_build.proofs.Answers.{front}
+use Rattle.encoded_dtype.specs.Forms.{formOf, RoomFor, EncodesForm}
+use Rattle.encoded_dtype.proofs.Opening.{ReadsAs, opened-reads, View}
+
+-- ---- so few bytes hold so few nodes
+pub short-few : (w nodes few : ℕ) (s : List ℕ) → length s ≤ encodedSize w few → nodesIn w nodes s ≤ few
+unfolding nodesIn
+short-few w nodes few s h = go (sizeFits w nodes s) refl
+  where
+    go : (b : Bool) → sizeFits w nodes s ≡ b → cond b (countIn s) 0 ≤ few
+    go true f =
+        let z = sized w nodes s f in
+        let e : countIn s * (w + 1) ≤ few * (w + 1) = rw (mul-comm (countIn s) (w + 1), mul-comm few (w + 1)) (omega (arith, z .size)) in
+        le-of-mul-le-mul-right e (omega arith)
+    go false f = omega arith
 
 -- ---- the calls of dtype.rs, by the form
 or-unknown : (b : Bool) (t : DataType) → cond b (refused Unknown) (type t) ≡ orUnknown (noneIf b t)
@@ -80,6 +91,11 @@ pub refused-bytes : (w m : ℕ) {r : Reading} {e : Error} {out : List ℕ} → r
 unfolding fittingBytes
 refused-bytes w m q = encodes-refused (rw q)
 
+pub form-refused : {w nodes : ℕ} {s : List ℕ} {r : Reading} {xs xs′ K A out : List ℕ} {e : Error}
+    → xs′ ≡ argsOpened w nodes s xs → r ≡ refused e → EncodesForm w nodes s r xs K A out xs′ K A out (Encoded.Refused e)
+unfolding kindsOver argsOver
+form-refused x q = record { encodes = refused-bytes _ _ q; args = x; new-kinds = rw q; new-args = rw q }
+
 pub unopened-form : (form : Form) (allow : Bool) {r : Reading} {e : Error} → r ≡ refused e → formOf form allow r ≡ refused e
 unfolding formOf
 unopened-form form allow q = rw q
@@ -92,69 +108,70 @@ plain-form form k {y} e p =
     let l : leafOf form k 0 ≡ leaf y 0 = zero-is form k ∙ rw (← e) in
     puts-type (leafOf form k 0) (sym (ap kindsOf l)) (sym (ap argsOf l)) p
 
--- ---- an opened type of n nodes: there is room to build it
-pub form-room : {w nodes deep n : ℕ} {s xs : List ℕ} (o : Opened w nodes deep n s xs) {ys K A : List ℕ} → RoomFor (nodesIn w nodes s) ys K A
-    → Valid (take (2 + n - 2) (drop 2 s)) (take n xs)
-    × HasRoom (size (typeAt (take (2 + n - 2) (drop 2 s)) (take n xs))) K A
-form-room o r =
-    let e = ap size (o .parts .front) ∙ o .tree-size ∙ sym (nodes-sized (o .sized)) in
-    (o .parts .valid, record { kinds = rw e (r .new-kinds); args = rw e (r .new-args) })
+-- ---- an opened type of n nodes
+module _ {w nodes deep n : ℕ} {s xs : List ℕ} (o : Opened w nodes deep n s xs) where
+  nodes-at : size (typeAt (take (2 + n - 2) (drop 2 s)) (take n xs)) ≡ n
+  nodes-at = ap size (o .parts .front) ∙ o .tree-size
 
--- and it is written
-pub built-written : (t : DataType) {r : Reading} {K A K′ A′ : List ℕ} {n : ℕ} → r ≡ type t → BuiltType t K A K′ A′ n
-    → Writes r K A K′ A′ (Written.Nodes n)
-built-written t q b = writes-type q (b .nodes ∙ length-kinds t) (b .kinds) (b .args)
+  -- there is room to build it
+  pub form-room : {ys K A : List ℕ} → RoomFor (nodesIn w nodes s) ys K A
+      → Valid (take (2 + n - 2) (drop 2 s)) (take n xs)
+      × HasRoom (size (typeAt (take (2 + n - 2) (drop 2 s)) (take n xs))) K A
+  form-room r =
+      let e = nodes-at ∙ sym (nodes-sized (o .sized)) in
+      (o .parts .valid, record { kinds = rw e (r .new-kinds); args = rw e (r .new-args) })
 
--- no more nodes than it has, refused or not
-pub formed-few : (form : Form) (allow : Bool) (w nodes deep : ℕ) (s : List ℕ) {K A K′ A′ : List ℕ} {a : Written}
-    → Writes (formOf form allow (decoding w nodes deep s)) K A K′ A′ a
-    → (writtenValue a ≤ nodesIn w nodes s) × (writtenValue a ≤ nodes)
-unfolding formOf
-formed-few form allow w nodes deep s {a = a} f =
-    let h : writtenValue a ≤ nodesIn w nodes s = rw (f .answers) (go (decoding w nodes deep s) refl) in
-    (h, omega (arith, nodes-few w nodes s))
-  where
-    either : (b : Bool) (u : DataType) → size u ≤ nodesIn w nodes s → writtenValue (writtenOf (cond b (refused Unknown) (type u))) ≤ nodesIn w nodes s
-    either true u h = omega arith
-    either false u h = h
+  -- and to encode it
+  pub built-few : size (typeAt (take (2 + n - 2) (drop 2 s)) (take n xs)) ≤ nodes
+  built-few = rw nodes-at (o .sized .few)
 
-    go : (r : Reading) → decoding w nodes deep s ≡ r → writtenValue (writtenOf (formOf form allow r)) ≤ nodesIn w nodes s
-    go (refused e) q = omega arith
-    go (type t) q =
-        let n : size (mapLeaves (leafOf form) t) ≡ nodesIn w nodes s = size-map form t ∙ sym (nodes-sized (type-form t q .sized)) in
-        either (hasAny (kindsOf t) && not allow) (mapLeaves (leafOf form) t) (omega arith)
-
--- ---- what was written is encoded
-
--- What stands where n nodes were written: they stand at the front of K and A.
-pub record FrontView : Type 0 where
+-- What stands where a type was built: the n nodes of tree at the front of the arrays K and A, which are K′ and A′ now. The
+-- limits stay known, since what makes the record unfolds.
+pub record BuiltView (form : Form) (allow : Bool) (v : View) : Type 0 where
   pub n : ℕ
-  pub nodes : ℕ
   pub K : List ℕ
   pub A : List ℕ
-  pub kinds : length (take n K) ≡ n
-  pub args : length (take n A) ≡ n
-  pub few : n ≤ nodes
+  pub K′ : List ℕ
+  pub A′ : List ℕ
+  pub tree : DataType
+  pub built : BuiltType tree K A K′ A′ n
+  pub formed : formOf form allow (decoding (v .w) (v .nodes) (v .deep) (v .s)) ≡ type tree
+  pub few : n ≤ v .nodes
+  pub kinds : length (take n K′) ≡ n
+  pub args : length (take n A′) ≡ n
+  pub kinds-room : n ≤ length K′
+  pub args-room : n ≤ length A′
 
-abbrev pub front-view : {n nodes : ℕ} (K A : List ℕ) {a : Written} → a ≡ Written.Nodes n
-    → (writtenValue a ≤ length K) × (writtenValue a ≤ length A) × (writtenValue a ≤ nodes) → FrontView
-front-view {n} {nodes} K A q h =
-    let g = rw q at h in
-    record { n = n; nodes = nodes; K = K; A = A; kinds = length-take-le n K (g .0); args = length-take-le n A (g .1); few = g .2 }
+module _ (form : Form) (allow : Bool) (v : View) {b : Bool} (e : b ≡ (hasAny (take (2 + v .n - 2) (drop 2 (v .s))) && not allow)) (h : b ≡ false)
+    {K A K′ A′ : List ℕ} {n : ℕ} (d : BuiltType (mapLeaves (leafOf form) (typeAt (take (2 + v .n - 2) (drop 2 (v .s))) (take (v .n) (v .xs′)))) K A K′ A′ n) where
+  abbrev pub built-view : BuiltView form allow v
+  built-view =
+      let t : DataType = mapLeaves (leafOf form) (typeAt (take (2 + v .n - 2) (drop 2 (v .s))) (take (v .n) (v .xs′))) in
+      let f = front t d in
+      let k : length (take n K′) ≡ n = ap length (f .1) ∙ length-kinds t ∙ sym (f .0) in
+      let a : length (take n A′) ≡ n = ap length (f .2) ∙ length-args t ∙ sym (f .0) in
+      record {
+        n = n;
+        K = K;
+        A = A;
+        K′ = K′;
+        A′ = A′;
+        tree = t;
+        built = d;
+        formed = form-type form allow (opened-reads (v .whole)) e h;
+        few = rw (f .0, size-map form) (built-few (v .whole));
+        kinds = k;
+        args = a;
+        kinds-room = omega (arith, length-take n K′);
+        args-room = omega (arith, length-take n A′);
+      }
 
-module _ {w : ℕ} {r : Reading} {K₀ A₀ K A : List ℕ} {a : Written} (f : Writes r K₀ A₀ K A a) where
-  pub written-bytes : {n : ℕ} {out out′ : List ℕ} {d : Encoded} → a ≡ Written.Nodes n → Puts w (take n K) (take n A) out out′ d
-      → Encodes w (fittingBytes w (length out) r) out out′ d
-  unfolding kindsOver argsOver
-  written-bytes {n} {out} {out′} {d} q p = let t = written-type r (sym q ∙ f .answers) in go (t .0) (t .1) (t .2)
-    where
-      go : (t : DataType) → r ≡ type t → size t ≡ n → Encodes w (fittingBytes w (length out) r) out out′ d
-      go t e h =
-          let k : K ≡ over (kindsOf t) K₀ = f .kinds ∙ rw e in
-          let x : A ≡ over (argsOf t) A₀ = f .args ∙ rw e in
-          let front : take n K ≡ kindsOf t = rw k (take-at (kindsOf t) _ n (length-kinds t ∙ h)) in
-          let args : take n A ≡ argsOf t = rw x (take-at (argsOf t) _ n (length-args t ∙ h)) in
-          rw e (puts-type t front args p)
-
-  pub unwritten-bytes : (m : ℕ) {e : Error} {out : List ℕ} → a ≡ Written.Refused e → Encodes w (fittingBytes w m r) out out (Encoded.Refused e)
-  unwritten-bytes m q = refused-bytes w m (written-refused r (sym q ∙ f .answers))
+-- and it is encoded
+pub form-encoded : {form : Form} {allow : Bool} {v : View} (b : BuiltView form allow v) {out out′ : List ℕ} {a : Encoded}
+    → Puts (v .w) (take (b .n) (b .K′)) (take (b .n) (b .A′)) out out′ a
+    → EncodesForm (v .w) (v .nodes) (v .s) (formOf form allow (decoding (v .w) (v .nodes) (v .deep) (v .s)))
+    (v .xs) (b .K) (b .A) out (v .xs′) (b .K′) (b .A′) out′ a
+unfolding kindsOver argsOver
+form-encoded {v = v} b p =
+    let f = front (b .tree) (b .built) in
+    rw (b .formed) (record { encodes = puts-type (b .tree) (f .1) (f .2) p; args = v .left; new-kinds = b .built .kinds; new-args = b .built .args })

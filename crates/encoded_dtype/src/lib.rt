@@ -1,9 +1,9 @@
-// The calls of dtype.rs on one encoded type: predicates, parts, the shape of an Array, and the forms that it is built in anew.
+// The calls of dtype.rs on one encoded type: predicates, parts, the shape of an Array, and the forms that it is built
+// in anew.
 ghost use mathlib.Core.Path.{_≡_};
 ghost use Prim.Native.Nat.{_≤_};
 ghost use lib.ListN.{length};
 ghost use Rattle.flat.specs.Reading.{type};
-ghost use Rattle.flat.specs.Output.{writtenValue, Writes};
 ghost use Rattle.encoded.specs.Encoding.{decoding};
 ghost use Rattle.encoded.specs.Answer.{nodesIn, argsOpened, fittingBytes, Encodes};
 ghost use Rattle.dtype.specs.Answer.{answerOf};
@@ -14,15 +14,15 @@ ghost use Rattle.dtype_build.specs.Leaf.{leafOf};
 ghost use Rattle.encoded.specs.Found.{fittingFoundBytes, EncodesFound};
 ghost use Rattle.dtype_inner.specs.Part.{partReading};
 ghost use Rattle.encoded_dtype.specs.Parts.{partOf, partNodes};
-ghost use Rattle.encoded_dtype.specs.Forms.{formOf, RoomFor, EncodesWritten};
+ghost use Rattle.encoded_dtype.specs.Forms.{formOf, RoomFor, EncodesForm};
 use dtype::answer::Answer;
 use dtype::answer::yes_no;
 use dtype::predicate::Predicate;
 use dtype::predicate::told_by;
 use dtype_build::any_refused;
-use dtype_build::walk::node_form;
 use dtype_build::leaf::Form;
 use dtype_build::leaf::kind_form;
+use dtype_build::walk::node_form;
 use dtype_inner::Shape;
 use encoded::Encoded;
 use encoded::Encoding;
@@ -177,8 +177,7 @@ fn put_plain(form: Form, kind: u8, out: &mut [u8]) -> Encoded
     encoded::put(&kinds, &args, out)
 }
 
-// Builds the type in the given form at the front of new_kinds and new_args: refusals 1 to 5, then 7 where an `Unknown(Any)`
-// is not allowed.
+// Builds the type in the given form in two lent arrays, and encodes it from there to the front of out.
 fn form_in(
     form: Form,
     allow_unknown: bool,
@@ -186,7 +185,8 @@ fn form_in(
     args: &mut [u64],
     new_kinds: &mut [u8],
     new_args: &mut [u64],
-) -> Written
+    out: &mut [u8],
+) -> Encoded
     requires { do
       nodes ← ⟦Flat::MAX_NODES⟧
       w ← ⟦Encoding::ARGUMENT_BYTES⟧
@@ -195,36 +195,32 @@ fn form_in(
       nodes ← ⟦Flat::MAX_NODES⟧ .entry
       deep ← ⟦Flat::MAX_DEPTH⟧ .entry
       w ← ⟦Encoding::ARGUMENT_BYTES⟧ .entry
-      let formed = formOf form «allow_unknown» (decoding w nodes deep (now (encoded .entry)))
-      let left = argsOpened w nodes (now (encoded .entry)) (now (args .entry))
-      ⌜ Writes formed (now («new_kinds» .entry)) (now («new_args» .entry)) (now («new_kinds» .exit)) (now («new_args» .exit)) r
-          × (now (args .exit) ≡ left) ⌝ }
+      let s = now (encoded .entry)
+      let formed = formOf form «allow_unknown» (decoding w nodes deep s)
+      let kinds = now («new_kinds» .exit)
+      ⌜ EncodesForm w nodes s formed (now (args .entry)) (now («new_kinds» .entry)) (now («new_args» .entry))
+          (now (out .entry)) (now (args .exit)) kinds (now («new_args» .exit)) (now (out .exit)) r ⌝ }
 {
     match encoded::open(encoded, args) {
         Written::Nodes(n) => {
             let kinds = &encoded[2..2 + n];
             if any_refused(kinds, allow_unknown) {
-                return Written::Refused(Error::Unknown);
+                return Encoded::Refused(Error::Unknown);
             }
-            Written::Nodes(node_form(form, kinds, &args[..n], new_kinds, new_args))
+            let m = node_form(form, kinds, &args[..n], new_kinds, new_args);
+            encoded::put(&new_kinds[..m], &new_args[..m], out)
         }
-        Written::Refused(e) => Written::Refused(e),
+        Written::Refused(e) => Encoded::Refused(e),
     }
 }
 
-// Encodes the type that was written to the front of kinds and args to the front of out.
-fn put_written(written: Written, kinds: &[u8], args: &[u64], out: &mut [u8]) -> Encoded
-    requires { do
-      nodes ← ⟦Flat::MAX_NODES⟧
-      let n = writtenValue written
-      ⌜ (n ≤ length (now kinds)) × (n ≤ length (now args)) × (n ≤ nodes) ⌝ }
-    ensures { λ r. do
-      w ← ⟦Encoding::ARGUMENT_BYTES⟧ .entry
-      ⌜ EncodesWritten w written (now (kinds .entry)) (now (args .entry)) (now (out .entry)) (now (out .exit)) r ⌝ }
+// The answer told anew: a copy of the whole would wait for the stores of its parts.
+fn told(answer: Encoded) -> Encoded
+    ensures { λ r. ⌜ r ≡ answer ⌝ }
 {
-    match written {
-        Written::Nodes(n) => encoded::put(&kinds[..n], &args[..n], out),
-        Written::Refused(e) => Encoded::Refused(e),
+    match answer {
+        Encoded::Bytes(size) => Encoded::Bytes(size),
+        Encoded::Refused(e) => Encoded::Refused(e),
     }
 }
 
@@ -238,18 +234,34 @@ fn form_of(form: Form, allow_unknown: bool, encoded: &[u8], out: &mut [u8]) -> E
       let fitting = fittingBytes w (length (now (out .entry))) formed
       ⌜ Encodes w fitting (now (out .entry)) (now (out .exit)) r ⌝ }
 {
-    if encoded::node_count(encoded) <= Encoding::FEW {
+    if encoded.len() <= 2 + (Encoding::ARGUMENT_BYTES + 1) * Encoding::FEW {
         let mut args = [0u64; Encoding::FEW];
         let mut kinds = [0u8; Encoding::FEW];
         let mut new = [0u64; Encoding::FEW];
-        let written = form_in(form, allow_unknown, encoded, &mut args, &mut kinds, &mut new);
-        return put_written(written, &kinds, &new, out);
+        let answer = form_in(
+            form,
+            allow_unknown,
+            &encoded[0..],
+            &mut args,
+            &mut kinds,
+            &mut new,
+            out,
+        );
+        return told(answer);
     }
     let mut args = [0u64; Flat::MAX_NODES];
     let mut kinds = [0u8; Flat::MAX_NODES];
     let mut new = [0u64; Flat::MAX_NODES];
-    let written = form_in(form, allow_unknown, encoded, &mut args, &mut kinds, &mut new);
-    put_written(written, &kinds, &new, out)
+    let answer = form_in(
+        form,
+        allow_unknown,
+        &encoded[0..],
+        &mut args,
+        &mut kinds,
+        &mut new,
+        out,
+    );
+    told(answer)
 }
 
 // The type with each unknown type made known: refusals 1 to 5, 7, then 8.

@@ -11,7 +11,7 @@ use Rattle.encoded_dtype.proofs.ask_nodes.Statement.{statement}
 use Rattle.encoded_dtype.proofs.ask_nodes.Tie as tie
 
 abbrev view : tie.After-node-count → FormView
-view c = 
+view c =
     let f = encoded-form (c .before .enum-told .given .1) (c .before .before .before .check .ensures) refl in
     form-view (counted-form f (c .node-count .ensures))
 
