@@ -214,16 +214,6 @@ fn form_in(
     }
 }
 
-// The answer told anew: a copy of the whole would wait for the stores of its parts.
-fn told(answer: Encoded) -> Encoded
-    ensures { λ r. ⌜ r ≡ answer ⌝ }
-{
-    match answer {
-        Encoded::Bytes(size) => Encoded::Bytes(size),
-        Encoded::Refused(e) => Encoded::Refused(e),
-    }
-}
-
 // Encodes any type in the given form to the front of out, with arrays that have room for its nodes.
 fn form_of(form: Form, allow_unknown: bool, encoded: &[u8], out: &mut [u8]) -> Encoded
     ensures { λ r. do
@@ -238,30 +228,28 @@ fn form_of(form: Form, allow_unknown: bool, encoded: &[u8], out: &mut [u8]) -> E
         let mut args = [0u64; Encoding::FEW];
         let mut kinds = [0u8; Encoding::FEW];
         let mut new = [0u64; Encoding::FEW];
-        let answer = form_in(
+        return form_in(
             form,
             allow_unknown,
-            &encoded[0..],
+            encoded,
             &mut args,
             &mut kinds,
             &mut new,
             out,
         );
-        return told(answer);
     }
     let mut args = [0u64; Flat::MAX_NODES];
     let mut kinds = [0u8; Flat::MAX_NODES];
     let mut new = [0u64; Flat::MAX_NODES];
-    let answer = form_in(
+    form_in(
         form,
         allow_unknown,
-        &encoded[0..],
+        encoded,
         &mut args,
         &mut kinds,
         &mut new,
         out,
-    );
-    told(answer)
+    )
 }
 
 // The type with each unknown type made known: refusals 1 to 5, 7, then 8.
