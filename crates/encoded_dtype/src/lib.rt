@@ -214,8 +214,14 @@ fn form_in(
     }
 }
 
-// Encodes any type in the given form to the front of out, with arrays that have room for its nodes.
-fn form_of(form: Form, allow_unknown: bool, encoded: &[u8], out: &mut [u8]) -> Encoded
+// Encodes a small type in the given form to the front of out. Small and large arrays stand in functions of their own,
+// so that no call has both on its stack.
+fn form_few(form: Form, allow_unknown: bool, encoded: &[u8], out: &mut [u8]) -> Encoded
+    requires { do
+      nodes ← ⟦Flat::MAX_NODES⟧
+      w ← ⟦Encoding::ARGUMENT_BYTES⟧
+      few ← ⟦Encoding::FEW⟧
+      ⌜ nodesIn w nodes (now encoded) ≤ few ⌝ }
     ensures { λ r. do
       nodes ← ⟦Flat::MAX_NODES⟧ .entry
       deep ← ⟦Flat::MAX_DEPTH⟧ .entry
@@ -224,20 +230,30 @@ fn form_of(form: Form, allow_unknown: bool, encoded: &[u8], out: &mut [u8]) -> E
       let fitting = fittingBytes w (length (now (out .entry))) formed
       ⌜ Encodes w fitting (now (out .entry)) (now (out .exit)) r ⌝ }
 {
-    if encoded.len() <= 2 + (Encoding::ARGUMENT_BYTES + 1) * Encoding::FEW {
-        let mut args = [0u64; Encoding::FEW];
-        let mut kinds = [0u8; Encoding::FEW];
-        let mut new = [0u64; Encoding::FEW];
-        return form_in(
-            form,
-            allow_unknown,
-            encoded,
-            &mut args,
-            &mut kinds,
-            &mut new,
-            out,
-        );
-    }
+    let mut args = [0u64; Encoding::FEW];
+    let mut kinds = [0u8; Encoding::FEW];
+    let mut new = [0u64; Encoding::FEW];
+    form_in(
+        form,
+        allow_unknown,
+        encoded,
+        &mut args,
+        &mut kinds,
+        &mut new,
+        out,
+    )
+}
+
+// Encodes any type in the given form to the front of out.
+fn form_many(form: Form, allow_unknown: bool, encoded: &[u8], out: &mut [u8]) -> Encoded
+    ensures { λ r. do
+      nodes ← ⟦Flat::MAX_NODES⟧ .entry
+      deep ← ⟦Flat::MAX_DEPTH⟧ .entry
+      w ← ⟦Encoding::ARGUMENT_BYTES⟧ .entry
+      let formed = formOf form «allow_unknown» (decoding w nodes deep (now (encoded .entry)))
+      let fitting = fittingBytes w (length (now (out .entry))) formed
+      ⌜ Encodes w fitting (now (out .entry)) (now (out .exit)) r ⌝ }
+{
     let mut args = [0u64; Flat::MAX_NODES];
     let mut kinds = [0u8; Flat::MAX_NODES];
     let mut new = [0u64; Flat::MAX_NODES];
@@ -250,6 +266,22 @@ fn form_of(form: Form, allow_unknown: bool, encoded: &[u8], out: &mut [u8]) -> E
         &mut new,
         out,
     )
+}
+
+// Encodes the type in the given form to the front of out, with arrays that have room for its nodes.
+fn form_of(form: Form, allow_unknown: bool, encoded: &[u8], out: &mut [u8]) -> Encoded
+    ensures { λ r. do
+      nodes ← ⟦Flat::MAX_NODES⟧ .entry
+      deep ← ⟦Flat::MAX_DEPTH⟧ .entry
+      w ← ⟦Encoding::ARGUMENT_BYTES⟧ .entry
+      let formed = formOf form «allow_unknown» (decoding w nodes deep (now (encoded .entry)))
+      let fitting = fittingBytes w (length (now (out .entry))) formed
+      ⌜ Encodes w fitting (now (out .entry)) (now (out .exit)) r ⌝ }
+{
+    if encoded.len() <= 2 + (Encoding::ARGUMENT_BYTES + 1) * Encoding::FEW {
+        return form_few(form, allow_unknown, encoded, out);
+    }
+    form_many(form, allow_unknown, encoded, out)
 }
 
 // The type with each unknown type made known: refusals 1 to 5, 7, then 8.
