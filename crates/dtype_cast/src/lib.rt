@@ -83,8 +83,8 @@ pub fn checked_cast(
     walk_verdict(from_kinds, from_args, to_kinds, to_args)
 }
 
-// Whether the cast makes sense: each type is checked once, then both have a verdict. The scan settles most casts, and is
-// asked here and not behind a call, for which the slices would be stored.
+// Whether the cast makes sense: each type is checked once, then both have a verdict. The scan settles most casts, and
+// is asked here and not behind a call, for which the slices would be stored.
 pub fn can_cast_to(
     from_kinds: &[u8],
     from_args: &[u64],
