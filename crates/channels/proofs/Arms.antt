@@ -2,15 +2,18 @@
 use mathlib.Core.Path.{_≡_, refl, ap, _∙_}
 use mathlib.Core.Bool.{true, false, _||_}
 use Prim.Native.Nat.{ℕ, _≤_, _<_}
+use native.Mathlib.Omega.{arith}
 use lib.Dec.{eqb}
 use lib.ListN.{getD}
 use borrow.Author.Tests.{eq-eqb, ne-eqb, lt-ltb, le-ltb}
+use Rattle.flat.specs.Kind
 use Rattle.flat.specs.Tree.{headKind}
 use Rattle.flat.specs.Reading.{Reading, refused, type, rootOf}
 use Rattle.flat.specs.declared.Root.{Root}
 use Rattle.flat.specs.declared.error.Error.{Error}
 use Rattle.flat.specs.declared.error.Error.the-variants.{Channel, ChannelCode, NotInteger}
-use Rattle.supertype_numbers.specs.Range.{isListed}
+use Rattle.supertype_numbers.specs.Range.{Listed, isListed}
+use Rattle.supertype_numbers.proofs.Tests.{listed}
 use Rattle.supertype_lossless.specs.Lossless.{upcastOf}
 use Rattle.channels.specs.declared.ChannelTypes.{ChannelTypes}
 use Rattle.channels.specs.declared.Merged.{Merged}
@@ -25,9 +28,15 @@ module _ (h k : ℕ) where
   unfolding mergedWith
   bad-code p = rw p
 
-  pub not-integer : eqb h 0 || isListed h ≡ true → isListed k ≡ false → Refused NotInteger ≡ mergedWith h k
-  unfolding mergedWith
-  not-integer p q = rw (p, q)
+  -- past 10
+  module _ (p : eqb h 0 || isListed h ≡ true) where
+    pub null : k ≡ Kind.Null → Held h ≡ mergedWith h k
+    unfolding mergedWith
+    null e = rw (p, eq-eqb k Kind.Null e)
+
+    pub not-integer : (k ≡ Kind.Null → ⊥) → isListed k ≡ false → Refused NotInteger ≡ mergedWith h k
+    unfolding mergedWith
+    not-integer n q = rw (p, ne-eqb k Kind.Null n, q)
 
 -- a kind k offered to a channel that holds h, which neither 10 nor 11 refuses
 pub record Taken (h k : ℕ) : Type 0 where
@@ -35,18 +44,21 @@ pub record Taken (h k : ℕ) : Type 0 where
   pub integer : isListed k ≡ true
 
 module _ {h k : ℕ} (w : Taken h k) where
+  not-null : eqb k Kind.Null ≡ false
+  not-null = let l : Listed k = listed (w .integer) in ne-eqb k Kind.Null (omega arith)
+
   pub first : h ≡ 0 → Held k ≡ mergedWith h k
   unfolding mergedWith
-  first e = rw (w .code, w .integer, eq-eqb h 0 e)
+  first e = rw (w .code, not-null, w .integer, eq-eqb h 0 e)
 
   module _ (n : h ≡ 0 → ⊥) where
     pub equal : h ≡ k → Held h ≡ mergedWith h k
     unfolding mergedWith
-    equal e = rw (w .code, w .integer, ne-eqb h 0 n, eq-eqb h k e)
+    equal e = rw (w .code, not-null, w .integer, ne-eqb h 0 n, eq-eqb h k e)
 
     pub upcast : (h ≡ k → ⊥) → upcastHeld (upcastOf h k) ≡ mergedWith h k
     unfolding mergedWith
-    upcast d = rw (w .code, w .integer, ne-eqb h 0 n, ne-eqb h k d)
+    upcast d = rw (w .code, not-null, w .integer, ne-eqb h 0 n, ne-eqb h k d)
 
 -- ---- a merge
 

@@ -2,8 +2,8 @@
 -- one model, and its pages are the types accepted. Assumes nothing.
 use mathlib.Core.Path.{_≡_, refl, sym, ap, _∙_}
 use mathlib.Core.Bool.{Bool, true, false, cond}
-use mathlib.Core.Logic.{_↔_}
-use mathlib.Core.List.{List, _∷_}
+use mathlib.Core.Logic.{_↔_, inl}
+use mathlib.Core.List.{List, [], _∷_}
 use Prim.Native.Nat.{ℕ, _<_}
 use native.Mathlib.Omega.{arith}
 use native.Mathlib.Decide.{ℕ-discrete}
@@ -16,17 +16,17 @@ use Rattle.flat.specs.Reading.{Reading, refused, type}
 use Rattle.flat.specs.declared.error.Error.{Error}
 use Rattle.flat.specs.declared.error.Error.the-variants.{Channel, NoUpcast}
 use Rattle.flat.proofs.Truths.{impossible}
-use Rattle.supertype_numbers.specs.Range.{Listed, Least, Room}
+use Rattle.supertype_numbers.specs.Range.{Listed, Room}
 use Rattle.supertype_numbers.proofs.Ranges.{least-one}
 use Rattle.channels.specs.declared.ChannelTypes.{ChannelTypes}
 use Rattle.channels.specs.declared.Merged.{Merged}
 use Rattle.channels.specs.declared.Merged.the-variants.{Held, Refused}
 use Rattle.channels.specs.Merge.{mergeUnless, mergedWith, mergedOf, codesAfter, started, outcomeOf}
-use Rattle.channels.specs.Model.{Merge, Model, blank, pageWith, numbered, StandsWhere, Stands, Enters, not-a-type}
-use Rattle.channels.specs.Model.{no-channel, not-integer, accepted, no-room, Feeds}
+use Rattle.channels.specs.Model.{Merge, Model, blank, pageWith, Mergeable, numbered, LeastOrNone}
+use Rattle.channels.specs.Model.{Stands, Enters, not-a-type, no-channel, not-integer, accepted, no-room, Feeds}
 use Rattle.channels.specs.Rule
-use Rattle.channels.specs.Rule.{Run, kindIn, AllListed}
-use Rattle.channels.proofs.Pages.{Answered, answered, stands-joined}
+use Rattle.channels.specs.Rule.{Run, withColumn, AllMergeable}
+use Rattle.channels.proofs.Pages.{Answered, answered}
 
 -- the codes follow the model: one for each channel, and each where its channel stands
 pub record Follow (channels : ℕ) (b : Model) (codes : List ℕ) : Type 0 where
@@ -41,23 +41,22 @@ Step channels b channel column a codes = (b′ : Model) × Enters channels b cha
 
 module _ {channels : ℕ} {b : Model} {codes : List ℕ} (g : Follow channels b codes) (channel : ℕ) where
   -- an accepted type joins its channel's page, and the other channels stand where they stood
-  joined : (k c : ℕ) → channel < channels → Listed k → Least c (k ∷ b channel)
+  joined : (k c : ℕ) → channel < channels → Stands (k ∷ b channel) c
       → Follow channels (pageWith b channel k) (set codes channel c)
-  joined k c l w m =
+  joined k c l s =
       record { size = length-set codes channel c ∙ g .size; stands = λ i h. go i h (ℕ-discrete channel i) }
     where
       go : (i : ℕ) → i < channels → Dec (channel ≡ i) → Stands (pageWith b channel k i) (getD (set codes channel c) i 0)
       go i h (yes e) =
-          rw (eq-eqb channel i e, ← e, getD-set-same codes channel c 0 (rw (g .size) l))
-          (stands-joined k c (b channel) w m)
+          rw (eq-eqb channel i e, ← e, getD-set-same codes channel c 0 (rw (g .size) l)) s
       go i h (no n) = rw (ne-eqb channel i n, getD-set-other codes channel i c 0 (λ e. n (sym e))) (g .stands i h)
 
   -- what the page calls for is what the model does
   on-page : (t : DataType) {a : Merged} → channel < channels → Answered (b channel) (headKind t) a
       → Step channels b channel (type t) a (codesAfter codes channel a)
   on-page t l (Answered.not-integer n) = (b, not-integer l n, g)
-  on-page t l (Answered.accepted {c = c} i m) =
-      (pageWith b channel (headKind t), accepted l i (c, m .is-listed, m .covers) (stands-joined (headKind t) c (b channel) i m), joined (headKind t) c l i m)
+  on-page t l (Answered.accepted {c = c} i r s) =
+      (pageWith b channel (headKind t), accepted l i r s, joined (headKind t) c l s)
   on-page t l (Answered.no-room i n) = (b, no-room l i n, g)
 
   step : (column : Reading)
@@ -73,7 +72,7 @@ module _ {channels : ℕ} {b : Model} {codes : List ℕ} (g : Follow channels b 
       go false e = (b, no-channel (ltb-false channel channels e), g)
       go true e =
           let l = ltb-true channel channels e in
-          on-page t l (answered (b channel) (getD codes channel 0) (headKind t) (g .stands channel l))
+          on-page t l (answered (b channel) (headKind t) (getD codes channel 0) (g .stands channel l))
 
 -- ---- the answer to a column, and what it does to the model
 
@@ -81,9 +80,9 @@ module _ {channels : ℕ} {b : Model} {codes : List ℕ} (g : Follow channels b 
 stands-one : (page : List ℕ) {c d : ℕ} → Stands page c → Stands page d → c ≡ d
 stands-one page {c} {d} = go (numbered page)
   where
-    go : (a : Bool) → StandsWhere a page c → StandsWhere a page d → c ≡ d
-    go false p q = p ∙ sym q
-    go true p q = least-one p q
+    go : (ks : List ℕ) → LeastOrNone ks c → LeastOrNone ks d → c ≡ d
+    go [] p q = p ∙ sym q
+    go (k ∷ ks) p q = least-one p q
 
 -- there is one answer
 one-answer : {channels : ℕ} {b b₁ b₂ : Model} {channel : ℕ} {column : Reading} {a₁ a₂ : Merged}
@@ -109,7 +108,7 @@ one-answer (no-room l i n) (no-room l′ i′ n′) = refl
 
 -- the answer settles the model afterwards
 abbrev modelAfter : Model → ℕ → Reading → Merged → Model
-modelAfter b channel column (Held c) = pageWith b channel (kindIn column)
+modelAfter b channel column (Held c) = λ i. cond (eqb channel i) (withColumn column (b i)) (b i)
 modelAfter b channel column (Refused e) = b
 
 enters-after : {channels : ℕ} {b b′ : Model} {channel : ℕ} {column : Reading} {a : Merged}
@@ -120,25 +119,25 @@ enters-after (not-integer l n) = refl
 enters-after (accepted l i r m) = refl
 enters-after (no-room l i n) = refl
 
--- the types on a page are listed
-enters-listed : {channels : ℕ} {b b′ : Model} {channel : ℕ} {column : Reading} {a : Merged}
-    → Enters channels b channel column a b′ → (ch : ℕ) → AllListed (b ch) → AllListed (b′ ch)
-enters-listed not-a-type ch h = h
-enters-listed (no-channel l) ch h = h
-enters-listed (not-integer l n) ch h = h
-enters-listed {b = b} {channel = channel} (accepted {t = t} l i r m) ch h = go (eqb channel ch)
+-- the types on a page are listed or Null
+enters-mergeable : {channels : ℕ} {b b′ : Model} {channel : ℕ} {column : Reading} {a : Merged}
+    → Enters channels b channel column a b′ → (ch : ℕ) → AllMergeable (b ch) → AllMergeable (b′ ch)
+enters-mergeable not-a-type ch h = h
+enters-mergeable (no-channel l) ch h = h
+enters-mergeable (not-integer l n) ch h = h
+enters-mergeable {b = b} {channel = channel} (accepted {t = t} l i r m) ch h = go (eqb channel ch)
   where
-    go : (x : Bool) → AllListed (cond x (headKind t ∷ b ch) (b ch))
+    go : (x : Bool) → AllMergeable (cond x (headKind t ∷ b ch) (b ch))
     go true = (i, h)
     go false = h
-enters-listed (no-room l i n) ch h = h
+enters-mergeable (no-room l i n) ch h = h
 
 -- a listed type for one of the channels is refused exactly where there is no room, and by 12 alone
 pub refused-where : {channels : ℕ} {b b′ : Model} {channel : ℕ} {t : DataType} {a : Merged}
     → Enters channels b channel (type t) a b′ → channel < channels → Listed (headKind t)
     → ((a ≡ Refused NoUpcast) ↔ (Room (headKind t ∷ b channel) → ⊥)) × ((e : Error) → a ≡ Refused e → e ≡ NoUpcast)
 refused-where (no-channel h) l i = absurd (omega arith)
-refused-where (not-integer l′ n) l i = absurd (n i)
+refused-where (not-integer l′ n) l i = absurd (n (inl i))
 refused-where (accepted l′ i′ r m) l i = (((λ x. impossible cc), (λ n. absurd (n r))), λ e x. impossible cc)
 refused-where (no-room l′ i′ n) l i = (((λ x. n), (λ n′. refl)), λ e x. cc)
 
@@ -173,8 +172,8 @@ module _ {channels : ℕ} where
   pages (Feeds.next {a = Refused x} f e) ch = rw (enters-after e) (pages f ch)
   pages (Feeds.next {a = Held c} f e) ch = rw (enters-after e, pages f ch)
 
-  -- all types on a page are listed
-  pub all-listed : {ms : List Merge} {xs : List Merged} {b : Model} → Feeds channels ms xs b → (ch : ℕ)
-      → AllListed (b ch)
-  all-listed Feeds.none ch = tt
-  all-listed (Feeds.next f e) ch = enters-listed e ch (all-listed f ch)
+  -- all types on a page are listed or Null
+  pub all-mergeable : {ms : List Merge} {xs : List Merged} {b : Model} → Feeds channels ms xs b → (ch : ℕ)
+      → AllMergeable (b ch)
+  all-mergeable Feeds.none ch = tt
+  all-mergeable (Feeds.next f e) ch = enters-mergeable e ch (all-mergeable f ch)

@@ -8,23 +8,25 @@ use native.Mathlib.Omega.{arith}
 use native.Mathlib.Decide.{decLt}
 use lib.Dec.{ltb, eqb}
 use lib.ListN.{length, getD, set, length-set, List·getD-eq-default}
-use lib.Seq.{getD-set-same, getD-set-other}
-use borrow.Author.Tests.{ltb-true, eqb-true, eqb-false}
+use lib.Seq.{getD-set-same, getD-set-other, set-getD}
+use borrow.Author.Tests.{ltb-true, lt-ltb, eqb-true, eqb-false}
+use Rattle.flat.specs.Kind
 use Rattle.flat.specs.Tree.{DataType, headKind}
 use Rattle.flat.specs.Reading.{Reading, refused, type}
 use Rattle.flat.specs.declared.error.Error.{Error}
 use Rattle.flat.specs.declared.error.Error.the-variants.{Channel, NoUpcast}
 use Rattle.supertype_numbers.specs.Range.{Listed, Covers, Room}
-use Rattle.supertype_numbers.proofs.Ranges.{least-one}
+use Rattle.supertype_numbers.proofs.Ranges.{has-number, least-one}
 use Rattle.channels.specs.declared.ChannelTypes.{ChannelTypes}
 use Rattle.channels.specs.declared.Merged.{Merged}
 use Rattle.channels.specs.declared.Merged.the-variants.{Held, Refused}
 use Rattle.channels.specs.declared.Outcome.{Outcome}
 use Rattle.channels.specs.Merge.{mergeUnless, mergedWith, mergedOf, codesAfter, started, outcomeOf}
-use Rattle.channels.specs.Model.{Merge, Model, numbered, StandsWhere, Stands, Feeds}
-use Rattle.channels.proofs.Pages.{covers-none, least-on}
-use Rattle.channels.specs.Rule.{Run, codeAt, Tells, accepted, AllListed, only, answersTo, ChannelRule}
-use Rattle.channels.proofs.Models.{by-model, one-model, pages, all-listed, refused-where}
+use Rattle.channels.specs.Model.{Merge, Model, numbered, LeastOrNone, Stands, Feeds}
+use Rattle.channels.specs.Rule.{Run, codeAt, Tells, accepted, AllMergeable, only, answersTo, ChannelRule}
+use Rattle.channels.proofs.Arms.{null}
+use Rattle.channels.proofs.Pages.{null-has-none, covers-numbered, over-all, code-stands}
+use Rattle.channels.proofs.Models.{by-model, one-model, pages, all-mergeable, refused-where}
 
 -- ---- what a merge leaves, whatever the codes are
 
@@ -164,11 +166,11 @@ module _ {channels : ℕ} where
 
 -- where a channel stands, it covers its page
 covers-where : (ks : List ℕ) (c : ℕ) → Stands ks c → Covers c ks
-covers-where ks c = go (numbered ks) refl
+covers-where ks c s = covers-numbered c ks .0 (go (numbered ks) s)
   where
-    go : (a : Bool) → numbered ks ≡ a → StandsWhere a ks c → Covers c ks
-    go false e s = covers-none c ks e
-    go true e s = s .covers
+    go : (ns : List ℕ) → LeastOrNone ns c → Covers c ns
+    go [] s = tt
+    go (n ∷ ns) s = s .covers
 
 module _ {channels : ℕ} where
   holds : {ms : List Merge} {xs : List Merged} {s : ChannelTypes} → Run channels (started channels) ms xs s → (ch : ℕ)
@@ -176,10 +178,27 @@ module _ {channels : ℕ} where
   holds r ch l = let g = by-model r in rw (pages (g .1) ch) at (g .2 .stands ch l)
 
   keeps : {ms : List Merge} {xs : List Merged} {s : ChannelTypes} → Run channels (started channels) ms xs s → (ch : ℕ)
-      → ch < channels → AllListed (accepted ch ms xs) × Covers (codeAt s ch) (accepted ch ms xs)
+      → ch < channels → AllMergeable (accepted ch ms xs) × Covers (codeAt s ch) (accepted ch ms xs)
   keeps {ms} {xs} {s} r ch l =
       let f = by-model r .1 in
-      (rw (pages f ch) at (all-listed f ch), covers-where (accepted ch ms xs) (codeAt s ch) (holds r ch l))
+      (rw (pages f ch) at (all-mergeable f ch), covers-where (accepted ch ms xs) (codeAt s ch) (holds r ch l))
+
+  -- every code of a run is 0 or listed, so that Null meets no refusal
+  silent : {ms : List Merge} {xs : List Merged} {s : ChannelTypes} {m : Merge} {o : Outcome} {t : DataType}
+      → Run channels (started channels) ms xs s → o ≡ outcomeOf channels s (m .channel) (m .column)
+      → m .column ≡ type t → headKind t ≡ Kind.Null → m .channel < channels
+      → o ≡ record { types = s; answer = Held (codeAt s (m .channel)) }
+  unfolding outcomeOf mergedOf
+  silent {s = s} {m = m} {t = t} r h q z l =
+      let g = by-model r .2 in
+      let held = codeAt s (m .channel) in
+      let code = code-stands held (numbered (by-model r .0 (m .channel))) (g .stands (m .channel) l) in
+      h ∙ rw (
+        q,
+        lt-ltb (m .channel) channels l,
+        ← null held (headKind t) code z,
+        set-getD (s .codes) (m .channel) 0,
+      ) refl
 
   refused-when : {ms : List Merge} {xs : List Merged} {m : Merge} {a : Merged} {t : DataType} {b : Model}
       → Feeds channels (m ∷ ms) (a ∷ xs) b
@@ -196,8 +215,11 @@ channel-rule channels = record {
   one-model = one-model;
   keeps = keeps;
   holds = holds;
-  least-on = least-on;
   the-one = least-one;
+  has-number = has-number;
+  null-has-none = null-has-none;
+  over-all = over-all;
+  silent = silent;
   refused-when = λ r. refused-when (by-model r .1);
   answers = answers;
   alone = alone;

@@ -4,6 +4,7 @@ use mathlib.Core.List.{List}
 use Prim.Native.Nat.{ℕ}
 use lib.Dec.{ltb, eqb}
 use lib.ListN.{replicate, getD, set}
+use Rattle.flat.specs.Kind
 use Rattle.flat.specs.Refusal.{numberOf}
 use Rattle.flat.specs.Tree.{headKind}
 use Rattle.flat.specs.Reading.{Reading, refused, type}
@@ -40,15 +41,17 @@ abbrev pub upcastHeld : Upcast → Merged
 upcastHeld (To c) = Held c
 upcastHeld Nothing = Refused NoUpcast
 
--- A channel that holds `held` is offered a type of the kind k. 10: it holds neither 0 nor 2 to 11. 11: the type is none
--- of 2 to 11. On an empty channel the type is kept; an equal type keeps the held one; otherwise the lossless upcast of
--- held and offered is kept.
+-- A channel that holds `held` is offered a type of the kind k. 10: it holds neither 0 nor 2 to 11. Null leaves the
+-- channel as it is, and the answer is the code held, 0 if it is empty (request One). 11: the type is none of 2 to 11.
+-- On an empty channel the type is kept; an equal type keeps the held one; otherwise the lossless upcast of held and
+-- offered is kept.
 unfoldable pub mergedWith : ℕ → ℕ → Merged
 mergedWith held k =
-    mergeUnless (eqb held 0 || isListed held) ChannelCode (mergeUnless (isListed k) NotInteger
+    mergeUnless (eqb held 0 || isListed held) ChannelCode
+    (cond (eqb k Kind.Null) (Held held) (mergeUnless (isListed k) NotInteger
     (cond (eqb held 0) (Held k)
     (cond (eqb held k) (Held held)
-    (upcastHeld (upcastOf held k)))))
+    (upcastHeld (upcastOf held k))))))
 
 -- The offered type goes through 1 to 5 first. 9: there is no such channel.
 unfoldable pub mergedOf : (channels : ℕ) → List ℕ → ℕ → Reading → Merged

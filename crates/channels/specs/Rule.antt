@@ -1,23 +1,24 @@
--- The rule of the channels' types, document 01's season rule (demand 3): one claim about every list of merges. Assumes
--- nothing: these are definitions.
+-- The rule of the channels' types, document 01's season rule (demand 3), with request One's Null in it: one claim about
+-- every list of merges. Assumes nothing: these are definitions.
 use mathlib.Core.Path.{_≡_}
-use mathlib.Core.Bool.{cond}
+use mathlib.Core.Bool.{true, cond}
 use mathlib.Core.Logic.{_↔_}
 use mathlib.Core.List.{List, [], _∷_, _++_}
 use Prim.Native.Nat.{ℕ, _<_}
 use lib.Dec.{eqb}
 use lib.ListN.{length, getD}
+use Rattle.flat.specs.Kind
 use Rattle.flat.specs.Tree.{DataType, headKind}
 use Rattle.flat.specs.Reading.{Reading, refused, type}
 use Rattle.flat.specs.declared.error.Error.{Error}
 use Rattle.flat.specs.declared.error.Error.the-variants.{NoUpcast}
-use Rattle.supertype_numbers.specs.Range.{Listed, Covers, Least, Room}
+use Rattle.supertype_numbers.specs.Range.{Listed, isListed, HasNumber, Covers, Least, Room}
 use Rattle.channels.specs.declared.ChannelTypes.{ChannelTypes}
 use Rattle.channels.specs.declared.Merged.{Merged}
 use Rattle.channels.specs.declared.Merged.the-variants.{Held, Refused}
 use Rattle.channels.specs.declared.Outcome.{Outcome}
 use Rattle.channels.specs.Merge.{started, outcomeOf}
-use Rattle.channels.specs.Model.{Merge, Model, Stands, Feeds}
+use Rattle.channels.specs.Model.{Merge, Model, Mergeable, numbered, Stands, Feeds}
 
 -- A list of merges stands with the latest first, so that what was merged before a merge is the rest of the list.
 
@@ -37,10 +38,10 @@ abbrev pub Tells : Merged → ℕ → Type 0
 Tells (Held c) code = c ≡ code
 Tells (Refused e) code = Unit {0}
 
--- the kind of a column's type; a refused column is never accepted
-abbrev pub kindIn : Reading → ℕ
-kindIn (refused e) = 0
-kindIn (type t) = headKind t
+-- a column's type, before others; what is no type adds none
+abbrev pub withColumn : Reading → List ℕ → List ℕ
+withColumn (refused e) ks = ks
+withColumn (type t) ks = headKind t ∷ ks
 
 -- the types of the columns that were accepted on a channel, by the answers
 abbrev pub accepted : (ch : ℕ) → List Merge → List Merged → List ℕ
@@ -48,11 +49,11 @@ accepted ch [] xs = []
 accepted ch (m ∷ ms) [] = []
 accepted ch (m ∷ ms) (Refused e ∷ xs) = accepted ch ms xs
 accepted ch (m ∷ ms) (Held c ∷ xs) =
-    cond (eqb (m .channel) ch) (kindIn (m .column) ∷ accepted ch ms xs) (accepted ch ms xs)
+    cond (eqb (m .channel) ch) (withColumn (m .column) (accepted ch ms xs)) (accepted ch ms xs)
 
-abbrev pub AllListed : List ℕ → Type 0
-AllListed [] = Unit {0}
-AllListed (k ∷ ks) = Listed k × AllListed ks
+abbrev pub AllMergeable : List ℕ → Type 0
+AllMergeable [] = Unit {0}
+AllMergeable (k ∷ ks) = Mergeable k × AllMergeable ks
 
 -- the merges into one channel, and the answers that they had
 abbrev pub only : ℕ → List Merge → List Merge
@@ -80,17 +81,26 @@ pub record ChannelRule (channels : ℕ) : Type 0 where
   -- there is no other book: the offers settle its answers and its pages
   pub one-model : {ms : List Merge} {xs ys : List Merged} {b b′ : Model} → Feeds channels ms xs b
       → Feeds channels ms ys b′ → (xs ≡ ys) × (b ≡ b′)
-  -- "no channel ends with a type that misses a number its accepted columns could hold"
+  -- "no channel ends with a type that misses a number its accepted columns could hold": each of them is a listed type's
+  -- or Null's
   pub keeps : {ms : List Merge} {xs : List Merged} {s : ChannelTypes} → Run channels (started channels) ms xs s
-      → (ch : ℕ) → ch < channels → AllListed (accepted ch ms xs) × Covers (codeAt s ch) (accepted ch ms xs)
+      → (ch : ℕ) → ch < channels → AllMergeable (accepted ch ms xs) × Covers (codeAt s ch) (accepted ch ms xs)
   -- "After it each channel with an accepted column holds the one listed integer type whose range includes all theirs
-  -- and lies inside every listed type that does so; one without is empty."
+  -- and lies inside every listed type that does so; one without is empty." By request One: "the least listed type over
+  -- the accepted columns that have a number at all, and 0 where there is none".
   pub holds : {ms : List Merge} {xs : List Merged} {s : ChannelTypes} → Run channels (started channels) ms xs s
       → (ch : ℕ) → ch < channels → Stands (accepted ch ms xs) (codeAt s ch)
-  -- "with an accepted column": its type is listed, by `keeps`, so that its page has a number and the channel stands at
-  -- the least
-  pub least-on : (c k : ℕ) (ks : List ℕ) → Listed k → Stands (k ∷ ks) c → Least c (k ∷ ks)
   pub the-one : {ks : List ℕ} {t u : ℕ} → Least t ks → Least u ks → t ≡ u
+  -- which columns "have a number at all": those of the listed types. "Null's range has no numbers in it", so that the
+  -- least over the columns that have one is the least over all that were accepted.
+  pub has-number : (k : ℕ) → HasNumber k ↔ (isListed k ≡ true)
+  pub null-has-none : ¬ HasNumber Kind.Null
+  pub over-all : (t : ℕ) (ks : List ℕ) → Least t (numbered ks) ↔ Least t ks
+  -- "an offer of Null is accepted and leaves the channel as it is, answering the code held, 0 if empty"
+  pub silent : {ms : List Merge} {xs : List Merged} {s : ChannelTypes} {m : Merge} {o : Outcome} {t : DataType}
+      → Run channels (started channels) ms xs s → o ≡ outcomeOf channels s (m .channel) (m .column)
+      → m .column ≡ type t → headKind t ≡ Kind.Null → m .channel < channels
+      → o ≡ record { types = s; answer = Held (codeAt s (m .channel)) }
   -- "In it a valid column of a listed integer type, on a valid channel, is refused exactly when no listed type includes
   -- its range and those accepted there before." It is then refused by 12, and never by another number.
   pub refused-when : {ms : List Merge} {xs : List Merged} {s : ChannelTypes} {m : Merge} {a : Merged} {t : DataType}

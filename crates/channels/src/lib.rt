@@ -12,6 +12,7 @@ ghost use Rattle.channels.specs.Merge.{mergedWith, mergedNumber, mergedV
 use flat::Flat;
 use flat::Root;
 use flat::error::Error;
+use flat::kind::Kind;
 use supertype_lossless::upcast::Upcast;
 use supertype_lossless::upcast::upcast_kinds;
 use supertype_numbers::integer::is_listed;
@@ -66,12 +67,16 @@ fn is_channel_code(code: u8) -> bool
     is_listed(code)
 }
 
-// The answer of a channel that holds `held` to a column of this kind: refusals 10, 11 and 12.
+// The answer of a channel that holds `held` to a column of this kind: refusals 10, 11 and 12. A column of type Null has
+// no number that the channel could miss, and leaves it as it is.
 fn merge_kind(held: u8, kind: u8) -> Merged
     ensures { λ r. ⌜ r ≡ mergedWith held kind ⌝ }
 {
     if !is_channel_code(held) {
         return Merged::Refused(Error::ChannelCode);
+    }
+    if kind == Kind::NULL {
+        return Merged::Held(held);
     }
     if !is_listed(kind) {
         return Merged::Refused(Error::NotInteger);

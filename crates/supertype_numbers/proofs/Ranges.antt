@@ -14,10 +14,10 @@ use lib.Signed.{mag, nonNeg}
 use Rattle.flat.proofs.Rules.{and-left, and-right, and-both, implies}
 use Rattle.dtype.specs.Match.{among}
 use Rattle.dtype.specs.Predicate.{isSignedInteger}
-use Rattle.supertype_numbers.specs.Integer.{inRange, widthOf}
+use Rattle.supertype_numbers.specs.Integer.{inRange, widthOf, holds}
 use Rattle.supertype_numbers.proofs.Integers.{bits, in-range}
-use Rattle.supertype_numbers.specs.Range.{Listed, Includes, Least}
-use Rattle.supertype_numbers.proofs.Tests.{at-pair}
+use Rattle.supertype_numbers.specs.Range.{Listed, isListed, HasNumber, Includes, Least}
+use Rattle.supertype_numbers.proofs.Tests.{listed, is-listed, at, at-pair}
 
 -- z is in the range of a type by its sign and its size
 module _ (s : Bool) (w : ℕ) (z : ℤ) where
@@ -83,6 +83,11 @@ pub includes : (t k : ℕ) → Listed t → Listed k → Includes t k ↔ T (ins
 includes t k p q =
     let l = law (isSignedInteger t) (widthOf t) (isSignedInteger k) (widthOf k) in
     ((λ h. l .0 (λ z i. h z (q, i) .1)), (λ i z h. (p, l .1 i z (h .1))))
+
+-- a listed type's range has a number, 0 among others, and no other kind's has one
+pub has-number : (k : ℕ) → HasNumber k ↔ (isListed k ≡ true)
+unfolding isSignedInteger among
+has-number k = ((λ h. is-listed (h .1 .0)), (λ e. (pos 0, (listed e, at (λ n. holds n (pos 0)) tt k (listed e)))))
 
 -- two listed types that include each other are the same
 abbrev apart : ℕ → ℕ → Bool

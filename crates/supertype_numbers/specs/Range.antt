@@ -20,6 +20,10 @@ isListed k = leb Kind.UInt8 k && leb k Kind.Int128
 abbrev pub Holds : ℕ → ℤ → Type 0
 Holds k z = Listed k × T (holds k z)
 
+-- the range of the kind k has a number at all
+abbrev pub HasNumber : ℕ → Type 0
+HasNumber k = (z : ℤ) × Holds k z
+
 -- the range of the kind t includes that of the kind k: it has all its numbers
 abbrev pub Includes : ℕ → ℕ → Type 0
 Includes t k = (z : ℤ) → Holds k z → Holds t z
