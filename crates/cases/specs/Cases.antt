@@ -1,7 +1,8 @@
 -- Document 01's worked cases, as one table: the cases that it marks [P], calls for every number of its table of
--- refusals, the order of refusals, the bounds of the arguments, the codes of the kinds and the stored sheet. Each row
--- is the place in document 01, what is asked and the answer: `case n` is of the corner n, `refusal n` is a call that is
--- refused by n, and `not-refused` a call that is not refused. Assumes nothing: these are definitions.
+-- refusals, the order of refusals, the bounds of the arguments, the codes of the kinds and the stored sheet; and what
+-- document 02's requests work out. Each row is its place, what is asked and the answer: `case n` is of the corner n,
+-- `refusal n` is a call that is refused by n, `not-refused` a call that is not refused, and `requested n` is of the
+-- request n. Assumes nothing: these are definitions.
 use mathlib.Core.Path.{_≡_}
 use mathlib.Core.Bool.{Bool, true, false}
 use mathlib.Core.List.{List, [], _∷_, _++_, map}
@@ -19,11 +20,13 @@ use Rattle.cases.specs.Question.{Asked, supertype, lossless, smallest-dy
 use Rattle.cases.specs.Question.{number-of, root, encoded, decoded, codes}
 use Rattle.cases.specs.Question.{Answered, joined, kind, verdict, result, merged, number, numbers}
 
--- a place in document 01: the corner of that number, "Why a call is turned down", or "Flat types and stored sheets"
+-- a place in document 01: the corner of that number, "Why a call is turned down", or "Flat types and stored sheets"; or
+-- document 02's request of that number
 pub data Place : Type 0 where
   corner : ℕ → Place
   refusals : Place
   flat-types : Place
+  request : ℕ → Place
 
 pub record Case : Type 0 where
   pub place : Place
@@ -41,6 +44,9 @@ not-refused = refusal 0
 
 abbrev pub stored : Asked → Answered → Case
 stored q a = record { place = flat-types; asked = q; answered = a }
+
+abbrev pub requested : ℕ → Asked → Answered → Case
+requested n q a = record { place = request n; asked = q; answered = a }
 
 abbrev pub joins : DataType → Answered
 joins t = joined (some (type t))
@@ -314,9 +320,27 @@ sheets =
     ∷ stored (decoded sheet) (gives (list (lone Kind.Int16)))
     ∷ []
 
+-- what the requests work out
+abbrev pub requests : List Case
+requests =
+    -- One: Null leaves the channel as it is and answers the code held, 0 if empty, with and without a number before it
+    requested 1 (merge-all (lone Kind.Null ∷ lone Kind.Null ∷ [])) (merged ((0, 0) ∷ (0, 0) ∷ []) 0)
+    ∷ requested 1 (merge-all (lone Kind.Null ∷ lone Kind.Int8 ∷ lone Kind.Null ∷ lone Kind.UInt8 ∷ []))
+    (merged ((0, 0) ∷ (0, 7) ∷ (0, 7) ∷ (0, 8) ∷ []) 8)
+    ∷ requested 1 (merge-all (lone Kind.UInt128 ∷ lone Kind.Int8 ∷ lone Kind.Null ∷ []))
+    (merged ((0, 6) ∷ (12, 0) ∷ (0, 6) ∷ []) 6)
+    -- One: 1 to 5, then 9, then 10 at both ends of 2 to 11, and no other number
+    ∷ requested 1 (number-of (merge 1 32 (leaf Kind.Null 1))) (number 3)
+    ∷ requested 1 (number-of (merge 1 32 (lone Kind.Null))) (number 9)
+    ∷ requested 1 (number-of (merge 1 31 (lone Kind.Null))) (number 10)
+    ∷ requested 1 (number-of (merge 2 31 (lone Kind.Null))) (number 0)
+    ∷ requested 1 (number-of (merge 11 31 (lone Kind.Null))) (number 0)
+    ∷ requested 1 (number-of (merge 12 31 (lone Kind.Null))) (number 10)
+    ∷ []
+
 -- the table, for any flags and any fields
 abbrev pub table : Bool → Bool → Fields → List Case
-table i s fs = corners i s fs ++ (causes i s ++ (order i s ++ (bounds ++ sheets)))
+table i s fs = corners i s fs ++ (causes i s ++ (order i s ++ (bounds ++ (sheets ++ requests))))
 
 -- The claim: at these limits, every row's answer is what the definitions answer.
 abbrev pub CasesHold : (nodes deep channels width : ℕ) → Type 0

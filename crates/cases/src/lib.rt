@@ -1,4 +1,5 @@
-// Document 01's worked cases: one table over all the definitions (specs/Cases.antt), and one claim.
+// The worked cases of document 01 and of the requests: one table over all the definitions (specs/Cases.antt), and one
+// claim.
 ghost use Rattle.cases.specs.Cases.{CasesHold};
 use channels::ChannelTypes;
 use encoded::Encoding;

@@ -137,7 +137,8 @@ module _ (page : List ℕ) (k : ℕ) where
 
   on-listed : {held : ℕ} → Taken held k → (ks : List ℕ) → numbered page ≡ ks → LeastOrNone ks held
       → Answered page k (mergedWith held k)
-  on-listed w [] e s = subst (Answered page k) (first w s) (joins (listed (w .integer)) (rw e (least-itself (listed (w .integer)))))
+  on-listed w [] e s =
+      let l : Listed k = listed (w .integer) in subst (Answered page k) (first w s) (joins l (rw e (least-itself l)))
   on-listed {held} w (n ∷ ns) e m = go (ℕ-discrete held k) (upcastOf held k) refl
     where
       l : Listed k

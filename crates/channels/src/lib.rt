@@ -75,11 +75,11 @@ fn merge_kind(held: u8, kind: u8) -> Merged
     if !is_channel_code(held) {
         return Merged::Refused(Error::ChannelCode);
     }
-    if kind == Kind::NULL {
-        return Merged::Held(held);
-    }
     if !is_listed(kind) {
-        return Merged::Refused(Error::NotInteger);
+        return match kind {
+            Kind::NULL => Merged::Held(held),
+            _ => Merged::Refused(Error::NotInteger),
+        };
     }
     if held == 0 {
         return Merged::Held(kind);

@@ -19,27 +19,27 @@ code : (c : tie.Else1) → let h = c .before .before .args .held in eqb h 0 || i
 code c = sym (c .before .is-channel-code .ensures) ∙ not-false _ (c .if1 .left)
 
 returns-2 : tie.Need-returns-2
-returns-2 c = null _ _ (code (c .before)) (c .if2 .taken)
+returns-2 c = null _ _ (code (c .before .before .before)) (c .match .keys1)
 
 returns-3 : tie.Need-returns-3
 returns-3 c =
-    let other = c .before .before in
-    not-integer _ _ (code (other .before)) (omega arith)
-    (sym (c .before .is-listed .ensures) ∙ not-true _ (c .if3 .taken))
+    let met = c .before in
+    not-integer _ _ (code (met .before .before)) (c .match .rest .1)
+    (sym (met .before .is-listed .ensures) ∙ not-true _ (met .if2 .taken))
 
 -- past 10 and 11
-taken : (c : tie.Else3) → let a = c .before .before .before .before .before .args in Taken (a .held) (a .kind)
+taken : (c : tie.Else2) → let a = c .before .before .before .before .args in Taken (a .held) (a .kind)
 taken c =
     record {
-      code = code (c .before .before .before);
-      integer = sym (c .before .is-listed .ensures) ∙ not-false _ (c .if3 .left);
+      code = code (c .before .before);
+      integer = sym (c .before .is-listed .ensures) ∙ not-false _ (c .if2 .left);
     }
 
 returns-4 : tie.Need-returns-4
-returns-4 c = first (taken (c .before)) (c .if4 .taken)
+returns-4 c = first (taken (c .before)) (c .if3 .taken)
 
 returns-5 : tie.Need-returns-5
-returns-5 c = equal (taken (c .before .before)) (omega arith) (c .if5 .taken)
+returns-5 c = equal (taken (c .before .before)) (omega arith) (c .if4 .taken)
 
 returns-6 : tie.Need-returns-6
 returns-6 c =
@@ -59,8 +59,8 @@ merge-kind-spec =
     (tie.spec
     (λ c κs. search needs)
     returns
-    returns-2
     (λ c κs. search needs)
+    returns-2
     returns-3
     returns-4
     returns-5
