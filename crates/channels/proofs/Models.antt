@@ -22,8 +22,8 @@ use Rattle.channels.specs.declared.ChannelTypes.{ChannelTypes}
 use Rattle.channels.specs.declared.Merged.{Merged}
 use Rattle.channels.specs.declared.Merged.the-variants.{Held, Refused}
 use Rattle.channels.specs.Merge.{mergeUnless, mergedWith, mergedOf, codesAfter, started, outcomeOf}
-use Rattle.channels.specs.Model.{Merge, Model, blank, pageWith, Mergeable, numbered, LeastOrNone}
-use Rattle.channels.specs.Model.{Stands, Enters, not-a-type, no-channel, not-integer, accepted, no-room, Feeds}
+use Rattle.channels.specs.Model.{Merge, Model, blank, pageWith, numbered, LeastOrNone, Stands, Enters}
+use Rattle.channels.specs.Model.{not-a-type, no-channel, not-integer, accepted, no-room, Feeds}
 use Rattle.channels.specs.Rule
 use Rattle.channels.specs.Rule.{Run, withColumn, AllMergeable}
 use Rattle.channels.proofs.Pages.{Answered, answered}
@@ -47,8 +47,7 @@ module _ {channels : ℕ} {b : Model} {codes : List ℕ} (g : Follow channels b 
       record { size = length-set codes channel c ∙ g .size; stands = λ i h. go i h (ℕ-discrete channel i) }
     where
       go : (i : ℕ) → i < channels → Dec (channel ≡ i) → Stands (pageWith b channel k i) (getD (set codes channel c) i 0)
-      go i h (yes e) =
-          rw (eq-eqb channel i e, ← e, getD-set-same codes channel c 0 (rw (g .size) l)) s
+      go i h (yes e) = rw (eq-eqb channel i e, ← e, getD-set-same codes channel c 0 (rw (g .size) l)) s
       go i h (no n) = rw (ne-eqb channel i n, getD-set-other codes channel i c 0 (λ e. n (sym e))) (g .stands i h)
 
   -- what the page calls for is what the model does

@@ -10,7 +10,9 @@ use Rattle.channels.specs.Worked.{Worked}
 pub worked : Worked
 unfolding headKind isListed upcasts mergedWith mergedOf outcomeOf
 worked = record {
-  run = Run.next (Run.next (Run.next (Run.next (Run.next (Run.next (Run.next Run.none refl) refl) refl) refl) refl) refl) refl;
+  run =
+      Run.next (Run.next (Run.next (Run.next (Run.next (Run.next (Run.next Run.none refl) refl) refl) refl) refl) refl)
+      refl;
   channel-0 = (refl, refl, refl, refl);
   channel-1 = (refl, refl, refl, refl);
   channel-2 = (refl, refl, refl, refl);

@@ -25,11 +25,18 @@ fn entries(folder: impl AsRef<Path>) -> Vec<PathBuf> {
     paths
 }
 
+/// The files in a folder and below it.
+fn files(folder: impl AsRef<Path>) -> Vec<PathBuf> {
+    let (folders, mut files): (Vec<_>, Vec<_>) = entries(folder).into_iter().partition(|path| path.is_dir());
+    files.extend(folders.iter().flat_map(self::files));
+    files
+}
+
 /// Tables aside.
 #[test]
 fn prose_is_at_most_120_columns_wide() {
-    let pages = ["README.md", "NOTICE"].map(|name| Path::new(ROOT).join(name));
-    for file in pages.into_iter().chain(entries("docs")) {
+    let at_top = ["README.md", "NOTICE"].map(|name| Path::new(ROOT).join(name));
+    for file in at_top.into_iter().chain(files("docs")) {
         let text = read(&file);
         let wide = text.lines().find(|line| !line.starts_with('|') && line.chars().count() > 120);
         assert_eq!(wide, None, "{}", file.display());

@@ -1,15 +1,8 @@
 //! The definitions, laws, functions, tests, mistakes and files that README.md and docs/ name, and those that they must.
 
-use crate::{entries, read, ROOT};
+use crate::{entries, files, read, ROOT};
 use std::collections::HashSet;
 use std::path::{Path, PathBuf};
-
-/// The files in a folder and below it.
-fn files(folder: &Path) -> Vec<PathBuf> {
-    let (folders, mut files): (Vec<_>, Vec<_>) = entries(folder).into_iter().partition(|path| path.is_dir());
-    files.extend(folders.iter().flat_map(|folder| self::files(folder)));
-    files
-}
 
 /// The names in a text: letters, digits, `_` and `-`.
 fn names(text: &str) -> impl Iterator<Item = &str> {
@@ -80,9 +73,11 @@ fn the_definitions_of_the_entry_points_are_in_specs() {
     assert!(unknown.is_empty(), "{unknown:?}");
 }
 
+/// The notes aside, which name the files of their own day.
 #[test]
 fn the_files_are_there() {
-    for page in entries("docs").into_iter().chain([Path::new(ROOT).join("README.md")]) {
+    let pages = entries("docs").into_iter().filter(|path| path.is_file());
+    for page in pages.chain([Path::new(ROOT).join("README.md")]) {
         let text = read(&page);
         let absent: Vec<&str> = paths(&text).filter(|path| !stands(path)).collect();
         assert!(absent.is_empty(), "{}: {absent:?}", page.display());
