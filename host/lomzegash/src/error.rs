@@ -68,8 +68,8 @@ impl Error {
 }
 
 impl fmt::Display for Error {
-    /// Writes document 01's cause; its limits stand in the proved code alone. That of 11 is never given for Null, which a
-    /// channel takes.
+    /// Writes document 01's cause; its limits stand in the proved code alone. That of 11 is never given for Null, which
+    /// channels take.
     fn fmt(&self, f: &mut fmt::Formatter<'_>) -> fmt::Result {
         f.write_str(match self {
             Error::Length => {
