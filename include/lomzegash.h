@@ -37,7 +37,7 @@ enum lz_error {
     LZ_OUTPUT_TOO_SHORT = 8,     /* an output shorter than the result */
     LZ_CHANNEL = 9,              /* no such channel */
     LZ_CHANNEL_CODE = 10,        /* the channel holds neither 0 nor 2 to 11 */
-    LZ_NOT_AN_INTEGER = 11,      /* the type is no integer type, codes 2 to 11 */
+    LZ_NOT_AN_INTEGER = 11,      /* the type is neither Null nor an integer type, codes 2 to 11 */
     LZ_NO_UPCAST = 12,           /* no integer type holds the channel's numbers and the new type's */
     LZ_DECIMAL_WITH_INTEGER = 13 /* a Decimal with an integer type in a supertype call */
 };
@@ -208,11 +208,13 @@ lz_reply lz_get_time_units(uint8_t left, uint8_t right);
 
 /*
  * What polars-core doesn't have: the type of a column is merged into a channel, which then
- * holds an integer type that has every number of the columns merged into it. An empty channel
- * gets the column's own, any other the smallest that holds the numbers of the channel's type
- * and of the column's. The codes may be any bytes before the call, and overlap nothing else.
- * Refused by 1 to 5, then by 9, 10, 11 and 12. The value is the code that the channel now
- * holds. No byte but the channel's is written, and a refused call writes nothing.
+ * holds an integer type that has every number of the columns merged into it, and is empty while
+ * they have none. An empty channel gets the column's own, any other the smallest that holds the
+ * numbers of the channel's type and of the column's. Null, code 0, has no numbers: a column of
+ * it leaves the channel as it is, and is never refused by 11 or 12. The codes may be any bytes
+ * before the call, and overlap nothing else. Refused by 1 to 5, then by 9, 10, 11 and 12. The
+ * value is the code that the channel now holds, 0 where Null was merged into an empty one. No
+ * byte but the channel's is written, and a refused call writes nothing.
  */
 lz_reply lz_channel_merge(uint8_t codes[LZ_CHANNELS], size_t channel,
                           const uint8_t *column, size_t column_len);

@@ -23,7 +23,12 @@ type Time = fn(&[Merge]) -> Times;
 
 /// Each form on every list, of whose merges none is refused.
 pub fn rows() -> Vec<Row> {
-    let lists = [("columns of 9 integer types", list(&WIDENING)), ("columns of one type", list(&[INT32]))];
+    let half_null = [WIDENING, [NULL; WIDENING.len()]].concat();
+    let lists = [
+        ("columns of 9 integer types", list(&WIDENING)),
+        ("columns of one type", list(&[INT32])),
+        ("columns, half of them Null", list(&half_null)),
+    ];
     let forms: [(&str, Time); 3] = [("flat by value", by_value), ("flat lent", lent), (BYTES, of_bytes)];
     let mut rows = vec![];
     for (form, time) in forms {
@@ -34,7 +39,7 @@ pub fn rows() -> Vec<Row> {
     rows
 }
 
-/// Columns of these kinds, at random, into all channels.
+/// Columns of these kinds, each as often as it is given, at random, into all channels.
 fn list(kinds: &[u8]) -> Vec<Merge> {
     let mut random = Random::new(7);
     let mut merge = || {

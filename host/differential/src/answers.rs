@@ -16,7 +16,7 @@
 //! | 26 | get_numeric_upcast_supertype_lossless | left type, right type, room | nodes of the result, 0 for None | its kinds, its arguments |
 //! | 27 | get_supertype_with_options | left type, right type, allow_implode_list, allow_primitive_to_string (0 or 1 each), room | the same | the same |
 //! | 28 | join_report | left type, right type | 0 keeps, 1 loses needlessly, 2 loses inevitably, 3 not integers | |
-//! | 29 | merge | type, channel, the codes before it | the code that the channel now holds | the codes after it |
+//! | 29 | merge | type, channel, the codes before it | the code that the channel now holds, 0 if empty | the codes after it |
 //!
 //! A type is the number of its kinds, the kinds, the number of its arguments, the arguments; the two numbers differ only
 //! where the call is refused for it. Room is how many nodes an output can hold. The codes are the bytes of all 32 channels.
@@ -30,8 +30,9 @@
 //!
 //! Numbers 1 to 5 are document 01's by the plain Rust, 6 and 13 are its by the kinds, 8 follows from the room, and the
 //! reports follow from the ranges of integers and the oracle's supertype. polars-core has no channels, so all of a merge is
-//! document 01's by the plain Rust (`plain::channels`): by its book, the `Model`, in a list of merges that started from
-//! empty channels, and by `merge`, its section for one offer, on channels of any bytes. All else is the oracle's.
+//! document 01's, with change request One's Null, by the plain Rust (`plain::channels`): by its book, the `Model`, in a
+//! list of merges that started from empty channels, and by `merge`, its section for one offer, on channels of any
+//! bytes. All else is the oracle's.
 
 use lomzegash::Error;
 use oracle::Type;

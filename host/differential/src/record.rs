@@ -191,6 +191,11 @@ mod tests {
         for number in [1, 2, 3, 4, 5, 9, 10, 11, 12] {
             assert!(refused(&merges, number) >= 3, "refusal {number} of a merge");
         }
+        let of_null = merges.iter().filter(|line| line.call.starts_with(&[MERGE, 1, NULL.into(), 1, 0]));
+        let of_null: Vec<&[u64]> = of_null.map(|line| &line.answer[..2]).collect();
+        for answer in [[0, 0], [0, INT8.into()], [9, 0], [10, 0]] {
+            assert!(of_null.iter().filter(|&&other| other == answer).count() >= 3, "{answer:?} to Null");
+        }
     }
 
     /// How many lines have this refusal.

@@ -2,7 +2,8 @@ use crate::{ffi, Error};
 
 /// For each channel the integer type that holds every number of the columns merged into it (the season record, in the
 /// rules): the type's code, which is its kind, [`kind::UINT8`](crate::kind::UINT8) to
-/// [`kind::INT128`](crate::kind::INT128), or 0 while the channel is empty.
+/// [`kind::INT128`](crate::kind::INT128), or 0 while the channel is empty. It is empty until a column comes that has
+/// numbers: [`kind::NULL`](crate::kind::NULL), a silent probe's type, has none.
 ///
 /// ```
 /// use lomzegash::kind::{INT128, INT8, UINT128, UINT64};
@@ -63,19 +64,23 @@ impl ChannelTypes {
     }
 
     /// Merges the encoded type of a column into a channel, and gives the code that the channel now holds: on an empty
-    /// channel the column's own, else that of the smallest integer type that holds all numbers of both.
+    /// channel the column's own, else that of the smallest integer type that holds all numbers of both. A column of
+    /// [`kind::NULL`](crate::kind::NULL) changes nothing: the code is the one held, and 0 where the channel is empty.
     ///
     /// Refused by numbers 1 to 5, by [`Error::Channel`], by [`Error::ChannelCode`], by [`Error::NotAnInteger`], then by
-    /// [`Error::NoUpcast`]. A refused call changes nothing, and any other changes this channel's byte alone.
+    /// [`Error::NoUpcast`]; of these two Null meets neither. A refused call changes nothing, and any other changes this
+    /// channel's byte alone.
     ///
     /// ```
-    /// use lomzegash::kind::{INT16, INT8, LIST, UINT8};
+    /// use lomzegash::kind::{INT16, INT8, LIST, NULL, UINT8};
     /// use lomzegash::{ChannelTypes, Error};
     ///
-    /// let [small, byte] = [INT8, UINT8].map(|kind| lomzegash::encode_to_vec(&[kind], &[0]).unwrap());
+    /// let [null, small, byte] = [NULL, INT8, UINT8].map(|kind| lomzegash::encode_to_vec(&[kind], &[0]).unwrap());
     /// let list = lomzegash::encode_to_vec(&[LIST, INT8], &[0, 0])?;
     /// let mut types = ChannelTypes::new();
+    /// assert_eq!((types.merge(31, &null), types.get(31)), (Ok(0), None));
     /// assert_eq!(types.merge(31, &small), Ok(INT8));
+    /// assert_eq!(types.merge(31, &null), Ok(INT8));
     /// assert_eq!(types.merge(31, &byte), Ok(INT16));
     /// assert_eq!(types.merge(31, &list), Err(Error::NotAnInteger));
     /// assert_eq!(types.merge(32, &list), Err(Error::Channel));

@@ -24,7 +24,7 @@ pub enum Error {
     Channel = 9,
     /// The channel holds something other than 0 or an integer type.
     ChannelCode = 10,
-    /// The type merged into a channel is no integer type.
+    /// The type merged into a channel is neither Null nor an integer type.
     NotAnInteger = 11,
     /// The channel's type and the one merged into it are unequal, and their lossless upcast is None.
     NoUpcast = 12,
@@ -68,7 +68,8 @@ impl Error {
 }
 
 impl fmt::Display for Error {
-    /// Writes document 01's cause; its limits stand in the proved code alone.
+    /// Writes document 01's cause; its limits stand in the proved code alone. That of 11 is never given for Null, which
+    /// channels take.
     fn fmt(&self, f: &mut fmt::Formatter<'_>) -> fmt::Result {
         f.write_str(match self {
             Error::Length => {

@@ -138,18 +138,20 @@ pub fn get_supertype_with_options(
 }
 
 /// Merges the type of a column into a channel, as [`ChannelTypes::merge`] does on encoded types, and gives the code that
-/// the channel then holds.
+/// the channel then holds: 0 where the column is of type Null, which changes nothing, and the channel is empty.
 ///
 /// Refused by numbers 1 to 5, by [`Error::Channel`], by [`Error::ChannelCode`], by [`Error::NotAnInteger`], then by
 /// [`Error::NoUpcast`]; a refused call changes nothing.
 ///
 /// ```
 /// use lomzegash::flat::merge;
-/// use lomzegash::kind::{INT16, INT8, UINT128, UINT8};
+/// use lomzegash::kind::{INT16, INT8, NULL, UINT128, UINT8};
 /// use lomzegash::{ChannelTypes, Error};
 ///
 /// let mut types = ChannelTypes::new();
+/// assert_eq!(merge(&mut types, 3, (&[NULL], &[0])), Ok(0));
 /// assert_eq!(merge(&mut types, 3, (&[INT8], &[0])), Ok(INT8));
+/// assert_eq!(merge(&mut types, 3, (&[NULL], &[0])), Ok(INT8));
 /// assert_eq!(merge(&mut types, 3, (&[UINT8], &[0])), Ok(INT16));
 /// assert_eq!(merge(&mut types, 3, (&[UINT128], &[0])), Err(Error::NoUpcast));
 /// assert_eq!(types.get(3), Some(INT16));
@@ -165,9 +167,10 @@ pub fn merge(types: &mut ChannelTypes, channel: usize, column: Nodes) -> Result<
 ///
 /// ```
 /// use lomzegash::flat::merged;
-/// use lomzegash::kind::{INT16, INT8, UINT128, UINT8};
+/// use lomzegash::kind::{INT16, INT8, NULL, UINT128, UINT8};
 /// use lomzegash::{ChannelTypes, Error};
 ///
+/// assert_eq!(merged(ChannelTypes::new(), 3, (&[NULL], &[0])), (Ok(0), ChannelTypes::new()));
 /// let (_, types) = merged(ChannelTypes::new(), 3, (&[INT8], &[0]));
 /// let (answer, types) = merged(types, 3, (&[UINT8], &[0]));
 /// assert_eq!((answer, types.get(3)), (Ok(INT16), Some(INT16)));

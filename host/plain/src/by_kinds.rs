@@ -71,13 +71,14 @@ fn merge_kind(codes: &mut [u8; CHANNELS], channel: usize, kind: u8) -> Result<u8
     Ok(*held)
 }
 
-/// The code that a channel which holds this byte holds after a merge of this kind.
+/// The code that a channel which holds this byte holds after a merge of this kind. 0 is an empty channel's code and
+/// Null's kind: with either of them it is the other one.
 fn code_after(held: u8, kind: u8) -> Result<u8, Refusal> {
-    let is_listed = |code| (UINT8..=INT128).contains(&code);
-    if held != 0 && !is_listed(held) {
+    let is_taken = |code| code == 0 || (UINT8..=INT128).contains(&code);
+    if !is_taken(held) {
         return Err(Refusal::ChannelCode);
     }
-    if !is_listed(kind) {
+    if !is_taken(kind) {
         return Err(Refusal::NotInteger);
     }
     let (low, high) = (held.min(kind), held.max(kind));

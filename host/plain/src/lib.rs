@@ -1,6 +1,7 @@
-//! Document 01's rules for flat types, stored sheets, inner types and the season record, in plain Rust.
+//! Document 01's rules for flat types, stored sheets, inner types and the season record, in plain Rust, the last with
+//! what change request One makes of it.
 //!
-//! Written from the document alone, with limits, codes and refusals of its own: the tests compare the proved code with
+//! Written from the documents alone, with limits, codes and refusals of its own: the tests compare the proved code with
 //! it, and the benchmark times the two side by side.
 
 #![forbid(unsafe_code)]
@@ -45,7 +46,7 @@ pub enum Refusal {
     Channel = 9,
     /// The addressed channel holds neither 0 nor 2 to 11.
     ChannelCode = 10,
-    /// The offered type isn't an integer code 2 to 11.
+    /// The offered type is neither Null nor an integer code 2 to 11.
     NotInteger = 11,
     /// Held and offered are unequal integers whose upcast is None.
     NoUpcast = 12,

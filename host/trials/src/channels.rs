@@ -99,10 +99,11 @@ impl Judged<Codes> {
 /// What stands before and behind the types that are lent.
 const GUARD: ChannelTypes = ChannelTypes::from_codes([0xA5; ChannelTypes::CHANNELS]);
 
-/// Compares, and counts the merges by the number that they came to.
+/// Compares, and counts the merges by the number that they came to, and the Nulls that channels took.
 #[derive(Default)]
 pub struct Merging {
     of_number: Numbers,
+    nulls: [u64; 2],
 }
 
 impl Merging {
@@ -135,15 +136,40 @@ impl Merging {
         }
     }
 
-    /// Prints how many merges there were, and gives how many of them came to each number.
+    /// A list of merges after those that are judged, and the list without its Nulls: the other merges get the same
+    /// answers, and all channels end with the same codes.
+    pub fn without_nulls<J: Judge + Clone>(
+        &mut self,
+        form: &Form,
+        judged: &mut Judged<J>,
+        merges: &[Merge],
+    ) -> Vec<Answer> {
+        let mut without = judged.clone();
+        let answers = self.list(form, judged, merges);
+        let (others, expected): (Vec<&Merge>, Vec<Answer>) =
+            merges.iter().zip(&answers).filter(|(merge, _)| !merge.column.is_null()).unzip();
+        assert_eq!(self.list(form, &mut without, others), expected, "{}: without its Nulls", form.name);
+        assert_eq!(without.types, judged.types, "{}: without its Nulls", form.name);
+        answers
+    }
+
+    /// Prints how many merges there were and how many Nulls were taken, and gives how many merges came to each number.
     pub fn report(&self, what: &str) -> Numbers {
         let count: u64 = self.of_number.iter().sum();
         println!("{what}: {count} merges, by number from 0 to 13: {:?}", self.of_number);
+        if self.nulls != [0; 2] {
+            println!("  Nulls were taken by empty channels and by others: {:?}", self.nulls);
+        }
         self.of_number
     }
 
-    /// One merge: an accepted one gives its channel the code of its answer, a refused one leaves every byte, and both leave
-    /// the channel where the judge has it.
+    /// How many Nulls were taken: by empty channels, and by those that hold a type.
+    pub fn nulls(&self) -> [u64; 2] {
+        self.nulls
+    }
+
+    /// One merge: an accepted one gives its channel the code of its answer, a refused one and a Null leave every byte,
+    /// and all leave the channel where the judge has it.
     fn merge<J: Judge>(&mut self, form: &Form, judged: &mut Judged<J>, merge: &Merge) -> Answer {
         let (before, Merge { channel, column }) = (judged.types, merge);
         let expected = judged.judge.merge(*channel, &column.flat).map_err(|refusal| refusal as u64);
@@ -158,6 +184,12 @@ impl Merging {
         assert_eq!(lent, [GUARD, after, GUARD], "{}: what {merge:?} leaves of {before:?}", form.name);
         if let Some(code) = codes.get(*channel) {
             assert_eq!(*code, judged.judge.code(*channel), "{}: where {merge:?} leaves its channel", form.name);
+        }
+        if column.is_null() {
+            assert_eq!(after, before, "{}: {merge:?} answers the code held", form.name);
+            if let Ok(code) = answer {
+                self.nulls[usize::from(code != 0)] += 1;
+            }
         }
         judged.types = after;
         self.of_number[answer.err().unwrap_or(0) as usize] += 1;

@@ -40,6 +40,11 @@ impl Column {
         Flat::new(&[(kind, arg)]).into()
     }
 
+    /// Whether it is of type Null.
+    pub fn is_null(&self) -> bool {
+        self.flat.parts() == (&[NULL], &[0])
+    }
+
     /// What the bytes hold; no node where they have the length of no type, and so the same refusal.
     fn from_bytes(bytes: Vec<u8>) -> Column {
         let flat = match plain::check_encoded(&bytes) {
@@ -77,14 +82,18 @@ pub const NO_CHANNELS: [usize; 8] = [
     usize::MAX,
 ];
 
-/// A list of so many merges, of all integer types or of some, into all channels or a few, and at times into none that
-/// there is.
+/// How many of a hundred columns are Null: few or nearly all, so that channels stay empty for long.
+const NULLS: [usize; 3] = [5, 15, 90];
+
+/// A list of so many merges, of all integer types or of some, with Nulls and others between them, into all channels or
+/// a few, and at times into none that there is.
 pub fn list(random: &mut Random, len: usize) -> Vec<Merge> {
-    let integers = random.pick(&INTEGERS);
+    let (integers, nulls) = (random.pick(&INTEGERS), random.pick(&NULLS));
     let count = random.pick(&[1, 3, ChannelTypes::CHANNELS]);
     let first = random.between(0, ChannelTypes::CHANNELS - count);
     let channels = first..first + count;
-    (0..len).map(|_| Merge { channel: channel(random, &channels), column: column(random, integers) }).collect()
+    let mut merge = || Merge { channel: channel(random, &channels), column: column(random, integers, nulls) };
+    (0..len).map(|_| merge()).collect()
 }
 
 fn channel(random: &mut Random, channels: &Range<usize>) -> usize {
@@ -94,8 +103,12 @@ fn channel(random: &mut Random, channels: &Range<usize>) -> usize {
     random.between(channels.start, channels.end - 1)
 }
 
-/// One of these integer types in most cases, else any type or something damaged.
-fn column(random: &mut Random, integers: &[u8]) -> Column {
+/// Null in so many of a hundred cases; of the others mostly one of these integer types, else any type or something
+/// damaged.
+fn column(random: &mut Random, integers: &[u8], nulls: usize) -> Column {
+    if random.chance(nulls) {
+        return Column::leaf(NULL, 0);
+    }
     match random.below(20) {
         0 => Flat::new(&[random.pick(&leaves::FEW)]).into(),
         1 => {

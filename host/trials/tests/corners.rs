@@ -1,4 +1,5 @@
 //! Corners 1 to 18 of document 01, by its own words: of the port, and of the crate's text where the crate has the rule.
+//! And change request One's sentences.
 
 use lomzegash::dtype;
 use lomzegash::kind::*;
@@ -508,15 +509,68 @@ fn a_channel_holds_0_or_2_to_11() {
 }
 
 #[test]
-fn a_channel_takes_integer_types_alone() {
-    for kind in [NULL, BOOLEAN, FLOAT16, FLOAT64, STRING, DATE, UNKNOWN_ANY] {
+fn a_channel_takes_integer_types_and_null_alone() {
+    for kind in [BOOLEAN, FLOAT16, FLOAT64, STRING, DATE, UNKNOWN_ANY] {
         merges(ChannelTypes::new(), 5, &leaf(kind), Err(Error::NotAnInteger));
     }
-    let nested = [list(&leaf(INT8)), array(1, &leaf(INT8)), fields(0, &[leaf(INT8)]), Flat::wide_struct(0)];
-    for column in nested.into_iter().chain([dyn_int(1), dyn_int(-1), Flat::new(&[(DECIMAL, 10)])]) {
+    for kind in (UINT8..=INT128).chain([NULL]) {
+        merges(ChannelTypes::new(), 5, &leaf(kind), Ok(kind));
+    }
+    let nested = [INT8, NULL].map(leaf).map(|inner| [list(&inner), array(1, &inner), fields(0, &[inner])]);
+    let others = [Flat::wide_struct(0), dyn_int(1), dyn_int(-1), Flat::new(&[(DECIMAL, 10)])];
+    for column in nested.into_iter().flatten().chain(others) {
         merges(ChannelTypes::new(), 5, &column, Err(Error::NotAnInteger));
         merges(holding(5, INT8), 5, &column, Err(Error::NotAnInteger));
     }
+}
+
+/// "From now on an offer of Null is accepted and leaves the channel as it is, answering the code held, 0 if empty."
+#[test]
+fn request_1_null_leaves_the_channel_as_it_is() {
+    for channel in [0, 5, 31] {
+        assert_eq!(merges(ChannelTypes::new(), channel, &leaf(NULL), Ok(0)), ChannelTypes::new());
+        for code in UINT8..=INT128 {
+            assert_eq!(merges(holding(channel, code), channel, &leaf(NULL), Ok(code)), holding(channel, code));
+        }
+    }
+}
+
+/// "The least listed type over the accepted columns that have a number at all, and 0 where there is none."
+#[test]
+fn request_1_a_channel_holds_the_least_type_over_columns_that_have_a_number() {
+    let types = merges(ChannelTypes::new(), 7, &leaf(NULL), Ok(0));
+    let types = merges(types, 7, &leaf(NULL), Ok(0));
+    assert_eq!(types.get(7), None);
+    let types = merges(types, 7, &leaf(INT8), Ok(INT8));
+    let types = merges(types, 7, &leaf(NULL), Ok(INT8));
+    let types = merges(types, 7, &leaf(UINT8), Ok(INT16));
+    let types = merges(types, 7, &leaf(NULL), Ok(INT16));
+    let types = merges(types, 7, &leaf(UINT128), Err(Error::NoUpcast));
+    assert_eq!(merges(types, 7, &leaf(NULL), Ok(INT16)), holding(7, INT16));
+}
+
+/// "Refused: nothing added; 11 is no longer given for Null." It meets 1 to 5, 9 and 10, in this order, and never 12.
+#[test]
+fn request_1_what_null_is_refused_by() {
+    let no_types = [
+        (Flat { kinds: vec![NULL], args: vec![] }, Error::Length),
+        (Flat::new(&[(NULL, 1), (FIELD + 1, 0)]), Error::Kind),
+        (Flat::new(&[(NULL, 1)]), Error::Argument),
+        (Flat::new(&[(NULL, 0), (NULL, 0)]), Error::Shape),
+        (Flat::repeated(&[(LIST, 0)], 33, &leaf(NULL)), Error::Depth),
+    ];
+    for (column, error) in no_types {
+        for types in [ChannelTypes::new(), holding(5, INT8), holding(5, 1)] {
+            merges(types, 5, &column, Err(error));
+            merges(types, 32, &column, Err(error));
+        }
+    }
+    for byte in [1, 12, 255] {
+        merges(holding(5, byte), 5, &leaf(NULL), Err(Error::ChannelCode));
+        merges(holding(5, byte), 32, &leaf(NULL), Err(Error::Channel));
+        merges(holding(5, byte), 6, &leaf(NULL), Ok(0));
+    }
+    merges(holding(5, UINT128), 5, &leaf(NULL), Ok(UINT128));
 }
 
 /// Of several refusals that apply the lowest number is given: 1 to 5 of the type, then 9, 10 and 11.

@@ -23,7 +23,7 @@ const LENGTH: usize = 40;
 /// The most nodes of a column in such a list: lines stay short.
 const NODES: usize = 4;
 
-/// The corner, the pairs of what is held and merged, each refusal, then lists that are drawn.
+/// The corner, the pairs of what is held and merged, each refusal, Nulls, then lists that are drawn.
 pub fn all(answers: &mut Answers) {
     for channel in [0, ChannelTypes::CHANNELS - 1] {
         for kinds in CORNER {
@@ -33,6 +33,7 @@ pub fn all(answers: &mut Answers) {
     }
     pairs(answers);
     refusals(answers);
+    nulls(answers);
     let mut random = Random::new(29);
     for _ in 0..LISTS {
         drawn(answers, &mut Model::new(), &mut random);
@@ -67,6 +68,25 @@ fn refusals(answers: &mut Answers) {
     for channel in NO_CHANNELS {
         for kind in [INT8, STRING] {
             answers.merge(&mut damaged, channel, &leaf(kind));
+        }
+    }
+}
+
+/// Null, and then what is nearly Null, into channels that are empty, that hold a type or a byte that is no code, and
+/// that there are not; then Nulls between the corner's columns.
+fn nulls(answers: &mut Answers) {
+    let mut codes: Codes = array::from_fn(|other| [0, INT8, 1, UINT128, INT128 + 1][other % 5]);
+    let columns: [&[(u8, u64)]; 5] =
+        [&[(NULL, 0)], &[(NULL, 1)], &[(NULL, u64::MAX)], &[(NULL, 0), (NULL, 0)], &[(LIST, 0), (NULL, 0)]];
+    for column in columns.map(Flat::new) {
+        for channel in [0, 1, 2, 3, 4, ChannelTypes::CHANNELS - 1, ChannelTypes::CHANNELS, usize::MAX] {
+            answers.merge(&mut codes, channel, &column);
+        }
+    }
+    for kinds in CORNER {
+        let mut model = Model::new();
+        for kind in kinds.iter().flat_map(|&kind| [NULL, NULL, kind, NULL]) {
+            answers.merge(&mut model, 7, &leaf(kind));
         }
     }
 }

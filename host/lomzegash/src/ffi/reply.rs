@@ -75,11 +75,12 @@ impl Reply {
         self.one_of(&JoinReport::ALL)
     }
 
-    /// The code of an integer type or the refusal.
+    /// The code of an integer type, or 0, that of an empty channel, or the refusal.
     #[inline]
     pub(super) fn code(self) -> Result<u8, Error> {
+        let is_code = |value| value == 0 || (UINT8.into()..=INT128.into()).contains(&value);
         match self {
-            Reply { number: 0, value } if !(UINT8.into()..=INT128.into()).contains(&value) => ruled_out(&self),
+            Reply { number: 0, value } if !is_code(value) => ruled_out(&self),
             _ => self.result().map(|code| code as u8),
         }
     }
@@ -192,7 +193,7 @@ mod tests {
         assert_eq!([value(0).yes_or_no(), value(1).yes_or_no()], [Ok(false), Ok(true)]);
         assert_eq!([0, 1, 2].map(|v| value(v).verdict()), [Ok(Some(false)), Ok(Some(true)), Ok(None)]);
         assert_eq!([0, 1, 2, 3].map(|v| value(v).join_report()), JoinReport::ALL.map(Ok));
-        assert_eq!([2, 11].map(|v| value(v).code()), [Ok(2), Ok(11)]);
+        assert_eq!([0, 2, 11].map(|v| value(v).code()), [Ok(0), Ok(2), Ok(11)]);
         assert_eq!(refused(12).code(), Err(Error::NoUpcast));
         assert_eq!([0, 11].map(|v| value(v).written()), [Ok(None), Ok(Some(11))]);
         assert_eq!(value(11).always_written(), Ok(11));
@@ -227,7 +228,7 @@ mod tests {
         assert!(is_ruled_out(|| value(3).verdict()));
         assert!(is_ruled_out(|| value(3).unit()));
         assert!(is_ruled_out(|| value(4).join_report()));
-        assert!([0, 1, 12, 258].iter().all(|&v| is_ruled_out(move || value(v).code())));
+        assert!([1, 12, 256, 258].iter().all(|&v| is_ruled_out(move || value(v).code())));
         assert!(is_ruled_out(|| value(0).always_written()));
         assert!(is_ruled_out(|| value(2).part((&[7], &[0])).is_ok()));
         assert!(is_ruled_out(|| value(2).always_part((&[28, 7], &[0])).is_ok()));

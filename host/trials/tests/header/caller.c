@@ -244,6 +244,57 @@ static void merges(void) {
     MUST(memcmp(lent, expected, sizeof lent) == 0);
 }
 
+/* Null into an empty channel, one that holds Int8, one whose byte is no code and one that there isn't: no change. */
+static void null_merges(void) {
+    const uint8_t argument[11] = {0x01, 0x00, 0x00, 0x01}, two[20] = {0x02, 0x00, 0x00, 0x00};
+    uint8_t lent[LZ_CHANNELS + 2] = {9}, expected[LZ_CHANNELS + 2];
+    uint8_t *codes = lent + 1;
+    lent[LZ_CHANNELS + 1] = 9;
+    codes[30] = 7;
+    codes[29] = 12;
+    memcpy(expected, lent, sizeof lent);
+
+    MUST(is(lz_channel_merge(codes, 31, LENT(null)), LZ_OK, 0));
+    MUST(is(lz_channel_merge(codes, 30, LENT(null)), LZ_OK, 7));
+    MUST(is(lz_channel_merge(codes, 29, LENT(null)), LZ_CHANNEL_CODE, 0));
+    MUST(is(lz_channel_merge(codes, 32, LENT(null)), LZ_CHANNEL, 0));
+    MUST(is(lz_channel_merge(codes, 30, LENT(argument)), LZ_ARGUMENT, 0));
+    MUST(is(lz_channel_merge(codes, 30, LENT(two)), LZ_SHAPE, 0));
+    MUST(is(lz_channel_merge(codes, 30, LENT(boolean)), LZ_NOT_AN_INTEGER, 0));
+    MUST(memcmp(lent, expected, sizeof lent) == 0);
+}
+
+/* The same of flat types, lent and by value. */
+static void flat_null_merges(void) {
+    const uint8_t nothing[2] = {0, 0};
+    const uint64_t zero[2] = {0, 0}, one[1] = {1};
+    lz_channel_types expected = {{0}}, lent = {{0}};
+    lz_types_reply next = {{0, 0}, {{0}}};
+    expected.codes[30] = lent.codes[30] = next.types.codes[30] = 7;
+    expected.codes[29] = lent.codes[29] = next.types.codes[29] = 12;
+
+    next = lz_flat_channel_merged(next.types, 31, nothing, 1, zero, 1);
+    MUST(is(next.reply, LZ_OK, 0));
+    next = lz_flat_channel_merged(next.types, 30, nothing, 1, zero, 1);
+    MUST(is(next.reply, LZ_OK, 7));
+    next = lz_flat_channel_merged(next.types, 29, nothing, 1, zero, 1);
+    MUST(is(next.reply, LZ_CHANNEL_CODE, 0));
+    next = lz_flat_channel_merged(next.types, 32, nothing, 1, zero, 1);
+    MUST(is(next.reply, LZ_CHANNEL, 0));
+    next = lz_flat_channel_merged(next.types, 30, nothing, 1, LENT(one));
+    MUST(is(next.reply, LZ_ARGUMENT, 0));
+    next = lz_flat_channel_merged(next.types, 30, LENT(nothing), LENT(zero));
+    MUST(is(next.reply, LZ_SHAPE, 0) && memcmp(&next.types, &expected, sizeof expected) == 0);
+
+    MUST(is(lz_flat_channel_merge(&lent, 31, nothing, 1, zero, 1), LZ_OK, 0));
+    MUST(is(lz_flat_channel_merge(&lent, 30, nothing, 1, zero, 1), LZ_OK, 7));
+    MUST(is(lz_flat_channel_merge(&lent, 29, nothing, 1, zero, 1), LZ_CHANNEL_CODE, 0));
+    MUST(is(lz_flat_channel_merge(&lent, 32, nothing, 1, zero, 1), LZ_CHANNEL, 0));
+    MUST(is(lz_flat_channel_merge(&lent, 30, nothing, 1, LENT(one)), LZ_ARGUMENT, 0));
+    MUST(is(lz_flat_channel_merge(&lent, 30, LENT(nothing), LENT(zero)), LZ_SHAPE, 0));
+    MUST(memcmp(&lent, &expected, sizeof expected) == 0);
+}
+
 /* The merges of flat types, lent and by value: Int8, UInt8 and UInt128, and kinds without arguments. */
 static void flat_merges(void) {
     const uint8_t byte[1] = {7}, unsigned_byte[1] = {2}, longest[1] = {6};
@@ -283,6 +334,8 @@ int main(void) {
     flat_parts();
     flat_joins();
     merges();
+    null_merges();
     flat_merges();
+    flat_null_merges();
     return status;
 }

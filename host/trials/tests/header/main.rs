@@ -37,7 +37,7 @@ const CONSTANTS: [(&str, &str); 19] = [
     ("LZ_OUTPUT_TOO_SHORT", "an output shorter than the result"),
     ("LZ_CHANNEL", "no such channel"),
     ("LZ_CHANNEL_CODE", "the channel holds neither 0 nor 2 to 11"),
-    ("LZ_NOT_AN_INTEGER", "the type is no integer type, codes 2 to 11"),
+    ("LZ_NOT_AN_INTEGER", "the type is neither Null nor an integer type, codes 2 to 11"),
     ("LZ_NO_UPCAST", "no integer type holds the channel's numbers and the new type's"),
     ("LZ_DECIMAL_WITH_INTEGER", "a Decimal with an integer type in a supertype call"),
     ("LZ_CHANNELS", ""),
