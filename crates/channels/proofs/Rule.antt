@@ -1,6 +1,6 @@
 -- The rule of the channels' types holds. Assumes nothing.
 use mathlib.Core.Path.{_≡_, refl, sym, ap, _∙_}
-use mathlib.Core.Bool.{Bool, true, false, cond}
+use mathlib.Core.Bool.{Bool, true, false, cond, not, _||_}
 use mathlib.Core.Logic.{_↔_}
 use mathlib.Core.List.{List, [], _∷_, _++_}
 use Prim.Native.Nat.{ℕ, _≤_, _<_}
@@ -15,7 +15,8 @@ use Rattle.flat.specs.Tree.{DataType, headKind}
 use Rattle.flat.specs.Reading.{Reading, refused, type}
 use Rattle.flat.specs.declared.error.Error.{Error}
 use Rattle.flat.specs.declared.error.Error.the-variants.{Channel, NoUpcast}
-use Rattle.supertype_numbers.specs.Range.{Listed, Covers, Room}
+use Rattle.flat.proofs.Truths.{never}
+use Rattle.supertype_numbers.specs.Range.{Listed, isListed, Covers, Room}
 use Rattle.supertype_numbers.proofs.Ranges.{has-number, least-one}
 use Rattle.channels.specs.declared.ChannelTypes.{ChannelTypes}
 use Rattle.channels.specs.declared.Merged.{Merged}
@@ -23,12 +24,17 @@ use Rattle.channels.specs.declared.Merged.the-variants.{Held, Refused}
 use Rattle.channels.specs.declared.Outcome.{Outcome}
 use Rattle.channels.specs.Merge.{mergeUnless, mergedWith, mergedOf, codesAfter, started, outcomeOf}
 use Rattle.channels.specs.Model.{Merge, Model, numbered, LeastOrNone, Stands, Feeds}
-use Rattle.channels.specs.Rule.{Run, codeAt, Tells, accepted, AllMergeable, only, answersTo, ChannelRule}
-use Rattle.channels.proofs.Arms.{null}
+use Rattle.channels.specs.Rule.{Run, codeAt, Tells, accepted, AllMergeable, only, answersTo, isInto}
+use Rattle.channels.specs.Rule.{isNull, isNotNull, ChannelRule}
+use Rattle.channels.proofs.Arms.{bad-code, null}
 use Rattle.channels.proofs.Pages.{null-has-none, covers-numbered, over-all, code-stands}
 use Rattle.channels.proofs.Models.{by-model, one-model, pages, all-mergeable, refused-where}
 
 -- ---- what a merge leaves, whatever the codes are
+
+-- a merge into these types has this outcome
+abbrev Comes : (channels : ℕ) → ChannelTypes → Merge → Outcome → Type 0
+Comes channels s m o = o ≡ outcomeOf channels s (m .channel) (m .column)
 
 module _ (codes : List ℕ) (channel : ℕ) where
   -- there are as many codes as before, and those of the other channels are as they were
@@ -68,8 +74,7 @@ module _ (channels : ℕ) where
   same-answer x y channel (type t) h = rw h
 
 -- what a merge leaves, by its outcome
-module _ (channels : ℕ) (s : ChannelTypes) (m : Merge) {o : Outcome}
-    (h : o ≡ outcomeOf channels s (m .channel) (m .column)) where
+module _ (channels : ℕ) (s : ChannelTypes) (m : Merge) {o : Outcome} (h : Comes channels s m o) where
   keeps-length : length (o .types .codes) ≡ length (s .codes)
   unfolding outcomeOf
   keeps-length = rw h (after-length (s .codes) (m .channel) (mergedOf channels (s .codes) (m .channel) (m .column)))
@@ -98,9 +103,8 @@ after-same x y ch (Held c) n h = go (decLt ch (length x))
     go (no l) = past x (omega arith) ∙ sym (past y (omega arith))
 
 -- one merge into two types, which have the same code at its channel
-same-merge : (channels : ℕ) (s t : ChannelTypes) (m : Merge) {o p : Outcome}
-    → o ≡ outcomeOf channels s (m .channel) (m .column) → p ≡ outcomeOf channels t (m .channel) (m .column)
-    → length (s .codes) ≡ length (t .codes) → codeAt s (m .channel) ≡ codeAt t (m .channel)
+same-merge : (channels : ℕ) (s t : ChannelTypes) (m : Merge) {o p : Outcome} → Comes channels s m o
+    → Comes channels t m p → length (s .codes) ≡ length (t .codes) → codeAt s (m .channel) ≡ codeAt t (m .channel)
     → (codeAt (o .types) (m .channel) ≡ codeAt (p .types) (m .channel)) × (o .answer ≡ p .answer)
 unfolding outcomeOf
 same-merge channels s t m h g n e =
@@ -141,26 +145,83 @@ module _ {channels : ℕ} where
   answers n (Run.next {s = s} {m = m} {o = o} r h) =
       tells (codeAt s (m .channel)) (o .answer) (own-code channels s m h (run-length r ∙ n))
 
-  -- a merge into another channel leaves this one as it was; one into this channel is in both lists
-  alone : (ch : ℕ) {ms : List Merge} {xs ys : List Merged} {s₀ s t : ChannelTypes} → Run channels s₀ ms xs s
-      → Run channels s₀ (only ch ms) ys t → (codeAt s ch ≡ codeAt t ch) × (answersTo ch ms xs ≡ ys)
-  alone ch Run.none Run.none = (refl, refl)
-  alone ch {s₀ = s₀} (Run.next {ms = ms} {xs = xs} {s = s} {m = m} {o = o} r h) q =
-      go (eqb (m .channel) ch) refl (λ zs u p. alone ch r p) q
+-- A list, and the merges of it that pass a test. What two types have in common at the start, they have in common at the
+-- end, where a merge that doesn't pass leaves it to the first, and one that passes leaves it and has one answer.
+module _ (channels : ℕ) (test : Merge → Bool) (Same : ChannelTypes → ChannelTypes → Type 0)
+    (left-out : (s t : ChannelTypes) (m : Merge) (o : Outcome) → test m ≡ false → Same s t → Comes channels s m o
+    → Same (o .types) t)
+    (in-both : (s t : ChannelTypes) (m : Merge) (o p : Outcome) → test m ≡ true → Same s t → Comes channels s m o
+    → Comes channels t m p → Same (o .types) (p .types) × (o .answer ≡ p .answer)) where
+  passing : {ms : List Merge} {xs ys : List Merged} {s₀ s t : ChannelTypes} → Same s₀ s₀ → Run channels s₀ ms xs s
+      → Run channels s₀ (only test ms) ys t → Same s t × (answersTo test ms xs ≡ ys)
+  passing i Run.none Run.none = (i, refl)
+  passing {s₀ = s₀} i (Run.next {ms = ms} {xs = xs} {s = s} {m = m} {o = o} r h) q =
+      go (test m) refl (λ zs u p. passing i r p) q
     where
-      go : {ys : List Merged} {t : ChannelTypes} (own : Bool) → eqb (m .channel) ch ≡ own
-          → ((zs : List Merged) (u : ChannelTypes) → Run channels s₀ (only ch ms) zs u
-          → (codeAt s ch ≡ codeAt u ch) × (answersTo ch ms xs ≡ zs))
-          → Run channels s₀ (cond own (m ∷ only ch ms) (only ch ms)) ys t
-          → (codeAt (o .types) ch ≡ codeAt t ch) × (cond own (o .answer ∷ answersTo ch ms xs) (answersTo ch ms xs) ≡ ys)
-      go true e rest (Run.next {xs = zs} {s = u} r′ h′) =
-          let b = rest zs u r′ in
+      go : {ys : List Merged} {t : ChannelTypes} (a : Bool) → test m ≡ a
+          → ((zs : List Merged) (u : ChannelTypes) → Run channels s₀ (only test ms) zs u
+          → Same s u × (answersTo test ms xs ≡ zs)) → Run channels s₀ (cond a (m ∷ only test ms) (only test ms)) ys t
+          → Same (o .types) t × (cond a (o .answer ∷ answersTo test ms xs) (answersTo test ms xs) ≡ ys)
+      go true e rest (Run.next {xs = zs} {s = u} {o = p} r′ h′) =
+          let b = rest zs u r′ in let a = in-both s u m o p e (b .0) h h′ in (a .0, cc)
+      go {ys} {t} false e rest r′ = let b = rest ys t r′ in (left-out s t m o e (b .0) h, b .1)
+
+-- the codes are as many, and the channel's own is the same
+abbrev SameAt : ℕ → ChannelTypes → ChannelTypes → Type 0
+SameAt ch s t = (length (s .codes) ≡ length (t .codes)) × (codeAt s ch ≡ codeAt t ch)
+
+-- Null leaves all codes, whatever they are: it is refused, or the code held is written again
+null-leaves : (channels : ℕ) (codes : List ℕ) (channel : ℕ) (column : Reading) → not (isNull column) ≡ false
+    → codesAfter codes channel (mergedOf channels codes channel column) ≡ codes
+unfolding mergedOf
+null-leaves channels codes channel (refused x) e = never (sym e)
+null-leaves channels codes channel (type t) e =
+    go (ltb channel channels) (eqb (headKind t) Kind.Null) (eqb held 0 || isListed held) refl refl e
+  where
+    held : ℕ
+    held = getD codes channel 0
+
+    go : (x y z : Bool) → eqb (headKind t) Kind.Null ≡ y → eqb held 0 || isListed held ≡ z → not y ≡ false
+        → codesAfter codes channel (mergeUnless x Channel (mergedWith held (headKind t))) ≡ codes
+    go x false z f g e = never (sym e)
+    go false true z f g e = refl
+    go true true false f g e = rw (← bad-code held (headKind t) g) refl
+    go true true true f g e =
+        rw (← null held (headKind t) g (eqb-true (headKind t) Kind.Null f)) (set-getD codes channel 0)
+
+module _ {channels : ℕ} where
+  alone : (ch : ℕ) {ms : List Merge} {xs ys : List Merged} {s₀ s t : ChannelTypes} → Run channels s₀ ms xs s
+      → Run channels s₀ (only (isInto ch) ms) ys t
+      → (codeAt s ch ≡ codeAt t ch) × (answersTo (isInto ch) ms xs ≡ ys)
+  alone ch r q = let g = passing channels (isInto ch) (SameAt ch) left-out in-both (refl, refl) r q in (g .0 .1, g .1)
+    where
+      left-out : (s t : ChannelTypes) (m : Merge) (o : Outcome) → isInto ch m ≡ false → SameAt ch s t
+          → Comes channels s m o → SameAt ch (o .types) t
+      left-out s t m o e i h =
+          let other = keeps-other channels s m h ch (λ d. eqb-false (m .channel) ch e (sym d)) in
+          (keeps-length channels s m h ∙ i .0, other ∙ i .1)
+
+      in-both : (s t : ChannelTypes) (m : Merge) (o p : Outcome) → isInto ch m ≡ true → SameAt ch s t
+          → Comes channels s m o → Comes channels t m p → SameAt ch (o .types) (p .types) × (o .answer ≡ p .answer)
+      in-both s t m o p e i h g =
           let d : m .channel ≡ ch = eqb-true (m .channel) ch e in
-          let a = same-merge channels s u m h h′ (run-length r ∙ sym (run-length r′)) (rw d (b .0)) in
-          (rw d at (a .0), cc)
-      go {ys} {t} false e rest r′ =
-          let b = rest ys t r′ in
-          (keeps-other channels s m h ch (λ d. eqb-false (m .channel) ch e (sym d)) ∙ b .0, b .1)
+          let a = same-merge channels s t m h g (i .0) (rw d (i .1)) in
+          ((keeps-length channels s m h ∙ i .0 ∙ sym (keeps-length channels t m g), rw d at (a .0)), a .1)
+
+  without-nulls : {ms : List Merge} {xs ys : List Merged} {s₀ s t : ChannelTypes} → Run channels s₀ ms xs s
+      → Run channels s₀ (only isNotNull ms) ys t → (s ≡ t) × (answersTo isNotNull ms xs ≡ ys)
+  unfolding outcomeOf
+  without-nulls = passing channels isNotNull (λ s t. s ≡ t) left-out in-both refl
+    where
+      left-out : (s t : ChannelTypes) (m : Merge) (o : Outcome) → isNotNull m ≡ false → s ≡ t → Comes channels s m o
+          → o .types ≡ t
+      left-out s t m o e i h =
+          let kept = null-leaves channels (s .codes) (m .channel) (m .column) e in
+          rw h (ap (λ (codes : List ℕ). record { codes = codes }) kept ∙ i)
+
+      in-both : (s t : ChannelTypes) (m : Merge) (o p : Outcome) → isNotNull m ≡ true → s ≡ t → Comes channels s m o
+          → Comes channels t m p → (o .types ≡ p .types) × (o .answer ≡ p .answer)
+      in-both s t m o p e i h g = let a : o ≡ p = cc in rw a (refl, refl)
 
 -- ---- lists of merges, from types started empty
 
@@ -185,8 +246,8 @@ module _ {channels : ℕ} where
 
   -- every code of a run is 0 or listed, so that Null meets no refusal
   silent : {ms : List Merge} {xs : List Merged} {s : ChannelTypes} {m : Merge} {o : Outcome} {t : DataType}
-      → Run channels (started channels) ms xs s → o ≡ outcomeOf channels s (m .channel) (m .column)
-      → m .column ≡ type t → headKind t ≡ Kind.Null → m .channel < channels
+      → Run channels (started channels) ms xs s → Comes channels s m o → m .column ≡ type t → headKind t ≡ Kind.Null
+      → m .channel < channels
       → o ≡ record { types = s; answer = Held (codeAt s (m .channel)) }
   unfolding outcomeOf mergedOf
   silent {s = s} {m = m} {t = t} r h q z l =
@@ -220,6 +281,7 @@ channel-rule channels = record {
   null-has-none = null-has-none;
   over-all = over-all;
   silent = silent;
+  without-nulls = without-nulls;
   refused-when = λ r. refused-when (by-model r .1);
   answers = answers;
   alone = alone;

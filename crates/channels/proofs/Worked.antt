@@ -16,4 +16,5 @@ worked = record {
   channel-0 = (refl, refl, refl, refl);
   channel-1 = (refl, refl, refl, refl);
   channel-2 = (refl, refl, refl, refl);
+  without-nulls = (refl, refl);
 }

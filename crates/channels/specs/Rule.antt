@@ -1,7 +1,7 @@
 -- The rule of the channels' types, document 01's season rule (demand 3), with request One's Null in it: one claim about
 -- every list of merges. Assumes nothing: these are definitions.
 use mathlib.Core.Path.{_≡_}
-use mathlib.Core.Bool.{true, cond}
+use mathlib.Core.Bool.{Bool, true, false, cond, not}
 use mathlib.Core.Logic.{_↔_}
 use mathlib.Core.List.{List, [], _∷_, _++_}
 use Prim.Native.Nat.{ℕ, _<_}
@@ -55,15 +55,26 @@ abbrev pub AllMergeable : List ℕ → Type 0
 AllMergeable [] = Unit {0}
 AllMergeable (k ∷ ks) = Mergeable k × AllMergeable ks
 
--- the merges into one channel, and the answers that they had
-abbrev pub only : ℕ → List Merge → List Merge
-only ch [] = []
-only ch (m ∷ ms) = cond (eqb (m .channel) ch) (m ∷ only ch ms) (only ch ms)
+-- the merges that pass a test, and the answers that they had
+abbrev pub only : (Merge → Bool) → List Merge → List Merge
+only test [] = []
+only test (m ∷ ms) = cond (test m) (m ∷ only test ms) (only test ms)
 
-abbrev pub answersTo : ℕ → List Merge → List Merged → List Merged
-answersTo ch [] xs = []
-answersTo ch (m ∷ ms) [] = []
-answersTo ch (m ∷ ms) (a ∷ xs) = cond (eqb (m .channel) ch) (a ∷ answersTo ch ms xs) (answersTo ch ms xs)
+abbrev pub answersTo : (Merge → Bool) → List Merge → List Merged → List Merged
+answersTo test [] xs = []
+answersTo test (m ∷ ms) [] = []
+answersTo test (m ∷ ms) (a ∷ xs) = cond (test m) (a ∷ answersTo test ms xs) (answersTo test ms xs)
+
+-- whether a merge is into this channel, and whether its column is other than Null's
+abbrev pub isInto : ℕ → Merge → Bool
+isInto ch m = eqb (m .channel) ch
+
+abbrev pub isNull : Reading → Bool
+isNull (refused e) = false
+isNull (type t) = eqb (headKind t) Kind.Null
+
+abbrev pub isNotNull : Merge → Bool
+isNotNull m = not (isNull (m .column))
 
 -- The claim, of any number of channels: `ChannelTypes` has 32 (`ChannelLimit`), and `ChannelTypes::empty` gives
 -- `started` of them.
@@ -101,6 +112,10 @@ pub record ChannelRule (channels : ℕ) : Type 0 where
       → Run channels (started channels) ms xs s → o ≡ outcomeOf channels s (m .channel) (m .column)
       → m .column ≡ type t → headKind t ≡ Kind.Null → m .channel < channels
       → o ≡ record { types = s; answer = Held (codeAt s (m .channel)) }
+  -- and so the types and the other offers' answers are the same in a list and in the one without its Nulls, even from a
+  -- record not started empty
+  pub without-nulls : {ms : List Merge} {xs ys : List Merged} {s₀ s t : ChannelTypes} → Run channels s₀ ms xs s
+      → Run channels s₀ (only isNotNull ms) ys t → (s ≡ t) × (answersTo isNotNull ms xs ≡ ys)
   -- "In it a valid column of a listed integer type, on a valid channel, is refused exactly when no listed type includes
   -- its range and those accepted there before." It is then refused by 12, and never by another number.
   pub refused-when : {ms : List Merge} {xs : List Merged} {s : ChannelTypes} {m : Merge} {a : Merged} {t : DataType}
@@ -115,5 +130,5 @@ pub record ChannelRule (channels : ℕ) : Type 0 where
   -- "A channel's code and its offers' answers are the same in such a list and in the one that keeps only its own
   -- offers, even from a record not started empty."
   pub alone : (ch : ℕ) {ms : List Merge} {xs ys : List Merged} {s₀ s t : ChannelTypes} → Run channels s₀ ms xs s
-      → Run channels s₀ (only ch ms) ys t
-      → (codeAt s ch ≡ codeAt t ch) × (answersTo ch ms xs ≡ ys)
+      → Run channels s₀ (only (isInto ch) ms) ys t
+      → (codeAt s ch ≡ codeAt t ch) × (answersTo (isInto ch) ms xs ≡ ys)

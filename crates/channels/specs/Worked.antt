@@ -11,7 +11,7 @@ use Rattle.channels.specs.declared.Merged.{Merged}
 use Rattle.channels.specs.declared.Merged.the-variants.{Held, Refused}
 use Rattle.channels.specs.Merge.{started}
 use Rattle.channels.specs.Model.{Merge, numbered}
-use Rattle.channels.specs.Rule.{Run, only, answersTo, accepted}
+use Rattle.channels.specs.Rule.{Run, accepted, only, answersTo, isInto, isNotNull}
 
 -- a column is merged into a channel; a column of the kind k
 abbrev pub into : ℕ → Reading → Merge
@@ -48,8 +48,8 @@ answers =
 -- that have a number
 abbrev pub Row : ℕ → List Merge → List Merged → (kinds numbers : List ℕ) → Type 0
 Row ch own had kinds numbers =
-    (only ch merges ≡ own) × (answersTo ch merges answers ≡ had) × (accepted ch merges answers ≡ kinds)
-    × (numbered kinds ≡ numbers)
+    (only (isInto ch) merges ≡ own) × (answersTo (isInto ch) merges answers ≡ had)
+    × (accepted ch merges answers ≡ kinds) × (numbered kinds ≡ numbers)
 
 pub record Worked : Type 0 where
   -- into three channels, empty at the start
@@ -61,3 +61,8 @@ pub record Worked : Type 0 where
   pub channel-1 : Row 1 (into 1 (refused Shape) ∷ into 1 (of Kind.Int16) ∷ [])
       (Refused Shape ∷ Held Kind.Int16 ∷ []) (Kind.Int16 ∷ []) (Kind.Int16 ∷ [])
   pub channel-2 : Row 2 (into 2 (of Kind.Null) ∷ []) (Held 0 ∷ []) (Kind.Null ∷ []) []
+  pub without-nulls : (only isNotNull merges
+      ≡ into 0 (of Kind.UInt128) ∷ into 0 (of Kind.Int8) ∷ into 1 (refused Shape) ∷ into 1 (of Kind.Int16)
+      ∷ into 0 (of Kind.UInt64) ∷ [])
+      × (answersTo isNotNull merges answers
+      ≡ Refused NoUpcast ∷ Held Kind.Int128 ∷ Refused Shape ∷ Held Kind.Int16 ∷ Held Kind.UInt64 ∷ [])
