@@ -43,13 +43,17 @@ abbrev pub withColumn : Reading → List ℕ → List ℕ
 withColumn (refused e) ks = ks
 withColumn (type t) ks = headKind t ∷ ks
 
+-- whether a merge is into this channel
+abbrev pub isInto : ℕ → Merge → Bool
+isInto ch m = eqb (m .channel) ch
+
 -- the types of the columns that were accepted on a channel, by the answers
 abbrev pub accepted : (ch : ℕ) → List Merge → List Merged → List ℕ
 accepted ch [] xs = []
 accepted ch (m ∷ ms) [] = []
 accepted ch (m ∷ ms) (Refused e ∷ xs) = accepted ch ms xs
 accepted ch (m ∷ ms) (Held c ∷ xs) =
-    cond (eqb (m .channel) ch) (withColumn (m .column) (accepted ch ms xs)) (accepted ch ms xs)
+    cond (isInto ch m) (withColumn (m .column) (accepted ch ms xs)) (accepted ch ms xs)
 
 abbrev pub AllMergeable : List ℕ → Type 0
 AllMergeable [] = Unit {0}
@@ -65,10 +69,7 @@ answersTo test [] xs = []
 answersTo test (m ∷ ms) [] = []
 answersTo test (m ∷ ms) (a ∷ xs) = cond (test m) (a ∷ answersTo test ms xs) (answersTo test ms xs)
 
--- whether a merge is into this channel, and whether its column is other than Null's
-abbrev pub isInto : ℕ → Merge → Bool
-isInto ch m = eqb (m .channel) ch
-
+-- whether a merge's column is other than Null's
 abbrev pub isNull : Reading → Bool
 isNull (refused e) = false
 isNull (type t) = eqb (headKind t) Kind.Null
