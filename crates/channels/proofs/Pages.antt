@@ -2,7 +2,7 @@
 -- Assumes nothing.
 use mathlib.Core.Path.{_≡_, refl, sym, subst, ap, _∙_}
 use mathlib.Core.Bool.{Bool, true, false, cond, _||_}
-use mathlib.Core.Logic.{_↔_, inl, inr}
+use mathlib.Core.Logic.{_↔_, Iff·symm, inl, inr}
 use mathlib.Core.List.{List, [], _∷_}
 use Prim.Native.Nat.{ℕ}
 use native.Mathlib.Omega.{arith}
@@ -11,8 +11,10 @@ use lib.Dec.{eqb, lit≤}
 use borrow.Author.Tests.{eq-eqb, ne-eqb}
 use Rattle.flat.specs.Kind
 use Rattle.flat.specs.declared.error.Error.the-variants.{NotInteger, NoUpcast}
+use Rattle.flat.proofs.Truths.{never}
 use Rattle.supertype_numbers.specs.Range.{Listed, isListed, HasNumber, Includes, Covers, Least, Room}
 use Rattle.supertype_numbers.proofs.Tests.{listed, is-listed, not-listed}
+use Rattle.supertype_numbers.proofs.Ranges.{has-number}
 use Rattle.supertype_lossless.specs.Lossless.{upcastOf}
 use Rattle.supertype_lossless.specs.declared.upcast.Upcast.{Upcast}
 use Rattle.supertype_lossless.specs.declared.upcast.Upcast.the-variants.{To, Nothing}
@@ -45,59 +47,44 @@ module _ (t : ℕ) where
       go : (a : Bool) → isListed k ≡ a → Covers t (numbered ks) ↔ Covers t ks
           → Covers t (cond a (k ∷ numbered ks) (numbered ks)) ↔ Covers t (k ∷ ks)
       go true e rest = ((λ c. (c .0, rest .0 (c .1))), (λ c. (c .0, rest .1 (c .1))))
-      go false e rest = ((λ c. ((λ z h. absurd (not-listed e (h .0))), rest .0 c)), (λ c. rest .1 (c .1)))
+      go false e rest = ((λ c. ((λ z h. never (sym e ∙ has-number k .0 (z, h))), rest .0 c)), (λ c. rest .1 (c .1)))
 
--- so the least over them is the least over all
+-- types that the same listed types include have the same least type
+least-same : {t : ℕ} {ks ls : List ℕ} → ((u : ℕ) → Listed u → Covers u ks ↔ Covers u ls) → Least t ks → Least t ls
+least-same {t} same m =
+    record {
+      is-listed = m .is-listed;
+      covers = same t (m .is-listed) .0 (m .covers);
+      innermost = λ u i c. m .innermost u i (same u i .1 c);
+    }
+
 pub over-all : (t : ℕ) (ks : List ℕ) → Least t (numbered ks) ↔ Least t ks
-over-all t ks = (
-  (λ m. record {
-    is-listed = m .is-listed;
-    covers = covers-numbered t ks .0 (m .covers);
-    innermost = λ u i c. m .innermost u i (covers-numbered u ks .1 c);
-  }),
-  (λ m. record {
-    is-listed = m .is-listed;
-    covers = covers-numbered t ks .1 (m .covers);
-    innermost = λ u i c. m .innermost u i (covers-numbered u ks .0 c);
-  }),
-)
+over-all t ks = (least-same (λ u i. covers-numbered u ks), least-same (λ u i. Iff·symm (covers-numbered u ks)))
 
 -- ---- the least type over some, and one type more
+
+-- a listed type is the least over itself
+least-itself : {k : ℕ} → Listed k → Least k (k ∷ [])
+least-itself l = record { is-listed = l; covers = ((λ z h. h), tt); innermost = λ u i c. c .0 }
 
 -- a type that includes another includes all that the other does
 covers-all : (u t : ℕ) (ks : List ℕ) → Includes u t → Covers t ks → Covers u ks
 covers-all u t [] i c = tt
 covers-all u t (k ∷ ks) i c = ((λ z h. i z (c .0 z h)), covers-all u t ks i (c .1))
 
--- a listed type is the least over itself
-least-itself : {k : ℕ} → Listed k → Least k (k ∷ [])
-least-itself l = record { is-listed = l; covers = ((λ z h. h), tt); innermost = λ u i c. c .0 }
-
 module _ {ks : List ℕ} {held : ℕ} (m : Least held ks) (k : ℕ) where
   -- when it is offered once more, it stays the least
   held-again : held ≡ k → Least held (k ∷ ks)
-  held-again e =
-      record {
-        is-listed = m .is-listed;
-        covers = (subst (Includes held) e (λ z h. h), m .covers);
-        innermost = λ u i c. m .innermost u i (c .1);
-      }
+  held-again e = least-same (λ u i. ((λ c. (subst (Includes u) e (m .innermost u i c), c)), (λ c. c .1))) m
 
   -- a listed type includes them exactly where it includes the held type
-  with-held : {u : ℕ} → Listed u → Covers u (k ∷ ks) → Covers u (held ∷ k ∷ [])
-  with-held {u} i c = (m .innermost u i (c .1), (c .0, tt))
-
-  with-all : {u : ℕ} → Covers u (held ∷ k ∷ []) → Covers u (k ∷ ks)
-  with-all {u} c = (c .1 .0, covers-all u held ks (c .0) (m .covers))
+  with-held : (u : ℕ) → Listed u → Covers u (held ∷ k ∷ []) ↔ Covers u (k ∷ ks)
+  with-held u i =
+      ((λ c. (c .1 .0, covers-all u held ks (c .0) (m .covers))), (λ c. (m .innermost u i (c .1), (c .0, tt))))
 
   -- the least over the held type and k is the least over them and k
   least-joined : {c : ℕ} → Least c (held ∷ k ∷ []) → Least c (k ∷ ks)
-  least-joined {c} n =
-      record {
-        is-listed = n .is-listed;
-        covers = with-all (n .covers);
-        innermost = λ u i o. n .innermost u i (with-held i o);
-      }
+  least-joined = least-same with-held
 
 -- ---- the answer
 
@@ -155,7 +142,7 @@ module _ (page : List ℕ) (k : ℕ) where
       go (no d) Nothing g =
           subst (Answered page k) (ap upcastHeld (sym g) ∙ upcast w not-empty d)
           (full l (rw e (λ r. lossless-laws .none held k (m .is-listed) l d .0 g
-          (r .0, r .1, with-held m k (r .1) (r .2)))))
+          (r .0, r .1, with-held m k (r .0) (r .1) .1 (r .2)))))
 
   pub answered : (held : ℕ) → Stands page held → Answered page k (mergedWith held k)
   answered held s = go (ℕ-discrete k Kind.Null) (isListed k) refl

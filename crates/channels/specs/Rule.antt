@@ -55,6 +55,7 @@ accepted ch (m ∷ ms) (Refused e ∷ xs) = accepted ch ms xs
 accepted ch (m ∷ ms) (Held c ∷ xs) =
     cond (isInto ch m) (withColumn (m .column) (accepted ch ms xs)) (accepted ch ms xs)
 
+-- all of these types may be merged
 abbrev pub AllMergeable : List ℕ → Type 0
 AllMergeable [] = Unit {0}
 AllMergeable (k ∷ ks) = Mergeable k × AllMergeable ks
@@ -69,7 +70,7 @@ answersTo test [] xs = []
 answersTo test (m ∷ ms) [] = []
 answersTo test (m ∷ ms) (a ∷ xs) = cond (test m) (a ∷ answersTo test ms xs) (answersTo test ms xs)
 
--- whether a merge's column is other than Null's
+-- whether a column is of type Null, and whether a merge's is not
 abbrev pub isNull : Reading → Bool
 isNull (refused e) = false
 isNull (type t) = eqb (headKind t) Kind.Null
