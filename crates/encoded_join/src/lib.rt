@@ -40,7 +40,7 @@ fn put(found: Found, out: &mut [u8]) -> Optional
     }
 }
 
-// `get_supertype_with_options`: refusals 1 to 5 of the left type, of the right, 6, 13, then 8.
+// `get_supertype_with_options`: refusals 1 to 5 of the left type, of the right, 6, then 8.
 pub fn get_supertype_with_options(
     left: &[u8],
     right: &[u8],

@@ -8,6 +8,10 @@ use Rattle.flat.specs.Kind
 abbrev pub timeUnits : ℕ
 timeUnits = 3
 
+-- DEC128_MAX_PREC: the most digits of a Decimal
+abbrev pub dec128MaxPrec : ℕ
+dec128MaxPrec = 38
+
 -- what a rule can be: only 0, a form of its own, below a number, or any argument
 pub data Rule : Type 0 where
   zero decimal datetime : Rule
@@ -29,7 +33,7 @@ argumentRule k =
 
 -- 256 × scale + precision: precision 1 to 38, scale 0 to precision
 abbrev pub decimalFits : ℕ → Bool
-decimalFits a = leb 1 (a % 256) && leb (a % 256) 38 && leb (a / 256) (a % 256)
+decimalFits a = leb 1 (a % 256) && leb (a % 256) dec128MaxPrec && leb (a / 256) (a % 256)
 
 -- 4 × zone + unit: zone below 2^32
 abbrev pub datetimeFits : ℕ → Bool

@@ -3,9 +3,9 @@ use Prim.Native.Nat.{ℕ}
 use Rattle.flat.specs.declared.error.Error.{Error}
 use Rattle.flat.specs.declared.error.Error.the-variants.{Length, Kind, Argument, Shape, Depth, Nested, Unknown}
 use Rattle.flat.specs.declared.error.Error.the-variants.{OutputTooShort, Channel, ChannelCode, NotInteger}
-use Rattle.flat.specs.declared.error.Error.the-variants.{NoUpcast, DecimalWithInteger}
+use Rattle.flat.specs.declared.error.Error.the-variants.{NoUpcast}
 
--- the number of a cause
+-- the number of a cause; 13 is retired (document 02, Two)
 abbrev pub numberOf : Error → ℕ
 numberOf Length = 1
 numberOf Kind = 2
@@ -19,4 +19,3 @@ numberOf Channel = 9
 numberOf ChannelCode = 10
 numberOf NotInteger = 11
 numberOf NoUpcast = 12
-numberOf DecimalWithInteger = 13

@@ -6,6 +6,9 @@ use crate::kind::Kind;
 // Units of time: 0 ns, 1 µs, 2 ms.
 const TIME_UNITS: u64 = 3;
 
+// The most digits of a Decimal.
+pub const DEC128_MAX_PREC: u64 = 38;
+
 // 256 × scale + precision.
 fn decimal_fits(arg: u64) -> bool
     ensures { λ r. ⌜ r ≡ decimalFits arg ⌝ }
@@ -15,7 +18,7 @@ fn decimal_fits(arg: u64) -> bool
     if precision < 1 {
         return false;
     }
-    if precision > 38 {
+    if precision > DEC128_MAX_PREC {
         return false;
     }
     scale <= precision

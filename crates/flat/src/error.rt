@@ -1,4 +1,4 @@
-// Why a call is refused: document 01's numbered causes.
+// Why a call is refused: document 01's numbered causes. 13 is retired (document 02, Two).
 ghost use mathlib.Core.Path.{_≡_};
 ghost use Rattle.flat.specs.Refusal.{numberOf};
 
@@ -15,7 +15,6 @@ pub enum Error {
     ChannelCode,
     NotInteger,
     NoUpcast,
-    DecimalWithInteger,
 }
 
 impl Error {
@@ -35,7 +34,6 @@ impl Error {
             Error::ChannelCode => 10,
             Error::NotInteger => 11,
             Error::NoUpcast => 12,
-            Error::DecimalWithInteger => 13,
         }
     }
 }

@@ -1,30 +1,20 @@
--- `get_supertype_with_options` of two valid types: refusals 6 and 13, then the rule. Assumes nothing: these are
+-- `get_supertype_with_options` of two valid types: refusal 6, then the rule. Assumes nothing: these are
 -- definitions.
-use mathlib.Core.Bool.{Bool, cond, _&&_, _||_}
+use mathlib.Core.Bool.{Bool, cond, _||_}
 use mathlib.Core.Option.{Option, some}
 use Prim.Native.Nat.{ℕ}
-use lib.Dec.{eqb}
-use Rattle.flat.specs.Kind
 use Rattle.flat.specs.Tree.{DataType}
 use Rattle.flat.specs.Reading.{Reading, refused}
-use Rattle.flat.specs.declared.error.Error.the-variants.{Nested, DecimalWithInteger}
+use Rattle.flat.specs.declared.error.Error.the-variants.{Nested}
 use Rattle.flat.specs.declared.Checked.{Checked}
 use Rattle.flat.specs.declared.Checked.the-variants.{Valid, Refused}
 use Rattle.dtype.specs.Predicate.{isNested}
 use Rattle.supertype_answer.specs.Join.{Node, rootNode, foundOf}
-use Rattle.supertype_numbers.specs.Range.{isListed}
 use Rattle.supertype_arms.specs.Supertype.{supertype}
 
--- a Decimal with an integer, on either side
-unfoldable pub decimalWithInteger : ℕ → ℕ → Bool
-decimalWithInteger k l = (eqb k Kind.Decimal && isListed l) || (isListed k && eqb l Kind.Decimal)
-
--- 6: a nested type; then 13: a Decimal with an integer
+-- 6: a nested type
 unfoldable pub pairChecked : ℕ → ℕ → Checked
-pairChecked k l =
-    cond (isNested k || isNested l) (Refused Nested)
-    (cond (decimalWithInteger k l) (Refused DecimalWithInteger)
-    Valid)
+pairChecked k l = cond (isNested k || isNested l) (Refused Nested) Valid
 
 -- what was found where a check passes, else its refusal
 abbrev pub afterCheck : Checked → Option Reading → Option Reading

@@ -7,34 +7,19 @@ ghost use lib.ListN.{length};
 ghost use Rattle.flat.specs.Reading.{reading, RootFits};
 ghost use Rattle.flat.specs.Output.{fittingFound, WritesFound};
 ghost use Rattle.supertype_answer.specs.Join.{node, resultOf, joining, joiningRoots};
-ghost use Rattle.supertype.specs.Pair.{decimalWithInteger, pairChecked, rootSupertype, supertypeOf};
+ghost use Rattle.supertype.specs.Pair.{pairChecked, rootSupertype, supertypeOf};
 use dtype::kind::is_nested;
 use flat::Checked;
 use flat::Flat;
 use flat::Optional;
 use flat::Root;
 use flat::error::Error;
-use flat::kind::Kind;
 use node::node_supertype;
 use supertype_answer::Common;
 use supertype_answer::Found;
 use supertype_answer::put;
-use supertype_numbers::integer::is_listed;
 
-// A Decimal with an integer type, on either side.
-fn decimal_with_integer(left: u8, right: u8) -> bool
-    ensures { λ r. ⌜ r ≡ decimalWithInteger left right ⌝ }
-{
-    if left == Kind::DECIMAL {
-        return is_listed(right);
-    }
-    if right == Kind::DECIMAL {
-        return is_listed(left);
-    }
-    false
-}
-
-// Whether two kinds may be joined: refusal 6, then 13.
+// Whether two kinds may be joined: refusal 6.
 fn check_pair(left: u8, right: u8) -> Checked
     ensures { λ r. ⌜ r ≡ pairChecked left right ⌝ }
 {
@@ -44,13 +29,10 @@ fn check_pair(left: u8, right: u8) -> Checked
     if is_nested(right) {
         return Checked::Refused(Error::Nested);
     }
-    if decimal_with_integer(left, right) {
-        return Checked::Refused(Error::DecimalWithInteger);
-    }
     Checked::Valid
 }
 
-// What is found for two roots: 6, 13, or the rule.
+// What is found for two roots: 6, or the rule.
 fn join_nodes(to_string: bool, a: u8, x: u64, b: u8, y: u64) -> Found
     requires { ⌜ RootFits (Root.Node a x) × RootFits (Root.Node b y) ⌝ }
     ensures { λ t. ⌜ resultOf t ≡ rootSupertype false «to_string» (node a x) (node b y) ⌝ }
@@ -64,7 +46,7 @@ fn join_nodes(to_string: bool, a: u8, x: u64, b: u8, y: u64) -> Found
     }
 }
 
-// What is found for the roots of two types: the refusal of the left, of the right, 6, 13, or the rule.
+// What is found for the roots of two types: the refusal of the left, of the right, 6, or the rule.
 pub fn join_roots(to_string: bool, left: Root, right: Root) -> Found
     requires { ⌜ RootFits left × RootFits right ⌝ }
     ensures { λ t. ⌜ resultOf t ≡ joiningRoots (rootSupertype false «to_string») left right ⌝ }
@@ -79,7 +61,7 @@ pub fn join_roots(to_string: bool, left: Root, right: Root) -> Found
 }
 
 // The type that two columns get when they are joined, to the front of out_kinds and out_args: refusals 1 to 5 of the
-// left type, of the right, 6, 13, then 8.
+// left type, of the right, 6, then 8.
 pub fn get_supertype_with_options(
     left_kinds: &[u8],
     left_args: &[u64],

@@ -2,13 +2,17 @@
 ghost use mathlib.Core.Path.{_≡_};
 ghost use mathlib.Core.Bool.{true, false};
 ghost use Prim.Native.Nat.{_+_, _*_, _/_, _%_, _≤_, max};
-ghost use Rattle.flat.specs.Kind.{Boolean, UInt8, Int64};
+ghost use Rattle.flat.specs.Kind.{Boolean, UInt8, Int64, Decimal};
+ghost use Rattle.flat.specs.Argument.{dec128MaxPrec};
+ghost use Rattle.supertype_numbers.specs.Range.{Listed};
 ghost use Rattle.supertype_numbers.specs.DynInt.{valueOf};
 ghost use Rattle.supertype_answer.specs.Join.{node, Supertype, commonOf};
 ghost use Rattle.supertype_arms.specs.Node.{fits};
-ghost use Rattle.supertype_arms.specs.Supertype.{smallestFitting, dynNumber, knownSupertype, run, supertype};
+ghost use Rattle.supertype_arms.specs.Supertype.{besideInteger, smallestFitting, dynNumber, knownSupertype, run};
+ghost use Rattle.supertype_arms.specs.Supertype.{supertype};
 ghost use Rattle.supertype_arms.specs.Rule.{ruleOf, Apart};
 use dtype::node::equal_node;
+use flat::argument::DEC128_MAX_PREC;
 use flat::kind::Kind;
 use supertype_answer::Common;
 use supertype_arms::number::numeric;
@@ -17,6 +21,7 @@ use supertype_arms::plan::planned;
 use supertype_numbers::dyn_int::materialize_dyn_int;
 use supertype_numbers::dyn_int::materialize_dyn_int_pos;
 use supertype_numbers::dyn_int::materialize_smallest_dyn_int;
+use supertype_numbers::integer::digits;
 
 fn larger(a: u64, b: u64) -> u64
     ensures { λ r. ⌜ r ≡ max a b ⌝ }
@@ -29,6 +34,26 @@ fn decimals(x: u64, y: u64) -> u64
     ensures { λ r. ⌜ r ≡ 256 * max (x / 256) (y / 256) + max (x % 256) (y % 256) ⌝ }
 {
     256 * larger(x / 256, y / 256) + larger(x % 256, y % 256)
+}
+
+// The argument of a Decimal with the scale of x and the largest precision.
+fn widened(x: u64) -> u64
+    ensures { λ r. ⌜ r ≡ 256 * (x / 256) + dec128MaxPrec ⌝ }
+{
+    256 * (x / 256) + DEC128_MAX_PREC
+}
+
+// The argument of a Decimal x beside the integer type dt, whose largest number may need more digits than x has before
+// its point.
+fn beside_integer(x: u64, dt: u8) -> u64
+    requires { ⌜ (fits (node Decimal x) ≡ true) × Listed dt ⌝ }
+    ensures { λ r. ⌜ node Decimal r ≡ besideInteger (node Decimal x) dt ⌝ }
+{
+    if digits(dt) + x / 256 <= x % 256 {
+        x
+    } else {
+        widened(x)
+    }
 }
 
 // The argument of a Datetime with the zone of x, and the larger unit, which is the coarser one.
@@ -95,6 +120,7 @@ fn ordered(to_string: bool, a: u8, x: u64, b: u8, y: u64) -> Common
         Plan::Right => Common::Some(b, y),
         Plan::Kind(k) => Common::Some(k, 0),
         Plan::Decimals => Common::Some(Kind::DECIMAL, decimals(x, y)),
+        Plan::DecimalInteger => Common::Some(Kind::DECIMAL, beside_integer(y, a)),
         Plan::DatetimeDuration => Common::Some(Kind::DATETIME, datetime(x, y)),
         Plan::Datetimes => {
             if x / 4 == y / 4 {
@@ -106,7 +132,7 @@ fn ordered(to_string: bool, a: u8, x: u64, b: u8, y: u64) -> Common
         Plan::Durations => Common::Some(Kind::DURATION, larger(x, y)),
         Plan::DynNumber => Common::Some(dyn_number(a, b, y), 0),
         Plan::DynBoolean => Common::Some(materialize_dyn_int(b, y), 0),
-        Plan::DynDecimal => Common::Some(Kind::DECIMAL, 256 * (x / 256) + 38),
+        Plan::DynDecimal => Common::Some(Kind::DECIMAL, widened(x)),
     }
 }
 

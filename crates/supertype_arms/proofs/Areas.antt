@@ -14,7 +14,7 @@ use Rattle.dtype.specs.Predicate.{isFloat, isUnknownInt, isSignedInteger, isUns
 use Rattle.dtype.specs.Predicate.{isPrimitiveNumeric, isPrimitive, isString, isUnknown}
 use Rattle.dtype.specs.Physical.{physicalLeaf, physicalKind}
 use Rattle.supertype_arms.specs.declared.plan.Plan.{Plan}
-use Rattle.supertype_arms.specs.declared.plan.Plan.the-variants.{No, Left, Right, Kind, Decimals}
+use Rattle.supertype_arms.specs.declared.plan.Plan.the-variants.{No, Left, Right, Kind, Decimals, DecimalInteger}
 use Rattle.supertype_arms.specs.declared.plan.Plan.the-variants.{DatetimeDuration, Datetimes, Durations}
 use Rattle.supertype_arms.specs.declared.plan.Plan.the-variants.{DynNumber, DynBoolean, DynDecimal}
 use Rattle.supertype_arms.specs.Node.{plain}
@@ -34,20 +34,22 @@ codeOf Durations = 6
 codeOf DynNumber = 7
 codeOf DynBoolean = 8
 codeOf DynDecimal = 9
-codeOf (Kind k) = 10 + k
+codeOf DecimalInteger = 10
+codeOf (Kind k) = 11 + k
 
 abbrev listed : List Plan
 listed =
-    No ∷ Left ∷ Right ∷ Decimals ∷ DatetimeDuration ∷ Datetimes ∷ Durations ∷ DynNumber ∷ DynBoolean ∷ DynDecimal ∷ []
+    No ∷ Left ∷ Right ∷ Decimals ∷ DatetimeDuration ∷ Datetimes ∷ Durations ∷ DynNumber ∷ DynBoolean ∷ DynDecimal
+    ∷ DecimalInteger ∷ []
 
 abbrev plans : ℕ → Plan
-plans n = getD listed n (Kind (n - 10))
+plans n = getD listed n (Kind (n - 11))
 
 abbrev pub alike : Plan → Plan → Bool
 alike p q = eqb (codeOf p) (codeOf q)
 
-far : (k : ℕ) → plans (10 + k) ≡ Kind k
-far k = List·getD-eq-default listed (Kind (10 + k - 10)) {n = 10 + k} (omega arith) ∙ ap Kind (omega arith)
+far : (k : ℕ) → plans (11 + k) ≡ Kind k
+far k = List·getD-eq-default listed (Kind (11 + k - 11)) {n = 11 + k} (omega arith) ∙ ap Kind (omega arith)
 
 back : (p : Plan) → plans (codeOf p) ≡ p
 back No = refl
@@ -60,6 +62,7 @@ back Durations = refl
 back DynNumber = refl
 back DynBoolean = refl
 back DynDecimal = refl
+back DecimalInteger = refl
 back (Kind k) = far k
 
 pub alike-eq : (p q : Plan) → T (alike p q) → p ≡ q

@@ -21,7 +21,7 @@ use Rattle.dtype.specs.Equality.{equalNode}
 use Rattle.supertype_numbers.specs.DynInt.{materializeDynInt, materializeDynIntPos, materializeSmallestDynInt}
 use Rattle.supertype_answer.specs.Join.{Node, Some, Nothing, node}
 use Rattle.supertype_arms.specs.declared.plan.Plan.{Plan}
-use Rattle.supertype_arms.specs.declared.plan.Plan.the-variants.{No, Left, Right, Kind, Decimals}
+use Rattle.supertype_arms.specs.declared.plan.Plan.the-variants.{No, Left, Right, Kind, Decimals, DecimalInteger}
 use Rattle.supertype_arms.specs.declared.plan.Plan.the-variants.{DatetimeDuration, Datetimes, Durations}
 use Rattle.supertype_arms.specs.declared.plan.Plan.the-variants.{DynNumber, DynBoolean, DynDecimal}
 use Rattle.supertype_arms.specs.Node.{value, same, fits}
@@ -40,6 +40,7 @@ quiet Left = true
 quiet Right = true
 quiet (Kind k) = true
 quiet Decimals = true
+quiet DecimalInteger = true
 quiet DatetimeDuration = true
 quiet Datetimes = true
 quiet Durations = true
@@ -55,6 +56,7 @@ module _ (f g : Call) (l r : Node) where
   quiet-run Right t = refl
   quiet-run (Kind k) t = refl
   quiet-run Decimals t = refl
+  quiet-run DecimalInteger t = refl
   quiet-run DatetimeDuration t = refl
   quiet-run Datetimes t = refl
   quiet-run Durations t = refl
@@ -137,6 +139,7 @@ module _ (l r : Node) where
   known-left Right h = refl
   known-left (Kind k) h = refl
   known-left Decimals h = refl
+  known-left DecimalInteger h = refl
   known-left DatetimeDuration h = refl
   known-left Datetimes h = refl
   known-left Durations h = refl

@@ -5,7 +5,7 @@ use mathlib.Core.Bool.{Bool, false, _&&_, _||_}
 use Prim.Native.Nat.{ℕ, _≤_}
 use lib.Dec.{ltb, eqb}
 use Rattle.supertype_arms.specs.declared.plan.Plan.{Plan}
-use Rattle.supertype_arms.specs.declared.plan.Plan.the-variants.{No, Left, Right, Kind, Decimals}
+use Rattle.supertype_arms.specs.declared.plan.Plan.the-variants.{No, Left, Right, Kind, Decimals, DecimalInteger}
 use Rattle.supertype_arms.specs.declared.plan.Plan.the-variants.{DatetimeDuration, Datetimes, Durations}
 use Rattle.supertype_arms.specs.declared.plan.Plan.the-variants.{DynNumber, DynBoolean, DynDecimal}
 use Rattle.flat.specs.Kind.{UnknownIntNeg}
@@ -20,6 +20,7 @@ turn Left = Right
 turn Right = Left
 turn (Kind k) = Kind k
 turn Decimals = Decimals
+turn DecimalInteger = DecimalInteger
 turn DatetimeDuration = DatetimeDuration
 turn Datetimes = Datetimes
 turn Durations = Durations
@@ -34,6 +35,7 @@ orPlan Left q = Left
 orPlan Right q = Right
 orPlan (Kind k) q = Kind k
 orPlan Decimals q = Decimals
+orPlan DecimalInteger q = DecimalInteger
 orPlan DatetimeDuration q = DatetimeDuration
 orPlan Datetimes q = Datetimes
 orPlan Durations q = Durations

@@ -9,16 +9,19 @@ use lib.Signed.{leZ, nonNeg}
 use Rattle.flat.specs.Kind.{Null, Boolean, UInt8, UInt16, UInt32, UInt64, UInt128, Int8, Int16, Int32, Int64, Int128}
 use Rattle.flat.specs.Kind.{Float16, Float32, Float64, Decimal, String, Binary, Date, Datetime, Duration, Time}
 use Rattle.flat.specs.Kind.{UnknownAny, UnknownStr, UnknownFloat}
+use Rattle.flat.specs.Argument.{dec128MaxPrec}
 use Rattle.dtype.specs.Predicate.{isFloat, isUnknownInt, isSignedInteger, isUnsignedInteger, isInteger}
 use Rattle.dtype.specs.Predicate.{isPrimitiveNumeric, isPrimitive, isString, isUnknown}
 use Rattle.dtype.specs.Physical.{physicalKind}
 use Rattle.supertype_numbers.specs.DynInt.{materializeDynInt, materializeDynIntPos, materializeSmallestDynInt}
+use Rattle.supertype_numbers.specs.Integer.{maxOf}
+use Rattle.supertype_numbers.specs.Decimal.{fitsDec128}
 use Rattle.dtype.specs.TimeUnits.{getTimeUnits}
 use Rattle.supertype_answer.specs.Join.{Node, Supertype, Some, Nothing, node}
 use Rattle.supertype_arms.specs.Node.{precision, scale, decimal, unit, zone, datetime, duration}
 use Rattle.supertype_arms.specs.Node.{value, dynInt, same}
 use Rattle.supertype_arms.specs.declared.plan.Plan.{Plan}
-use Rattle.supertype_arms.specs.declared.plan.Plan.the-variants.{No, Left, Right, Kind, Decimals}
+use Rattle.supertype_arms.specs.declared.plan.Plan.the-variants.{No, Left, Right, Kind, Decimals, DecimalInteger}
 use Rattle.supertype_arms.specs.declared.plan.Plan.the-variants.{DatetimeDuration, Datetimes, Durations}
 use Rattle.supertype_arms.specs.declared.plan.Plan.the-variants.{DynNumber, DynBoolean, DynDecimal}
 
@@ -191,7 +194,7 @@ arms toString =
     ∷ Decimal & Float32 ⇒ Float64
     ∷ Decimal & Float64 ⇒ Float64
     ∷ Decimal & UnknownFloat ⇒ Float64
-    -- the arm of a Decimal with an integer stands here (refusal 13)
+    ∷ arm (is Decimal) (λ dt. isSignedInteger dt || isUnsignedInteger dt) DecimalInteger
     ∷ unknownArms toString
 
 -- the plan of the first arm that takes both kinds; `_ => None` where no arm does
@@ -225,6 +228,14 @@ dynNumber getSupertype dt v =
     pick (is UInt64 (dt .kind) && isSignedInteger (smallestFitting (dt .kind) v)) (Some (node Int64 0))
     (getSupertype dt (node (smallestFitting (dt .kind) v) 0))
 
+-- `fits_orig_prec_scale`: whether the largest number of the integer type dt fits a Decimal l
+unfoldable pub fitsOrigPrecScale : Node → ℕ → Bool
+fitsOrigPrecScale l dt = not (is UInt128 dt || is Int128 dt) && fitsDec128 (maxOf dt) (precision l) (scale l)
+
+-- a Decimal l beside the integer type dt
+unfoldable pub besideInteger : Node → ℕ → Node
+besideInteger l dt = decimal (cond (fitsOrigPrecScale l dt) (precision l) dec128MaxPrec) (scale l)
+
 -- both without a zone, or both with the same one
 abbrev pub sameZone : ℕ → ℕ → Bool
 sameZone l r = (eqb l 0 && eqb r 0) || (not (eqb l 0) && eqb l r)
@@ -236,6 +247,9 @@ run getSupertype Left l r = Some l
 run getSupertype Right l r = Some r
 run getSupertype (Kind k) l r = Some (node k 0)
 run getSupertype Decimals l r = Some (decimal (max (precision l) (precision r)) (max (scale l) (scale r)))
+-- the Decimal's own scale, whichever of the two it is
+run getSupertype DecimalInteger l r =
+    Some (cond (is Decimal (l .kind)) (besideInteger l (r .kind)) (besideInteger r (l .kind)))
 run getSupertype DatetimeDuration l r =
     Some (datetime (getTimeUnits (unit l) (unit r)) (cond (is Datetime (l .kind)) (zone l) (zone r)))
 run getSupertype Datetimes l r =
@@ -245,8 +259,7 @@ run getSupertype Durations l r = Some (duration (getTimeUnits (unit l) (unit r))
 run getSupertype DynNumber l r =
     pick (isUnknownInt (l .kind)) (Some (dynInt (maxDyn (value r) (value l)))) (dynNumber getSupertype l (value r))
 run getSupertype DynBoolean l r = getSupertype l (node (materializeDynInt (value r)) 0)
--- DEC128_MAX_PREC is 38
-run getSupertype DynDecimal l r = Some (decimal 38 (scale l))
+run getSupertype DynDecimal l r = Some (decimal dec128MaxPrec (scale l))
 
 -- ---- the function
 

@@ -13,6 +13,7 @@ pub enum Plan {
     Right,
     Kind(u8),
     Decimals,
+    DecimalInteger,
     DatetimeDuration,
     Datetimes,
     Durations,

@@ -8,7 +8,7 @@ use lib.Pow.{pow-pos}
 use lib.IntN.{ℤ, pos, negsuc, negℤ}
 use lib.Signed.{leZ, ltZ, mag, nonNeg}
 use borrow.Author.Tests.{le-leb, lt-ltb, le-ltb, leb-true, leb-false}
-use Rattle.supertype_numbers.specs.Integer.{inRange}
+use Rattle.supertype_numbers.specs.Integer.{inRange, bits}
 
 -- below n and from −n on, where n is not 0
 below-pos : (n a : ℕ) → 0 < n → (leZ (negℤ (pos n)) (pos a) && ltZ (pos a) (pos n)) ≡ ltb a n
@@ -22,11 +22,6 @@ below-neg (suc n) a h = go (leb a n) refl
     go : (b : Bool) → leb a n ≡ b → (b && true) ≡ ltb a (suc n)
     go true e = sym (lt-ltb a (suc n) (omega (arith, leb-true a n e)))
     go false e = sym (le-ltb a (suc n) (omega (arith, leb-false a n e)))
-
--- the bits beside the sign
-abbrev pub bits : Bool → ℕ → ℕ
-bits true w = w - 1
-bits false w = w
 
 -- with a sign a and −1 − a alike, and without one no number below 0
 pub in-range : (s : Bool) (w : ℕ) (z : ℤ) → inRange s w z ≡ ((s || nonNeg z) && ltb (mag z) (2 ^ bits s w))

@@ -14,8 +14,8 @@ use lib.Signed.{mag, nonNeg}
 use Rattle.flat.proofs.Rules.{and-left, and-right, and-both, implies}
 use Rattle.dtype.specs.Match.{among}
 use Rattle.dtype.specs.Predicate.{isSignedInteger}
-use Rattle.supertype_numbers.specs.Integer.{inRange, widthOf, holds}
-use Rattle.supertype_numbers.proofs.Integers.{bits, in-range}
+use Rattle.supertype_numbers.specs.Integer.{inRange, widthOf, bits, holds}
+use Rattle.supertype_numbers.proofs.Integers.{in-range}
 use Rattle.supertype_numbers.specs.Range.{Listed, isListed, HasNumber, Includes, Least}
 use Rattle.supertype_numbers.proofs.Tests.{listed, is-listed, at, at-pair}
 

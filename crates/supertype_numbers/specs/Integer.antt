@@ -17,6 +17,15 @@ inRange false w z = leZ (pos 0) z && ltZ z (pos (2 ^ w))
 abbrev pub widthOf : ℕ → ℕ
 widthOf k = getD (0 ∷ 0 ∷ 8 ∷ 16 ∷ 32 ∷ 64 ∷ 128 ∷ 8 ∷ 16 ∷ 32 ∷ 64 ∷ 128 ∷ []) k 0
 
+-- the bits beside the sign
+abbrev pub bits : Bool → ℕ → ℕ
+bits true w = w - 1
+bits false w = w
+
+-- `MAX`: the largest number of the integer kind k
+abbrev pub maxOf : ℕ → ℕ
+maxOf k = 2 ^ bits (isSignedInteger k) (widthOf k) - 1
+
 -- a column of the integer kind k could hold z
 abbrev pub holds : ℕ → ℤ → Bool
 holds k z = inRange (isSignedInteger k) (widthOf k) z

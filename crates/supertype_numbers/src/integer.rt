@@ -5,6 +5,7 @@ ghost use mathlib.Core.Bool.{true};
 ghost use mathlib.Core.Logic.{_↔_};
 ghost use Rattle.supertype_numbers.specs.Range.{Listed, isListed, Includes};
 ghost use Rattle.supertype_numbers.specs.Table.{rowOf};
+ghost use Rattle.supertype_numbers.specs.Decimal.{digitsOf};
 use flat::kind::Kind;
 
 // A row of the table: the width in bits, and whether the type has a sign.
@@ -74,6 +75,17 @@ pub fn integer(k: u8) -> IntegerType
 {
     let at = (k - Kind::UINT8) as usize;
     INTEGERS[at]
+}
+
+// How many decimal digits the largest number of a listed kind has: a bit is worth three tenths of one.
+pub fn digits(k: u8) -> u64
+    requires { ⌜ Listed k ⌝ }
+    ensures { λ r. ⌜ r ≡ digitsOf k ⌝ }
+{
+    let t = integer(k);
+    let width = t.width as u64;
+    let bits = if t.signed { width - 1 } else { width };
+    3 * bits / 10 + 1
 }
 
 // Whether every number of the kind k is one of the kind t.
