@@ -1,5 +1,5 @@
 -- The answer by its plan, for two types in the order of their kinds. Assumes nothing.
-use mathlib.Core.Path.{_≡_, refl, sym, _∙_, ap}
+use mathlib.Core.Path.{_≡_, refl, sym, _∙_, ap, subst}
 use mathlib.Core.Bool.{Bool, true, false, not, _&&_, _||_}
 use Prim.Native.Nat.{ℕ, _+_, _*_, _/_, _%_, _≤_, _<_, max}
 use native.Mathlib.Nat.{max-comm}
@@ -7,7 +7,7 @@ use native.Mathlib.Omega.{arith}
 use lib.Dec.{T, leb, eqb, leb→le, eqb→eq}
 use borrow.Author.Tests.{eq-eqb, ne-eqb, ltb-true}
 use Rattle.flat.specs.Kind
-use Rattle.flat.specs.Argument.{timeUnits, argumentFits, argumentRule}
+use Rattle.flat.specs.Argument.{timeUnits, dec128MaxPrec, argumentFits, argumentRule}
 use Rattle.flat.proofs.Rules.{in-run, and-left, and-right, or-right}
 use Rattle.flat.proofs.Truths.{is-true, both-true}
 use Rattle.dtype.specs.Match.{among}
@@ -24,7 +24,7 @@ use Rattle.supertype_answer.specs.declared.Common.{Common}
 use Rattle.supertype_arms.specs.declared.plan.Plan.{Plan}
 use Rattle.supertype_arms.specs.declared.plan.Plan.the-variants as plan
 use Rattle.supertype_arms.specs.Node.{unitIn, unit, zone, value, plain, fits}
-use Rattle.supertype_arms.specs.Supertype.{dynNumber, run, knownSupertype}
+use Rattle.supertype_arms.specs.Supertype.{fitsOrigPrecScale, besideInteger, dynNumber, run, knownSupertype}
 use Rattle.supertype_arms.specs.Rule.{ruleOf, Apart}
 use Rattle.supertype_arms.proofs.Areas.{codeOf, alike}
 use Rattle.supertype_arms.proofs.Answers.{plain-zero, same-node, zones, everywhere, at-apart}
@@ -117,9 +117,26 @@ module _ {s : Bool} {l r : Node} where
   unfolding run
   decimals {m} w h = by-plan (Some (node Kind.Decimal m)) w (rw h)
 
-  pub dyn-decimal : Planned s l r plan.DynDecimal → Common.Some Kind.Decimal (256 * (l .arg / 256) + 38) ≡ given s l r
+  pub decimal-kinds : Planned s l r plan.DecimalInteger
+      → (fits (node Kind.Decimal (r .arg)) ≡ true) × Listed (l .kind)
+  decimal-kinds w =
+      let u = only w (λ a b. isListed a && eqb b Kind.Decimal) (unfold everywhere isListed in tt) in
+      let e = eqb→eq (r .kind) Kind.Decimal (and-right (isListed (l .kind)) _ u) in
+      (subst (λ (k : ℕ). fits (node k (r .arg)) ≡ true) e (w .fits-right),
+      to-listed (l .kind) (and-left (isListed (l .kind)) _ u))
+
+  pub decimal-integer : {m : ℕ} → Planned s l r plan.DecimalInteger
+      → node Kind.Decimal m ≡ besideInteger (node Kind.Decimal (r .arg)) (l .kind)
+      → Common.Some Kind.Decimal m ≡ given s l r
+  unfolding run besideInteger fitsOrigPrecScale
+  decimal-integer {m} w h =
+      let k = decimal-kinds w .1 in
+      by-plan (Some (node Kind.Decimal m)) w (rw (ne-eqb (l .kind) Kind.Decimal (omega arith)) (ap Some h))
+
+  pub dyn-decimal : {m : ℕ} → Planned s l r plan.DynDecimal → m ≡ 256 * (l .arg / 256) + dec128MaxPrec
+      → Common.Some Kind.Decimal m ≡ given s l r
   unfolding run
-  dyn-decimal w = by-plan (Some (node Kind.Decimal (256 * (l .arg / 256) + 38))) w refl
+  dyn-decimal {m} w h = by-plan (Some (node Kind.Decimal m)) w (rw h)
 
   pub datetime-duration : {m : ℕ} → Planned s l r plan.DatetimeDuration
       → m ≡ 4 * (l .arg / 4) + max (l .arg % 4) (r .arg % 4) → Common.Some Kind.Datetime m ≡ given s l r

@@ -1,18 +1,18 @@
 -- What the checks of two kinds say, and what a call comes to after them. Assumes nothing.
 use mathlib.Core.Path.{_≡_, refl, sym, _∙_, ap, ap₂}
-use mathlib.Core.Bool.{Bool, true, false, cond, _&&_, _||_, and-true, and-false, or-true, or-false}
+use mathlib.Core.Bool.{Bool, true, false, cond, _&&_, _||_, or-true}
 use mathlib.Core.Option.{Option, some}
 use Prim.Native.Nat.{ℕ, _≤_}
 use native.Mathlib.Omega.{arith}
 use native.Mathlib.Decide.{decLe}
 use lib.Dec.{leb}
-use borrow.Author.Tests.{ne-eqb, le-leb}
+use borrow.Author.Tests.{le-leb}
 use Rattle.flat.specs.Kind
 use Rattle.flat.specs.Argument.{argumentFits}
 use Rattle.flat.specs.Tree.{headKind}
 use Rattle.flat.specs.Reading.{Reading, refused, rootOf, RootFits}
 use Rattle.flat.specs.declared.error.Error.{Error}
-use Rattle.flat.specs.declared.error.Error.the-variants.{Nested, DecimalWithInteger}
+use Rattle.flat.specs.declared.error.Error.the-variants.{Nested}
 use Rattle.flat.specs.declared.Checked.the-variants as checked
 use Rattle.flat.specs.declared.Root.{Root}
 use Rattle.flat.proofs.Truths.{impossible, never}
@@ -21,32 +21,14 @@ use Rattle.dtype.proofs.Runs.{says, of-run}
 use Rattle.supertype_answer.specs.Join.{Node, rootNode, foundOf, commonOf, foundCommon, joining, joiningRoots}
 use Rattle.supertype_answer.specs.declared.Common.{Common}
 use Rattle.supertype_answer.proofs.Joins.{found-common, joining-roots}
-use Rattle.supertype_numbers.specs.Range.{isListed}
 use Rattle.supertype_arms.specs.Node.{fits}
 use Rattle.supertype_arms.specs.Supertype.{supertype}
 use Rattle.supertype_arms.proofs.Recursive.{supertype-laws}
-use Rattle.supertype.specs.Pair.{decimalWithInteger, pairChecked, afterCheck, rootSupertype, supertypeOf}
+use Rattle.supertype.specs.Pair.{pairChecked, afterCheck, rootSupertype, supertypeOf}
 
 -- ---- two kinds
 
 module _ (k l : ℕ) where
-  pub decimal-left : k ≡ Kind.Decimal → isListed l ≡ decimalWithInteger k l
-  unfolding decimalWithInteger
-  decimal-left e =
-      rw (
-        e,
-        sym (of-run isListed false Kind.Float16 244 (unfold says isListed in tt) Kind.Decimal (omega arith)),
-        or-false,
-      )
-
-  pub decimal-right : (k ≡ Kind.Decimal → ⊥) → l ≡ Kind.Decimal → isListed k ≡ decimalWithInteger k l
-  unfolding decimalWithInteger
-  decimal-right n e = rw (ne-eqb k Kind.Decimal n, e, and-true)
-
-  pub no-decimal : (k ≡ Kind.Decimal → ⊥) → (l ≡ Kind.Decimal → ⊥) → false ≡ decimalWithInteger k l
-  unfolding decimalWithInteger
-  no-decimal n m = rw (ne-eqb k Kind.Decimal n, ne-eqb l Kind.Decimal m, and-false)
-
   pub left-nested : isNested k ≡ true → checked.Refused Nested ≡ pairChecked k l
   unfolding pairChecked
   left-nested e = rw e
@@ -55,27 +37,20 @@ module _ (k l : ℕ) where
   unfolding pairChecked
   right-nested e = rw (e, or-true)
 
-  module _ (e : isNested k ≡ false) (f : isNested l ≡ false) where
-    pub decimal-integer : decimalWithInteger k l ≡ true → checked.Refused DecimalWithInteger ≡ pairChecked k l
-    unfolding pairChecked
-    decimal-integer d = rw (e, f, d)
-
-    pub may-join : decimalWithInteger k l ≡ false → checked.Valid ≡ pairChecked k l
-    unfolding pairChecked
-    may-join d = rw (e, f, d)
+  pub may-join : isNested k ≡ false → isNested l ≡ false → checked.Valid ≡ pairChecked k l
+  unfolding pairChecked
+  may-join e f = rw (e, f)
 
 -- a pair that passes is not nested
 none-nested : (k l : ℕ) → checked.Valid ≡ pairChecked k l → (isNested k ≡ false) × (isNested l ≡ false)
 unfolding pairChecked
-none-nested k l = go (isNested k) (isNested l) (decimalWithInteger k l)
+none-nested k l = go (isNested k) (isNested l)
   where
-    go : (a b d : Bool)
-        → checked.Valid
-        ≡ cond (a || b) (checked.Refused Nested) (cond d (checked.Refused DecimalWithInteger) checked.Valid)
+    go : (a b : Bool) → checked.Valid ≡ cond (a || b) (checked.Refused Nested) checked.Valid
         → (a ≡ false) × (b ≡ false)
-    go true b d e = impossible cc
-    go false true d e = impossible cc
-    go false false d e = (refl, refl)
+    go true b e = impossible cc
+    go false true e = impossible cc
+    go false false e = (refl, refl)
 
 -- ---- two roots
 

@@ -43,13 +43,12 @@ fn widened(x: u64) -> u64
     256 * (x / 256) + DEC128_MAX_PREC
 }
 
-// The argument of a Decimal x beside the integer type dt, whose largest number may need more digits than x has before
-// its point.
+// The argument of the Decimal x beside the integer type dt: x where it has room for the digits of dt before its point.
 fn beside_integer(x: u64, dt: u8) -> u64
     requires { ⌜ (fits (node Decimal x) ≡ true) × Listed dt ⌝ }
     ensures { λ r. ⌜ node Decimal r ≡ besideInteger (node Decimal x) dt ⌝ }
 {
-    if digits(dt) + x / 256 <= x % 256 {
+    if digits(dt) <= x % 256 - x / 256 {
         x
     } else {
         widened(x)

@@ -8,8 +8,8 @@ use native.Mathlib.Nat.{max-comm}
 use native.Mathlib.Omega.{arith}
 use native.Mathlib.Decide.{ℕ-discrete}
 use lib.Dec.{T, leb, ltb, eqb, eqb→eq}
-use borrow.Author.Tests.{eq-eqb, ne-eqb, leb-true, le-ltb, lt-leb}
-use Rattle.flat.specs.Kind.{Duration, Datetime, String, UnknownAny, UnknownStr, UnknownFloat, UnknownIntPos}
+use borrow.Author.Tests.{eq-eqb, ne-eqb, leb-true, le-ltb, lt-leb, not-true}
+use Rattle.flat.specs.Kind.{Decimal, Duration, Datetime, String, UnknownAny, UnknownStr, UnknownFloat, UnknownIntPos}
 use Rattle.flat.specs.Kind.{UnknownIntNeg}
 use Rattle.flat.specs.Argument.{argumentFits, argumentRule}
 use Rattle.flat.proofs.Rules.{in-run, area, in-area, and-left, and-right, or-right, implies, isZero}
@@ -83,42 +83,48 @@ same-node n e = λ i. record { kind = n .kind; arg = sym e i }
 
 -- ---- one plan for two tries
 
--- the plans that say the same of (r, l) as, turned, of (l, r)
-abbrev turns : Plan → Bool
-turns No = true
-turns Left = true
-turns Right = true
-turns (Kind k) = true
-turns Decimals = false
-turns DatetimeDuration = false
-turns Datetimes = false
-turns Durations = false
-turns DynNumber = false
-turns DynBoolean = false
-turns DynDecimal = false
+-- the plans that say the same of (r, l) as, turned, of (l, r), whose kinds are a and b
+abbrev turns : ℕ → ℕ → Plan → Bool
+turns a b No = true
+turns a b Left = true
+turns a b Right = true
+turns a b (Kind k) = true
+turns a b Decimals = false
+turns a b DecimalInteger = is Decimal b && not (is Decimal a)
+turns a b DatetimeDuration = false
+turns a b Datetimes = false
+turns a b Durations = false
+turns a b DynNumber = false
+turns a b DynBoolean = false
+turns a b DynDecimal = false
 
 -- the plans p of (a, b) and q of (b, a) make one plan
-abbrev merges : Plan → Plan → Bool
-merges No q = turns q
-merges Left q = true
-merges Right q = true
-merges (Kind k) q = true
-merges Decimals q = true
-merges DatetimeDuration q = true
-merges Datetimes q = alike q Datetimes
-merges Durations q = true
-merges DynNumber q = alike q No
-merges DynBoolean q = alike q No
-merges DynDecimal q = true
+abbrev merges : ℕ → ℕ → Plan → Plan → Bool
+merges a b No q = turns a b q
+merges a b Left q = true
+merges a b Right q = true
+merges a b (Kind k) q = true
+merges a b Decimals q = true
+merges a b DecimalInteger q = true
+merges a b DatetimeDuration q = true
+merges a b Datetimes q = alike q Datetimes
+merges a b Durations q = true
+merges a b DynNumber q = alike q No
+merges a b DynBoolean q = alike q No
+merges a b DynDecimal q = true
 
 module _ (call : Call) (l r : Node) where
-  turned : (q : Plan) → T (turns q) → run call q r l ≡ run call (turn q) l r
+  turned : (q : Plan) → T (turns (l .kind) (r .kind) q) → run call q r l ≡ run call (turn q) l r
   unfolding run
   turned No t = refl
   turned Left t = refl
   turned Right t = refl
   turned (Kind k) t = refl
   turned Decimals t = absurd t
+  turned DecimalInteger t =
+      let e = is-true (is Decimal (r .kind)) (and-left (is Decimal (r .kind)) _ t) in
+      let f = not-true (is Decimal (l .kind)) (is-true _ (and-right (is Decimal (r .kind)) _ t)) in
+      rw (e, f)
   turned DatetimeDuration t = absurd t
   turned Datetimes t = absurd t
   turned Durations t = absurd t
@@ -146,13 +152,15 @@ pick-twice false true x y e = never e
 pick-twice false false x y e = refl
 
 module _ (call : Call) (l r : Node) where
-  merged : (p q : Plan) → T (merges p q) → orElse (run call p l r) (run call q r l) ≡ run call (orPlan p (turn q)) l r
+  merged : (p q : Plan) → T (merges (l .kind) (r .kind) p q)
+      → orElse (run call p l r) (run call q r l) ≡ run call (orPlan p (turn q)) l r
   unfolding run
   merged No q t = turned call l r q t
   merged Left q t = refl
   merged Right q t = refl
   merged (Kind k) q t = refl
   merged Decimals q t = refl
+  merged DecimalInteger q t = refl
   merged DatetimeDuration q t = refl
   merged Datetimes q t =
       rw (alike-eq q Datetimes t)
@@ -194,7 +202,7 @@ unfolding ruleOf
 settled call s l r h e =
     tries call s l r e
     ∙ merged call l r (planOf s (l .kind) (r .kind)) (planOf s (r .kind) (l .kind))
-    (at-apart (λ s a b. merges (planOf s a b) (planOf s b a)) (unfold everywhere in tt) s (l .kind) (r .kind) h)
+    (at-apart (λ s a b. merges a b (planOf s a b) (planOf s b a)) (unfold everywhere in tt) s (l .kind) (r .kind) h)
 
 -- ---- the other order
 
@@ -226,7 +234,7 @@ of-these t p x q y u =
 -- Datetime
 abbrev swaps : ℕ → ℕ → Plan → Plan → Bool
 swaps a b p q =
-    alike p No || (alike q No || ((turns q && alike p (turn q))
+    alike p No || (alike q No || ((turns a b q && alike p (turn q))
     || (these (plain a) p Left q (Kind a)
     || (these (plain b) p (Kind b) q Left
     || these (is Duration a && is Datetime b) p DatetimeDuration q DatetimeDuration))))
@@ -262,8 +270,8 @@ module _ (call : Call) (l r : Node) (fl : fits l ≡ true) (fr : fits r ≡ true
   swapped p q t =
       or-cases (alike p No) _ t (λ u. rw (alike-eq p No u) (sym (or-nothing (run call q r l))))
       (λ t. or-cases (alike q No) _ t (λ u. rw (alike-eq q No u) (or-nothing (run call p l r)))
-      (λ t. or-cases (turns q && alike p (turn q)) _ t
-      (λ u. rw (alike-eq p (turn q) (and-right (turns q) _ u), turned call l r q (and-left (turns q) _ u)))
+      (λ t. or-cases (turns (l .kind) (r .kind) q && alike p (turn q)) _ t
+      (λ u. rw (alike-eq p (turn q) (and-right (turns (l .kind) (r .kind) q) _ u), turned call l r q (and-left (turns (l .kind) (r .kind) q) _ u)))
       (λ t. or-cases (these (plain (l .kind)) p Left q (Kind (l .kind))) _ t named-left
       (λ t. or-cases (these (plain (r .kind)) p (Kind (r .kind)) q Left) _ t named-right timed))))
     where

@@ -2,4 +2,5 @@
 pub mod Areas
 pub mod Answers
 pub mod Bare
+pub mod Decimals
 pub mod Recursive

@@ -30,6 +30,7 @@ use Rattle.supertype_arms.specs.Supertype.{inner, supertypeWith, knownSu
 use Rattle.supertype_arms.specs.Laws.{SupertypeLaws}
 use Rattle.supertype_arms.proofs.Areas.{alike, alike-eq, right-at}
 use Rattle.supertype_arms.proofs.Answers.{in-range, of-flag}
+use Rattle.supertype_arms.proofs.Decimals.{decimal-integer}
 
 -- ---- which plans call
 
@@ -222,4 +223,11 @@ no-maximum s l r p q e d =
 
 pub supertype-laws : SupertypeLaws
 supertype-laws =
-    record { implode = implode; recursive = recursive; dyn-ints = dyn-ints; maximum = maximum; no-maximum = no-maximum }
+    record {
+      implode = implode;
+      recursive = recursive;
+      dyn-ints = dyn-ints;
+      maximum = maximum;
+      no-maximum = no-maximum;
+      decimal-integer = decimal-integer;
+    }

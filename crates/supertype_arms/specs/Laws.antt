@@ -1,14 +1,25 @@
 -- What holds of the supertype of any two types that are not nested. Assumes nothing: these are statements, proved in
--- proofs/Recursive.antt.
+-- proofs/Recursive.antt and proofs/Decimals.antt.
 use mathlib.Core.Path.{_≡_}
-use mathlib.Core.Bool.{Bool, true, false}
+use mathlib.Core.Bool.{Bool, true, false, cond}
+use Prim.Native.Nat.{ℕ, _-_}
+use lib.Dec.{leb}
 use lib.IntN.{ℤ}
 use lib.Signed.{_≤ℤ_}
+use Rattle.flat.specs.Kind.{Decimal}
+use Rattle.flat.specs.Argument.{dec128MaxPrec}
 use Rattle.dtype.specs.Predicate.{isUnknownInt}
-use Rattle.supertype_answer.specs.Join.{Node, Some}
+use Rattle.supertype_numbers.specs.Range.{Listed}
+use Rattle.supertype_numbers.specs.Decimal.{digitsOf}
+use Rattle.supertype_answer.specs.Join.{Node, Some, node}
 use Rattle.supertype_arms.specs.declared.plan.Plan.the-variants.{DynNumber}
-use Rattle.supertype_arms.specs.Node.{same, fits}
+use Rattle.supertype_arms.specs.Node.{precision, scale, decimal, same, fits}
 use Rattle.supertype_arms.specs.Supertype.{planOf, maxDyn, supertypeWith, supertype}
+
+-- document 02's words: a Decimal keeps its precision p and scale s where the largest number of the integer type k has
+-- at most p − s digits, else its precision becomes 38
+abbrev pub byDigits : Node → ℕ → Node
+byDigits n k = decimal (cond (leb (digitsOf k) (precision n - scale n)) (precision n) dec128MaxPrec) (scale n)
 
 pub record SupertypeLaws : Type 0 where
   -- the implode flag changes no answer: the source reads it in its nested arms alone, which the definition has not
@@ -24,3 +35,6 @@ pub record SupertypeLaws : Type 0 where
   -- the arm of two dyn ints never answers: the types that would reach it are equal, which `inner` asks first
   pub no-maximum : (s : Bool) (l r : Node) → fits l ≡ true → fits r ≡ true → planOf s (l .kind) (r .kind) ≡ DynNumber
       → isUnknownInt (l .kind) ≡ true → same l r ≡ true
+  -- a Decimal with an integer type, in either order
+  pub decimal-integer : (i s : Bool) (n : Node) (k : ℕ) → n .kind ≡ Decimal → fits n ≡ true → Listed k
+      → (supertype i s n (node k 0) ≡ Some (byDigits n k)) × (supertype i s (node k 0) n ≡ Some (byDigits n k))

@@ -1,7 +1,7 @@
 // The rows of Boolean, the integers and the floats, 1 to 14.
 ghost use mathlib.Core.Path.{_≡_};
 ghost use Prim.Native.Nat.{_≤_, max};
-ghost use Rattle.flat.specs.Kind.{Boolean, UInt8, UInt128, Int8, Int128, Float16, Float64, Decimal, Date, Time};
+ghost use Rattle.flat.specs.Kind.{Boolean, UInt8, UInt128, Int8, Int128, Float16, Float64, Date, Time};
 ghost use Rattle.flat.specs.Kind.{UnknownFloat, UnknownIntNeg};
 ghost use Rattle.supertype_arms.specs.Rule.{ruleOf, Apart, Settles};
 use crate::plan::Plan;
@@ -62,18 +62,6 @@ pub fn numeric(a: u8, b: u8) -> u8
         }
     }
     b
-}
-
-// Boolean, an integer or a float with Decimal.
-fn with_decimal(a: u8) -> Plan
-    requires { ⌜ (Boolean ≤ a) × (a ≤ Float64) ⌝ }
-    ensures { λ r. ⌜ Settles a Decimal r ⌝ }
-{
-    match a {
-        Kind::NULL..=Kind::BOOLEAN => Plan::No,
-        Kind::UINT8..=Kind::INT128 => Plan::DecimalInteger,
-        _ => Plan::Kind(Kind::FLOAT64),
-    }
 }
 
 // Boolean, an integer or a float with Date, Datetime, Duration or Time.
@@ -141,7 +129,11 @@ pub fn number_row(to_string: bool, a: u8, b: u8) -> Plan
 {
     match b {
         Kind::NULL..=Kind::FLOAT64 => Plan::Kind(numeric(a, b)),
-        Kind::DECIMAL => with_decimal(a),
+        Kind::DECIMAL => match a {
+            Kind::NULL..=Kind::BOOLEAN => Plan::No,
+            Kind::UINT8..=Kind::INT128 => Plan::DecimalInteger,
+            _ => Plan::Kind(Kind::FLOAT64),
+        },
         Kind::STRING => string_if(to_string),
         Kind::BINARY..=Kind::BINARY_OFFSET => Plan::No,
         Kind::DATE..=Kind::TIME => timed(a, b),

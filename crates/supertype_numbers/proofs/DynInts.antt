@@ -11,9 +11,9 @@ use Rattle.flat.specs.Kind
 use Rattle.flat.proofs.Rules.{and-left, and-right}
 use Rattle.dtype.specs.Match.{among}
 use Rattle.dtype.specs.Predicate.{isSignedInteger}
-use Rattle.supertype_numbers.specs.Integer.{widthOf, holds, firstThatHolds}
+use Rattle.supertype_numbers.specs.Integer.{widthOf, bitsOf, holds, firstThatHolds}
 use Rattle.supertype_numbers.specs.DynInt.{valueOf, materializeDynInt, materializeDynIntPos, materializeSmallestDynInt}
-use Rattle.supertype_numbers.proofs.Integers.{bits, in-range}
+use Rattle.supertype_numbers.proofs.Integers.{in-range}
 
 -- f gives the first of the types that holds v, else the other
 pub record First (f : ℤ → ℕ) (types : List ℕ) (other : ℕ) : Type 0 where
@@ -33,7 +33,7 @@ smallest-dyn-int = record { is = λ v. refl }
 
 -- one past the largest argument of a type's numbers
 abbrev limit : ℕ → ℕ
-limit t = 2 ^ bits (isSignedInteger t) (widthOf t)
+limit t = 2 ^ bitsOf t
 
 -- Of the arguments from lo on and below hi, where v is not below 0 if p is true: the first type that holds any v holds all
 -- of them, and is x. antt computes it.

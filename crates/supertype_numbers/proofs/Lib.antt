@@ -5,3 +5,4 @@ pub mod Ranges
 pub mod Formats
 mod Rows
 mod DynInts
+pub mod Digits

@@ -21,7 +21,7 @@ use Rattle.supertype_numbers.proofs.Tests.{listed, is-listed, at, at-pa
 
 -- z is in the range of a type by its sign and its size
 module _ (s : Bool) (w : ℕ) (z : ℤ) where
-  into : T (s || nonNeg z) → mag z < 2 ^ bits s w → T (inRange s w z)
+  pub into : T (s || nonNeg z) → mag z < 2 ^ bits s w → T (inRange s w z)
   into i l = subst T (sym (in-range s w z)) (and-both (s || nonNeg z) _ i (lt→ltb (mag z) (2 ^ bits s w) l))
 
   sign : T (inRange s w z) → T (s || nonNeg z)

@@ -6,7 +6,7 @@ use mathlib.Core.List.{List, [], _∷_}
 use Prim.Native.Nat.{ℕ, zero, suc, _+_, _-_, _≤_, _<_}
 use native.Mathlib.Omega.{arith}
 use native.Mathlib.Decide.{ℕ-discrete as decEq}
-use lib.Dec.{leb, ltb}
+use lib.Dec.{leb, ltb, ltb→lt}
 use lib.ListN.{getD}
 use Rattle.flat.specs.Kind
 use Rattle.flat.proofs.Truths.{is-true, to-T}
@@ -14,9 +14,10 @@ use Rattle.dtype.specs.Match.{among}
 use Rattle.dtype.specs.Predicate.{isSignedInteger}
 use Rattle.dtype.proofs.Runs.{same, are-same}
 use Rattle.supertype_numbers.specs.declared.integer.IntegerType.{IntegerType}
+use Rattle.supertype_numbers.specs.Integer.{widthOf, bits, bitsOf}
 use Rattle.supertype_numbers.specs.Range.{Listed, Includes}
 use Rattle.supertype_numbers.specs.Table.{rowOf}
-use Rattle.supertype_numbers.proofs.Tests.{at-pair}
+use Rattle.supertype_numbers.proofs.Tests.{at, at-pair}
 use Rattle.supertype_numbers.proofs.Ranges.{inside, includes}
 
 -- the rows of the n kinds from lo on
@@ -62,3 +63,20 @@ told p {r} e =
     let i = includes (p .t) (p .k) (p .listed .0) (p .listed .1) in
     let h : r ≡ inside (p .t) (p .k) = e ∙ ap₂ compared (p .left) (p .right) ∙ compared-inside (p .t) (p .k) (p .listed .0) (p .listed .1) in
     ((λ y. i .1 (to-T (sym h ∙ y))), (λ n. h ∙ is-true (inside (p .t) (p .k)) (i .0 n)))
+
+-- ---- the bits beside the sign
+
+module _ {k : ℕ} {row : IntegerType} (l : Listed k) (e : row ≡ rowOf k) where
+  pub not-zero : 0 < row .width
+  unfolding rowOf among
+  not-zero = rw e (ltb→lt 0 (widthOf k) (at (λ n. ltb 0 (widthOf n)) tt k l))
+
+  bits-of : {s : Bool} → row .signed ≡ s → bits s (row .width) ≡ bitsOf k
+  unfolding rowOf
+  bits-of {s} h = ap₂ bits (sym h ∙ ap (λ (r : IntegerType). r .signed) e) (ap (λ (r : IntegerType). r .width) e)
+
+  pub bits-signed : row .signed ≡ true → row .width - 1 ≡ bitsOf k
+  bits-signed h = bits-of h
+
+  pub bits-unsigned : row .signed ≡ false → row .width ≡ bitsOf k
+  bits-unsigned h = bits-of h

@@ -22,9 +22,12 @@ abbrev pub bits : Bool → ℕ → ℕ
 bits true w = w - 1
 bits false w = w
 
+abbrev pub bitsOf : ℕ → ℕ
+bitsOf k = bits (isSignedInteger k) (widthOf k)
+
 -- `MAX`: the largest number of the integer kind k
 abbrev pub maxOf : ℕ → ℕ
-maxOf k = 2 ^ bits (isSignedInteger k) (widthOf k) - 1
+maxOf k = 2 ^ bitsOf k - 1
 
 -- a column of the integer kind k could hold z
 abbrev pub holds : ℕ → ℤ → Bool

@@ -3,6 +3,7 @@
 ghost use mathlib.Core.Path.{_≡_};
 ghost use mathlib.Core.Bool.{true};
 ghost use mathlib.Core.Logic.{_↔_};
+ghost use Rattle.supertype_numbers.specs.Integer.{bitsOf};
 ghost use Rattle.supertype_numbers.specs.Range.{Listed, isListed, Includes};
 ghost use Rattle.supertype_numbers.specs.Table.{rowOf};
 ghost use Rattle.supertype_numbers.specs.Decimal.{digitsOf};
@@ -77,15 +78,25 @@ pub fn integer(k: u8) -> IntegerType
     INTEGERS[at]
 }
 
-// How many decimal digits the largest number of a listed kind has: a bit is worth three tenths of one.
+// The bits of a listed kind's numbers beside their sign.
+fn bits(k: u8) -> u64
+    requires { ⌜ Listed k ⌝ }
+    ensures { λ r. ⌜ r ≡ bitsOf k ⌝ }
+{
+    let t = integer(k);
+    if t.signed {
+        t.width as u64 - 1
+    } else {
+        t.width as u64
+    }
+}
+
+// How many decimal digits the largest number of a listed kind has: a bit is worth a little over three tenths of one.
 pub fn digits(k: u8) -> u64
     requires { ⌜ Listed k ⌝ }
     ensures { λ r. ⌜ r ≡ digitsOf k ⌝ }
 {
-    let t = integer(k);
-    let width = t.width as u64;
-    let bits = if t.signed { width - 1 } else { width };
-    3 * bits / 10 + 1
+    3 * bits(k) / 10 + 1
 }
 
 // Whether every number of the kind k is one of the kind t.

@@ -16,8 +16,7 @@ use borrow.Author.Tests.{ltb-true, ltb-false, eqb-true, eqb-false}
 use Rattle.flat.specs.Kind.{Float64}
 use Rattle.dtype.specs.Match.{among}
 use Rattle.dtype.specs.Predicate.{isSignedInteger}
-use Rattle.supertype_numbers.specs.Integer.{widthOf}
-use Rattle.supertype_numbers.proofs.Integers.{bits}
+use Rattle.supertype_numbers.specs.Integer.{widthOf, bits}
 use Rattle.supertype_numbers.specs.Range.{Listed}
 use Rattle.supertype_numbers.specs.Format.{Format, binary64, formatOf, magnitude, WholeIn}
 use Rattle.supertype_numbers.proofs.Tests.{at}

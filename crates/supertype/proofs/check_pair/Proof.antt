@@ -1,6 +1,6 @@
 -- `supertype::check_pair` meets its contract. Assumes nothing.
 use borrow.Author.Needs.{needs}
-use Rattle.supertype.proofs.Checks.{left-nested, right-nested, decimal-integer, may-join}
+use Rattle.supertype.proofs.Checks.{left-nested, right-nested, may-join}
 use Rattle.supertype.proofs.check_pair.Statement.{statement}
 use Rattle.supertype.proofs.check_pair.Tie as tie
 
@@ -11,13 +11,7 @@ returns-2 : tie.Need-returns-2
 returns-2 c = right-nested _ _ (cc)
 
 returns-3 : tie.Need-returns-3
-returns-3 c = decimal-integer _ _ (cc) (cc) (cc)
-
-returns-4 : tie.Need-returns-4
-returns-4 c = may-join _ _ (cc) (cc) (cc)
+returns-3 c = may-join _ _ (cc) (cc)
 
 pub check-pair-spec : {M : Type 1} → statement M
-check-pair-spec =
-    tie.close
-    (tie.spec (λ c κs. search needs) returns (λ c κs. search needs) returns-2
-    (λ c κs. search needs) returns-3 returns-4)
+check-pair-spec = tie.close (tie.spec (λ c κs. search needs) returns (λ c κs. search needs) returns-2 returns-3)

@@ -4,8 +4,8 @@ use native.Mathlib.Omega.{arith}
 use borrow.Author.Needs.{needs}
 use Rattle.supertype_answer.specs.Join.{node}
 use Rattle.supertype_arms.specs.declared.plan.Plan.{Plan}
-use Rattle.supertype.proofs.ByPlan.{Planned, none, left, right, kind, decimals, dyn-decimal, datetime-duration}
-use Rattle.supertype.proofs.ByPlan.{one-zone, two-zones, durations, number-kinds, number, boolean}
+use Rattle.supertype.proofs.ByPlan.{Planned, none, left, right, kind, decimals, decimal-kinds, decimal-integer}
+use Rattle.supertype.proofs.ByPlan.{dyn-decimal, datetime-duration, one-zone, two-zones, durations, number-kinds, number, boolean}
 use Rattle.supertype.proofs.node.ordered.Statement.{statement}
 use Rattle.supertype.proofs.node.ordered.Tie as tie
 
@@ -15,6 +15,9 @@ told : (c : tie.After-planned) {p : Plan} → c .planned .result ≡ p
 told c e =
     let pre = c .before .pre in
     record { fits-left = pre .0; fits-right = pre .1; apart = pre .2; is = sym e ∙ c .planned .ensures }
+
+beside-integer-requires : tie.Need-beside-integer-requires
+beside-integer-requires c κs = decimal-kinds (told (c .before .before) (cc))
 
 dyn-number-requires : tie.Need-dyn-number-requires
 dyn-number-requires c κs = number-kinds (told (c .before .before) (cc))
@@ -35,34 +38,39 @@ returns-5 : tie.Need-returns-5
 returns-5 c = decimals (told (c .before .before .before) (cc)) (c .decimals .ensures)
 
 returns-6 : tie.Need-returns-6
-returns-6 c = datetime-duration (told (c .before .before .before) (cc)) (c .datetime .ensures)
+returns-6 c = decimal-integer (told (c .before .before .before) (cc)) (c .beside-integer .ensures)
 
 returns-7 : tie.Need-returns-7
-returns-7 c = one-zone (told (c .before .before .before .before) (cc)) (omega arith) (c .datetime2 .ensures)
+returns-7 c = datetime-duration (told (c .before .before .before) (cc)) (c .datetime .ensures)
 
 returns-8 : tie.Need-returns-8
-returns-8 c = two-zones (told (c .before .before .before) (cc)) (omega arith)
+returns-8 c = one-zone (told (c .before .before .before .before) (cc)) (omega arith) (c .datetime2 .ensures)
 
 returns-9 : tie.Need-returns-9
-returns-9 c = durations (told (c .before .before .before) (cc)) (c .larger .ensures)
+returns-9 c = two-zones (told (c .before .before .before) (cc)) (omega arith)
 
 returns-10 : tie.Need-returns-10
-returns-10 c = number (told (c .before .before .before) (cc)) (c .dyn-number .ensures)
+returns-10 c = durations (told (c .before .before .before) (cc)) (c .larger .ensures)
 
 returns-11 : tie.Need-returns-11
-returns-11 c = boolean (told (c .before .before .before) (cc)) (c .materialize-dyn-int .ensures)
+returns-11 c = number (told (c .before .before .before) (cc)) (c .dyn-number .ensures)
 
 returns-12 : tie.Need-returns-12
-returns-12 c = dyn-decimal (told (c .before .before) (cc))
+returns-12 c = boolean (told (c .before .before .before) (cc)) (c .materialize-dyn-int .ensures)
+
+returns-13 : tie.Need-returns-13
+returns-13 c = dyn-decimal (told (c .before .before .before) (cc)) (c .widened .ensures)
 
 pub ordered-spec : {M : Type 1} → statement M
 ordered-spec =
     tie.close
     (tie.spec
     (λ c κs. search needs) (λ c. search needs) (λ c. search needs) (λ c. search needs) (λ c. search needs)
+    (λ c. search needs) (λ c κs. search needs) (λ c. search needs)
+    beside-integer-requires
     (λ c. search needs) (λ c κs. search needs) (λ c. search needs) (λ c κs. search needs) (λ c. search needs)
-    (λ c κs. search needs) (λ c. search needs) (λ c κs. search needs) (λ c. search needs)
+    (λ c κs. search needs) (λ c. search needs)
     dyn-number-requires
-    (λ c. search needs) (λ c κs. search needs) (λ c. search needs) (λ c. search needs) (λ c. search needs)
+    (λ c. search needs) (λ c κs. search needs) (λ c. search needs) (λ c κs. search needs)
     returns returns-2 returns-3 returns-4 returns-5 returns-6 returns-7 returns-8 returns-9 returns-10 returns-11
-    returns-12)
+    returns-12 returns-13)
