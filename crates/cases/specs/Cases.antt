@@ -1,8 +1,8 @@
 -- Document 01's worked cases, as one table: the cases that it marks [P], calls for every number of its table of
--- refusals, the order of refusals, the bounds of the arguments, the codes of the kinds and the stored sheet; and what
--- document 02's requests work out. Each row is its place, what is asked and the answer: `case n` is of the corner n,
--- `refusal n` is a call that is refused by n, `not-refused` a call that is not refused, and `requested n` is of the
--- request n. Assumes nothing: these are definitions.
+-- refusals but 13, which is retired, the order of refusals, the bounds of the arguments, the codes of the kinds and the
+-- stored sheet; and what document 02's requests work out. Each row is its place, what is asked and the answer: `case n`
+-- is of the corner n, `refusal n` is a call that is refused by n, `not-refused` a call that is not refused, and
+-- `requested n` is of the request n. Assumes nothing: these are definitions.
 use mathlib.Core.Path.{_≡_}
 use mathlib.Core.Bool.{Bool, true, false}
 use mathlib.Core.List.{List, [], _∷_, _++_, map}
@@ -208,9 +208,6 @@ causes i s =
     -- 12: unequal integers without an upcast, and equal ones
     ∷ refusal 12 (merge Kind.Int8 0 (lone Kind.UInt128))
     ∷ not-refused (merge Kind.UInt128 0 (lone Kind.UInt128))
-    -- 13: on either side
-    ∷ refusal 13 (get-supertype i s (decimalLeaf 10 2) (lone Kind.Int8) 1)
-    ∷ refusal 13 (get-supertype i s (lone Kind.UInt128) (decimalLeaf 10 2) 1)
     ∷ []
 
 -- the order of refusals: the lowest number that applies
@@ -225,10 +222,9 @@ order i s =
     ∷ refusal 5 (get-supertype i s (lists 33 (lone Kind.Int8)) (leaf 32 0) 1)
     ∷ refusal 4 (get-supertype i s (lone Kind.Int8) (leaf 31 0) 1)
     ∷ refusal 2 (get-supertype i s (list (lone Kind.Int8)) (leaf 32 0) 1)
-    -- 6, 7 and 13 where there is no room either: a refused call has no result
+    -- 6 and 7 where there is no room either: a refused call has no result
     ∷ refusal 6 (get-supertype i s (list (lone Kind.Int8)) (list (lone Kind.Int8)) 0)
     ∷ refusal 7 (materialize-unknown false (lone Kind.UnknownAny) 0)
-    ∷ refusal 13 (get-supertype i s (decimalLeaf 10 2) (lone Kind.Int8) 0)
     -- in a merge 1 to 5, then 9, then 10, then 11
     ∷ refusal 2 (merge 0 32 (leaf 32 0))
     ∷ refusal 9 (merge 1 32 (lone Kind.Boolean))
@@ -320,9 +316,44 @@ sheets =
     ∷ stored (decoded sheet) (gives (list (lone Kind.Int16)))
     ∷ []
 
+-- Two: the precision and the scale of a Decimal, an integer type, and the precision that the Decimal has beside it
+abbrev pub decimals : List (ℕ × ℕ × ℕ × ℕ)
+decimals =
+    -- 10 digits are more than 8
+    (10, 2, Kind.Int32, 38)
+    ∷ (12, 2, Kind.Int32, 12)
+    ∷ (38, 20, Kind.Int64, 38)
+    ∷ (5, 0, Kind.UInt16, 5)
+    ∷ (4, 0, Kind.UInt16, 38)
+    -- the digit counts: as many digits before the point, and one less
+    ∷ (4, 1, Kind.UInt8, 4)
+    ∷ (4, 2, Kind.UInt8, 38)
+    ∷ (3, 0, Kind.Int8, 3)
+    ∷ (2, 0, Kind.Int8, 38)
+    ∷ (6, 1, Kind.Int16, 6)
+    ∷ (6, 2, Kind.Int16, 38)
+    ∷ (11, 1, Kind.UInt32, 11)
+    ∷ (11, 2, Kind.UInt32, 38)
+    ∷ (19, 0, Kind.Int64, 19)
+    ∷ (18, 0, Kind.Int64, 38)
+    ∷ (20, 0, Kind.UInt64, 20)
+    ∷ (19, 0, Kind.UInt64, 38)
+    -- the 128-bit types always give 38
+    ∷ (37, 0, Kind.UInt128, 38)
+    ∷ (37, 0, Kind.Int128, 38)
+    ∷ []
+
+-- each of them in both orders
+abbrev pub in-both-orders : Bool → Bool → List (ℕ × ℕ × ℕ × ℕ) → List Case
+in-both-orders i s [] = []
+in-both-orders i s (r ∷ rows) =
+    requested 2 (supertype i s (decimalLeaf (r .0) (r .1)) (lone (r .2))) (joins (decimalLeaf (r .3) (r .1)))
+    ∷ requested 2 (supertype i s (lone (r .2)) (decimalLeaf (r .0) (r .1))) (joins (decimalLeaf (r .3) (r .1)))
+    ∷ in-both-orders i s rows
+
 -- what the requests work out
-abbrev pub requests : List Case
-requests =
+abbrev pub requests : Bool → Bool → List Case
+requests i s =
     -- One: Null leaves the channel as it is and answers the code held, 0 if empty, with and without a number before it
     requested 1 (merge-all (lone Kind.Null ∷ lone Kind.Null ∷ [])) (merged ((0, 0) ∷ (0, 0) ∷ []) 0)
     ∷ requested 1 (merge-all (lone Kind.Null ∷ lone Kind.Int8 ∷ lone Kind.Null ∷ lone Kind.UInt8 ∷ []))
@@ -336,11 +367,14 @@ requests =
     ∷ requested 1 (number-of (merge 2 31 (lone Kind.Null))) (number 0)
     ∷ requested 1 (number-of (merge 11 31 (lone Kind.Null))) (number 0)
     ∷ requested 1 (number-of (merge 12 31 (lone Kind.Null))) (number 10)
-    ∷ []
+    -- Two: 8 where there is no room, and no other number
+    ∷ requested 2 (number-of (get-supertype i s (decimalLeaf 10 2) (lone Kind.Int8) 0)) (number 8)
+    ∷ requested 2 (number-of (get-supertype i s (lone Kind.UInt128) (decimalLeaf 10 2) 1)) (number 0)
+    ∷ in-both-orders i s decimals
 
 -- the table, for any flags and any fields
 abbrev pub table : Bool → Bool → Fields → List Case
-table i s fs = corners i s fs ++ (causes i s ++ (order i s ++ (bounds ++ (sheets ++ requests))))
+table i s fs = corners i s fs ++ (causes i s ++ (order i s ++ (bounds ++ (sheets ++ requests i s))))
 
 -- The claim: at these limits, every row's answer is what the definitions answer.
 abbrev pub CasesHold : (nodes deep channels width : ℕ) → Type 0

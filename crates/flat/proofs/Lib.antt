@@ -5,6 +5,7 @@ pub mod ReadBack
 pub mod Positions
 pub mod Walks
 pub mod Meaning
+mod Retired
 pub mod Refusals
 pub mod Roots
 pub mod Pairs

@@ -1,11 +1,13 @@
--- The number of each cause for which a call is refused: document 01's table. Assumes nothing: these are definitions.
+-- The number of each cause for which a call is refused: document 01's table. Assumes nothing: these are definitions, and
+-- a statement that is proved in proofs/Retired.antt.
+use mathlib.Core.Path.{_≡_}
 use Prim.Native.Nat.{ℕ}
 use Rattle.flat.specs.declared.error.Error.{Error}
 use Rattle.flat.specs.declared.error.Error.the-variants.{Length, Kind, Argument, Shape, Depth, Nested, Unknown}
 use Rattle.flat.specs.declared.error.Error.the-variants.{OutputTooShort, Channel, ChannelCode, NotInteger}
 use Rattle.flat.specs.declared.error.Error.the-variants.{NoUpcast}
 
--- the number of a cause; 13 is retired (document 02, Two)
+-- the number of a cause
 abbrev pub numberOf : Error → ℕ
 numberOf Length = 1
 numberOf Kind = 2
@@ -19,3 +21,8 @@ numberOf Channel = 9
 numberOf ChannelCode = 10
 numberOf NotInteger = 11
 numberOf NoUpcast = 12
+
+-- the numbers that are retired, which no cause has
+pub record Retired : Type 0 where
+  -- a Decimal with an integer type (document 02, Two)
+  pub thirteen : (e : Error) → numberOf e ≡ 13 → ⊥

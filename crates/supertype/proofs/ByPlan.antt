@@ -121,9 +121,10 @@ module _ {s : Bool} {l r : Node} where
       → (fits (node Kind.Decimal (r .arg)) ≡ true) × Listed (l .kind)
   decimal-kinds w =
       let u = only w (λ a b. isListed a && eqb b Kind.Decimal) (unfold everywhere isListed in tt) in
-      let e = eqb→eq (r .kind) Kind.Decimal (and-right (isListed (l .kind)) _ u) in
-      (subst (λ (k : ℕ). fits (node k (r .arg)) ≡ true) e (w .fits-right),
-      to-listed (l .kind) (and-left (isListed (l .kind)) _ u))
+      let e = eqb→eq (r .kind) Kind.Decimal (and-right (isListed (l .kind)) _ u) in (
+        subst (λ (k : ℕ). fits (node k (r .arg)) ≡ true) e (w .fits-right),
+        to-listed (l .kind) (and-left (isListed (l .kind)) _ u),
+      )
 
   pub decimal-integer : {m : ℕ} → Planned s l r plan.DecimalInteger
       → node Kind.Decimal m ≡ besideInteger (node Kind.Decimal (r .arg)) (l .kind)

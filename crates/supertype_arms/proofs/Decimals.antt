@@ -38,7 +38,7 @@ module _ {n : Node} (w : IsDecimal n) where
   unfolding fits argumentFits argumentRule
   rule = rw (w .kind) at w .fitting
 
-  most : precision n ≤ dec128MaxPrec
+  pub most : precision n ≤ dec128MaxPrec
   most =
       leb-true (precision n) dec128MaxPrec
       (both-true (leb 1 (precision n)) _

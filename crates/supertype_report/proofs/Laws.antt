@@ -21,6 +21,7 @@ use Rattle.supertype_lossless.specs.declared.upcast.Upcast.the-variants.{To}
 use Rattle.supertype_arms.specs.Supertype.{supertype}
 use Rattle.supertype_report.specs.Laws.{uint128WithSigned, signedTo64, uint64WithSigned, Logged, left, right}
 use Rattle.supertype_report.specs.Laws.{MadeOne, NumberLaws}
+use Rattle.supertype_report.proofs.Decimals.{decimals, decimal-keeps, decimal-misses}
 use Rattle.supertype_report.proofs.Rounding.{merged}
 use Rattle.supertype_report.proofs.Pairs.{joined, is-joined, Answered, float64, integral, answered, told}
 
@@ -140,4 +141,7 @@ number-laws = record {
   floats = floats;
   avoidable = avoidable;
   merges = merges;
+  decimals = decimals;
+  decimal-keeps = λ i s n t k e f l. decimal-keeps i s n k e f l t;
+  decimal-misses = decimal-misses;
 }

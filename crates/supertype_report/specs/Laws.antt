@@ -1,19 +1,22 @@
--- What the two rules do to whole numbers, each law over all pairs of integer types and both flags. Assumes nothing:
--- these are definitions.
+-- What the two rules do to whole numbers, each law over all pairs of integer types, or of a Decimal and an integer type,
+-- and both flags. Assumes nothing: these are definitions.
 use mathlib.Core.Path.{_≡_}
 use mathlib.Core.Logic.{_↔_}
 use mathlib.Core.Bool.{Bool, true, false, _&&_, _||_}
 use mathlib.Core.List.{List, [], _∷_}
-use Prim.Native.Nat.{ℕ}
+use Prim.Native.Nat.{ℕ, _-_, _≤_, _<_}
 use lib.Dec.{eqb}
 use lib.IntN.{ℤ}
-use Rattle.flat.specs.Kind.{UInt64, UInt128, Int8, Int16, Int32, Int64, Int128, Float64}
+use Rattle.flat.specs.Kind.{UInt64, UInt128, Int8, Int16, Int32, Int64, Int128, Float64, Decimal}
+use Rattle.flat.specs.Argument.{dec128MaxPrec}
 use Rattle.dtype.specs.Match.{among}
 use Rattle.dtype.specs.Predicate.{isSignedInteger}
-use Rattle.supertype_answer.specs.Join.{Some, node}
+use Rattle.supertype_answer.specs.Join.{Node, Some, node}
 use Rattle.supertype_numbers.specs.Range.{Listed, Holds, Includes}
+use Rattle.supertype_numbers.specs.Decimal.{DecimalHolds, digitsOf}
 use Rattle.supertype_lossless.specs.Lossless.{upcastOf}
 use Rattle.supertype_lossless.specs.declared.upcast.Upcast.the-variants.{To}
+use Rattle.supertype_arms.specs.Node.{precision, scale, fits}
 use Rattle.supertype_arms.specs.Supertype.{supertype}
 use Rattle.supertype_report.specs.Rounding.{asFloat64}
 
@@ -43,6 +46,12 @@ pub record MadeOne (a b : ℕ) : Type 0 where
   pub other-logged : Logged a b other
   pub merged : asFloat64 one ≡ asFloat64 other
 
+-- a number of an integer column that no Decimal of this scale could hold
+pub record Missed (k scale : ℕ) : Type 0 where
+  pub number : ℤ
+  pub logged : Holds k number
+  pub missed : (prec : ℕ) → scale ≤ prec → prec ≤ dec128MaxPrec → DecimalHolds prec scale number → ⊥
+
 pub record NumberLaws : Type 0 where
   -- two integer types always have a supertype, and it is Float64 or an integer type
   pub answers : (i s : Bool) (a b : ℕ) → Listed a → Listed b
@@ -62,3 +71,14 @@ pub record NumberLaws : Type 0 where
       → (upcastOf a b ≡ To Int128) × Includes Int128 a × Includes Int128 b
   -- (c) Float64 makes one number of two that such a pair of columns could hold
   pub merges : (a b : ℕ) → uint64WithSigned a b ≡ true → MadeOne a b
+  -- (d) a Decimal n with an integer type is a Decimal of its scale and no less precision, in either order: n loses none
+  -- of its numbers
+  pub decimals : (i s : Bool) (n : Node) (k : ℕ) → n .kind ≡ Decimal → fits n ≡ true → Listed k
+      → (t : Node) × (supertype i s n (node k 0) ≡ Some t) × (supertype i s (node k 0) n ≡ Some t)
+      × (t .kind ≡ Decimal) × (scale t ≡ scale n) × (precision n ≤ precision t)
+  -- it keeps every number of the integer column exactly where the type has at most 38 − scale digits
+  pub decimal-keeps : (i s : Bool) (n t : Node) (k : ℕ) → n .kind ≡ Decimal → fits n ≡ true → Listed k
+      → supertype i s n (node k 0) ≡ Some t
+      → ((z : ℤ) → Holds k z → DecimalHolds (precision t) (scale t) z) ↔ (digitsOf k ≤ dec128MaxPrec - scale n)
+  -- where it has more, no Decimal of that scale keeps them: the largest is lost
+  pub decimal-misses : (k scale : ℕ) → Listed k → dec128MaxPrec - scale < digitsOf k → Missed k scale

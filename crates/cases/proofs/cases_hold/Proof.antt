@@ -16,15 +16,16 @@ use Rattle.dtype.specs.Predicate.{isPrimitiveNumeric, isPrimitive, isNested, is
 use Rattle.dtype.specs.Equality.{equalNode, equal}
 use Rattle.dtype_cast.specs.Cast.{castsWithBoolean, beforeNested, canCastTo}
 use Rattle.supertype_numbers.specs.DynInt.{valueOf, materializeDynInt, materializeDynIntPos, materializeSmallestDynInt}
+use Rattle.supertype_numbers.specs.Range.{isListed}
+use Rattle.supertype_numbers.specs.Decimal.{fitsDec128}
 use Rattle.dtype_build.specs.Materialize.{materialize, materializeUnknown}
 use Rattle.dtype.specs.Physical.{physicalLeaf, physicalKind}
 use Rattle.dtype_build.specs.Build.{materialized}
 use Rattle.supertype_lossless.specs.Lossless.{upcastBy, floats, signed, unsigned, mixed, upcastWhere, upcastOf}
 use Rattle.supertype_lossless.specs.Lossless.{lossless, losslessOf}
 use Rattle.supertype_arms.specs.Supertype.{unknownArms, arms, planOf, smallestFitting, dynNumber, run, inner}
-use Rattle.supertype_arms.specs.Supertype.{supertypeWith, knownSupertype, supertype}
-use Rattle.supertype_numbers.specs.Range.{isListed}
-use Rattle.supertype.specs.Pair.{decimalWithInteger, pairChecked, rootSupertype, supertypeOf}
+use Rattle.supertype_arms.specs.Supertype.{fitsOrigPrecScale, besideInteger, supertypeWith, knownSupertype, supertype}
+use Rattle.supertype.specs.Pair.{pairChecked, rootSupertype, supertypeOf}
 use Rattle.channels.specs.Merge.{mergedWith, mergedOf}
 use Rattle.cases.proofs.cases_hold.Statement.{statement}
 use Rattle.cases.proofs.cases_hold.Tie as tie
@@ -37,7 +38,7 @@ unfolding lists fieldsOf bothOf argumentFits argumentRule count headKind headArg
     valueOf materializeDynInt materializeDynIntPos materializeSmallestDynInt materialize materializeUnknown
     physicalLeaf physicalKind materialized upcastBy floats signed unsigned mixed upcastWhere upcastOf lossless
     losslessOf unknownArms arms planOf smallestFitting dynNumber run inner supertypeWith knownSupertype supertype
-    isListed decimalWithInteger pairChecked rootSupertype supertypeOf mergedWith mergedOf
+    fitsDec128 fitsOrigPrecScale besideInteger isListed pairChecked rootSupertype supertypeOf mergedWith mergedOf
 returns c i true empty = refl
 returns c i false empty = refl
 returns c i true (field name t fs) = refl

@@ -13,7 +13,7 @@ decimal : (c : tie.Start) → IsDecimal (node Decimal (c .args .x))
 decimal c = record { kind = refl; fitting = c .pre .0 }
 
 sub-if1 : tie.Need-sub-if1
-sub-if1 c = within (decimal (c .before))
+sub-if1 c = omega (arith, within (decimal (c .before)))
 
 returns : tie.Need-returns
 returns c = kept (decimal (c .before .before)) (c .before .before .pre .1) (omega (arith, c .before .digits .ensures))
