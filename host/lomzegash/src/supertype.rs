@@ -73,9 +73,9 @@ pub fn get_numeric_upcast_supertype_lossless(
 /// Writes the type that both can be cast to, with loss where the source takes it for reasonable; None where there is
 /// none. Not every answer is the same with left and right exchanged.
 ///
-/// Of a Decimal and an integer type, in either order, it is a Decimal of the same scale: of the same precision where the
-/// type's largest number has at most as many digits as the Decimal has before its point, else of precision 38, as always
-/// beside UInt128 and Int128.
+/// Of a Decimal and an integer type, in either order, it is a Decimal of the same scale: of the same precision where
+/// the type's largest number has at most as many digits as the Decimal has before its point, else of precision 38, as
+/// always beside UInt128 and Int128.
 ///
 /// Refused by numbers 1 to 5 of the left type, then of the right, by [`Error::Nested`] where either is nested, then by
 /// [`Error::OutputTooShort`].

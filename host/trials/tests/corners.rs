@@ -630,7 +630,8 @@ fn request_2_boolean_with_decimal_has_no_supertype(who: Who) {
     }
 }
 
-/// "Refused: nothing added; 13 no longer occurs." A Decimal with an integer type meets 1 to 5, the left type's first, and 8.
+/// "Refused: nothing added; 13 no longer occurs." A Decimal with an integer type meets 1 to 5, the left type's first,
+/// and 8.
 #[test]
 fn request_2_what_a_decimal_with_an_integer_is_refused_by() {
     let no_decimals = [

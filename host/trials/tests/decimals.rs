@@ -21,8 +21,9 @@ const PAIRS: u64 = 2 * 10 * DECIMALS;
 /// The supertype, with the flags in every state.
 const SUPERTYPES: &[Join] = JOINS.split_at(1).1;
 
-/// By the request's digit counts d, how many Decimals keep their precision beside each integer type, (39 − d)(40 − d) / 2,
-/// and how many of the others get another: all but those of precision 38, which are d, or 39 where none is kept.
+/// By the request's digit counts d, how many Decimals keep their precision beside each integer type, which are
+/// (39 − d)(40 − d) / 2, and how many of the others get another one: all but those that have 38, which are d. Beside a
+/// 128-bit type none is kept, and 39 have 38.
 const KEPT_AND_OTHERS: [(u8, [u64; 2]); 10] = [
     (UINT8, [666, 110]),
     (UINT16, [595, 179]),
@@ -50,8 +51,8 @@ fn in_either_order(differential: &mut Differential, one: &Input, other: &Input, 
     differential.joins(other, one, joins, ENOUGH);
 }
 
-/// Outputs exactly long enough, longer, none and one too short, of which two of five are too short in bytes and three in
-/// nodes; and each report.
+/// Outputs exactly long enough, longer, none and one too short: of five lengths two are too short in bytes, and three
+/// in nodes. And each report.
 #[test]
 #[cfg_attr(not(polars_src), ignore = "no text of polars-core 0.55.2")]
 fn every_decimal_with_every_integer_type() {

@@ -9,8 +9,8 @@ pub mod decimal {
     /// digits.
     ///
     /// Written from what Decimals are: the crate's own text of it isn't here. Runs rest on it, since the supertype of a
-    /// Decimal and an integer type asks for it. Document 02 (Two) says that the oracle confirms the digit counts of that
-    /// arm; it does so with this meaning, and nothing closer to the crate's is at hand.
+    /// Decimal and an integer type asks for it. Document 02 (Two) says that the oracle confirms the digit counts of
+    /// that arm; it does so with this meaning, and nothing closer to the crate's is at hand.
     pub fn i128_to_dec128(value: i128, precision: usize, scale: usize) -> Option<i128> {
         let power = |digits| 10_i128.checked_pow(u32::try_from(digits).ok()?);
         let scaled = value.checked_mul(power(scale)?)?;
