@@ -5,12 +5,15 @@ use crate::join::joined;
 use lomzegash::kind::{DECIMAL, INT128, INT32, UINT16};
 use lomzegash::supertype::{get_supertype_with_options, SuperTypeOptions};
 
+/// The kind and the argument of a type of one node.
+type Leaf = (u8, u64);
+
 /// Two digits behind the point, and eight or ten before it.
-const EIGHT: (u8, u64) = (DECIMAL, 256 * 2 + 10);
-const TEN: (u8, u64) = (DECIMAL, 256 * 2 + 12);
+const EIGHT: Leaf = (DECIMAL, 256 * 2 + 10);
+const TEN: Leaf = (DECIMAL, 256 * 2 + 12);
 
 /// What is joined, and why the result is what it is.
-const COLUMNS: [((u8, u64), (u8, u64), &str); 4] = [
+const COLUMNS: [(Leaf, Leaf, &str); 4] = [
     (EIGHT, (UINT16, 0), "65535 has five digits, and eight have room"),
     (EIGHT, (INT32, 0), "2147483647 has ten digits"),
     ((INT32, 0), TEN, "ten have room"),
