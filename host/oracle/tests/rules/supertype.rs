@@ -109,9 +109,9 @@ fn corner_10_datetimes_of_different_zones() {
     supertypes(&[(datetime(0, 1), datetime(2, 1), datetime(2, 1)), (datetime(1, 0), datetime(0, 0), datetime(1, 0))]);
 }
 
-/// A Decimal, by precision and scale, and an integer type have this Decimal as their supertype, in either order.
-fn beside_integer((precision, scale): (u64, u64), integer: u8, expected_precision: u64) {
-    let (dtype, integer, expected) = (decimal(precision, scale), plain(integer), decimal(expected_precision, scale));
+/// The supertype of a Decimal, by precision and scale, and an integer type, in either order, has this precision.
+fn beside_integer((precision, scale): (u64, u64), integer: u8, expected: u64) {
+    let (dtype, integer, expected) = (decimal(precision, scale), plain(integer), decimal(expected, scale));
     supertypes(&[(dtype.clone(), integer.clone(), expected.clone()), (integer, dtype, expected)]);
 }
 
