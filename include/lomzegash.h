@@ -26,20 +26,21 @@ extern "C" {
  * 1 to 5 looks at the whole type before the next. */
 enum lz_error {
     LZ_OK = 0,
-    LZ_LENGTH = 1,               /* no node, too many nodes, a flat type's two lengths differ, or
-                                    an encoded type's length is under 2 or not 2 + 9 * n */
-    LZ_KIND = 2,                 /* a kind above 31 */
-    LZ_ARGUMENT = 3,             /* an argument outside its kind's rule */
-    LZ_SHAPE = 4,                /* the nodes don't form exactly one type */
-    LZ_DEPTH = 5,                /* a node with too many nodes above it */
-    LZ_NESTED = 6,               /* a nested type in a supertype call */
-    LZ_UNKNOWN = 7,              /* an unknown type that is not allowed where types are materialised */
-    LZ_OUTPUT_TOO_SHORT = 8,     /* an output shorter than the result */
-    LZ_CHANNEL = 9,              /* no such channel */
-    LZ_CHANNEL_CODE = 10,        /* the channel holds neither 0 nor 2 to 11 */
-    LZ_NOT_AN_INTEGER = 11,      /* the type is neither Null nor an integer type, codes 2 to 11 */
-    LZ_NO_UPCAST = 12,           /* no integer type holds the channel's numbers and the new type's */
-    LZ_DECIMAL_WITH_INTEGER = 13 /* a Decimal with an integer type in a supertype call */
+    LZ_LENGTH = 1,           /* no node, too many nodes, a flat type's two lengths differ, or
+                                an encoded type's length is under 2 or not 2 + 9 * n */
+    LZ_KIND = 2,             /* a kind above 31 */
+    LZ_ARGUMENT = 3,         /* an argument outside its kind's rule */
+    LZ_SHAPE = 4,            /* the nodes don't form exactly one type */
+    LZ_DEPTH = 5,            /* a node with too many nodes above it */
+    LZ_NESTED = 6,           /* a nested type in a supertype call */
+    LZ_UNKNOWN = 7,          /* an unknown type that is not allowed where types are materialised */
+    LZ_OUTPUT_TOO_SHORT = 8, /* an output shorter than the result */
+    LZ_CHANNEL = 9,          /* no such channel */
+    LZ_CHANNEL_CODE = 10,    /* the channel holds neither 0 nor 2 to 11 */
+    LZ_NOT_AN_INTEGER = 11,  /* the type is neither Null nor an integer type, codes 2 to 11 */
+    LZ_NO_UPCAST = 12        /* no integer type holds the channel's numbers and the new type's */
+    /* 13 is retired: it was given for a Decimal with an integer type in a supertype call, and is
+       never given again */
 };
 
 /* The answer of every function here but lz_get_shape and lz_flat_channel_merged. A refused
@@ -176,8 +177,10 @@ lz_reply lz_get_numeric_upcast_supertype_lossless(const uint8_t *left, size_t le
 
 /*
  * The type that both can be cast to, with loss where the source takes it for reasonable.
- * Each flag is off at 0 and else on. Refused by 6 where either type is nested, then by 13
- * where one is a Decimal and the other an integer type, codes 2 to 11.
+ * Each flag is off at 0 and else on. Of a Decimal and an integer type, codes 2 to 11, in either
+ * order, it is a Decimal of the same scale: of the same precision where the type's largest number
+ * has at most as many digits as the Decimal has before its point, else of precision 38, as always
+ * beside UInt128 and Int128. Refused by 6 where either type is nested, then by 8.
  */
 lz_reply lz_get_supertype_with_options(const uint8_t *left, size_t left_len,
                                        const uint8_t *right, size_t right_len,

@@ -17,22 +17,35 @@ type OfCrate = fn(&Type, &Type) -> Option<Type>;
 /// Times a rule from one form of these pairs.
 type Time = fn(Join, OfCrate, &[Pair]) -> Times;
 
+/// A rule by its name, of the port and of the crate.
+type Rule = (&'static str, Join, OfCrate);
+
 /// Both rules, the supertype with the source's own default of its flags.
-const RULES: [(&str, Join, OfCrate); 2] = [
+const RULES: [Rule; 2] = [
     ("supertype", supertype(false, true), |l, r| l.get_supertype_with_options(r, false, true)),
     ("lossless upcast", Join::Lossless, Type::get_numeric_upcast_supertype_lossless),
 ];
 
-/// Both rules from either form on every set of pairs.
+/// Pairs by their name.
+type Set = (&'static str, Vec<Pair>);
+
+/// Both rules from either form on every set of pairs; a Decimal has no lossless upcast.
 pub fn rows() -> Vec<Row> {
-    let probes = vec![Pair::new((INT32, 0), (UINT64, 0))];
-    let sets = [("Int32 with UInt64", probes), ("every two kinds of leaves", every_two_kinds())];
+    let sets = [
+        ("Int32 with UInt64", vec![Pair::new((INT32, 0), (UINT64, 0))]),
+        ("every two kinds of leaves", every_two_kinds()),
+        ("Decimal with integers", decimal_with_integers()),
+    ];
+    let [supertype, lossless] = RULES;
+    [rows_of(supertype, &sets), rows_of(lossless, &sets[..2])].into_iter().flatten().collect()
+}
+
+/// A rule from either form on these sets.
+fn rows_of((call, join, crates): Rule, sets: &[Set]) -> Vec<Row> {
     let mut rows = vec![];
-    for (call, join, crates) in RULES {
-        for (form, time) in [(BYTES, from_bytes as Time), (FLAT, from_kept)] {
-            for (input, pairs) in &sets {
-                rows.push(Row { call, form, input, nodes: 1, beside: CRATE, times: time(join, crates, pairs) });
-            }
+    for (form, time) in [(BYTES, from_bytes as Time), (FLAT, from_kept)] {
+        for (input, pairs) in sets {
+            rows.push(Row { call, form, input, nodes: 1, beside: CRATE, times: time(join, crates, pairs) });
         }
     }
     rows
@@ -54,13 +67,20 @@ impl Pair {
     }
 }
 
-/// Every two kinds that have no child, but for a Decimal with an integer type, which the port refuses.
+/// Every two kinds that have no child, but for a Decimal with an integer type, which have rows of their own.
 fn every_two_kinds() -> Vec<Pair> {
-    let is_refused = |l: u8, r: u8| l == DECIMAL && (UINT8..=INT128).contains(&r);
+    let is_apart = |l: u8, r: u8| l == DECIMAL && (UINT8..=INT128).contains(&r);
     let kinds = || NULL..=UNKNOWN_INT_NEG;
     let pairs = kinds().flat_map(|l| kinds().map(move |r| (l, r)));
-    let pairs = pairs.filter(|&(l, r)| !is_refused(l, r) && !is_refused(r, l));
+    let pairs = pairs.filter(|&(l, r)| !is_apart(l, r) && !is_apart(r, l));
     pairs.map(|(l, r)| Pair::new((l, argument(l)), (r, argument(r)))).collect()
+}
+
+/// A Decimal with each integer type, in either order: it stays beside four of them.
+fn decimal_with_integers() -> Vec<Pair> {
+    let decimal = (DECIMAL, argument(DECIMAL));
+    let pairs = (UINT8..=INT128).flat_map(|kind| [(decimal, (kind, 0)), ((kind, 0), decimal)]);
+    pairs.map(|(left, right)| Pair::new(left, right)).collect()
 }
 
 /// An ordinary argument.

@@ -36,7 +36,7 @@ fn lines() -> [String; 8] {
 }
 
 /// The type that a join writes, as text.
-fn joined(join: impl FnOnce(&mut [u8]) -> Result<Option<usize>, Error>) -> String {
+pub fn joined(join: impl FnOnce(&mut [u8]) -> Result<Option<usize>, Error>) -> String {
     let mut out = [0; 11];
     match join(&mut out) {
         Ok(Some(len)) => answer(&out[..len]),

@@ -1,10 +1,12 @@
 //! `lomzegash [HEX...]`: what each encoded type says, or why it is refused; without arguments, what becomes of probe
-//! numbers where Int32 and UInt64 are joined, a season of columns merged into channels, and a few worked types.
+//! numbers where Int32 and UInt64 are joined, of readings where Decimals and integers are, a season of columns merged
+//! into channels, and a few worked types.
 
 #![forbid(unsafe_code)]
 
 mod hex;
 mod join;
+mod readings;
 mod render;
 mod season;
 mod worked;
@@ -16,6 +18,7 @@ fn main() -> ExitCode {
     let texts: Vec<String> = env::args().skip(1).collect();
     if texts.is_empty() {
         join::show();
+        readings::show();
         season::show();
         println!("Encoded types:");
         worked::show();

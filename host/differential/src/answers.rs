@@ -28,7 +28,7 @@
 //! 8, is_integer 9, is_signed_integer 10, is_unsigned_integer 11, is_string 12, is_unknown 13, contains_unknown 14,
 //! contains_list_recursive 15.
 //!
-//! Numbers 1 to 5 are document 01's by the plain Rust, 6 and 13 are its by the kinds, 8 follows from the room, and the
+//! Numbers 1 to 5 are document 01's by the plain Rust, 6 is its by the kinds, 8 follows from the room, and the
 //! reports follow from the ranges of integers and the oracle's supertype. polars-core has no channels, so all of a merge is
 //! document 01's, with change request One's Null, by the plain Rust (`plain::channels`): by its book, the `Model`, in a
 //! list of merges that started from empty channels, and by `merge`, its section for one offer, on channels of any
@@ -51,7 +51,7 @@ const MATERIALIZE: u64 = 23;
 const SHAPE: u64 = 24;
 const TIME_UNITS: u64 = 25;
 const LOSSLESS: u64 = 26;
-const SUPERTYPE: u64 = 27;
+pub const SUPERTYPE: u64 = 27;
 const REPORT: u64 = 28;
 pub const MERGE: u64 = 29;
 

@@ -158,7 +158,7 @@ fn damaged_at_times(mut flat: Flat, random: &mut Random) -> Flat {
 #[cfg(test)]
 mod tests {
     use super::*;
-    use crate::answers::{CHECK, MERGE};
+    use crate::answers::{CHECK, MERGE, SUPERTYPE};
 
     /// How many lines crates/replay was asked for.
     const LINES: usize = 7500;
@@ -185,9 +185,11 @@ mod tests {
         }
         let sound = lines.into_iter().filter(|line| !line.is_damaged);
         let (merges, others): (Vec<_>, Vec<_>) = sound.partition(|line| line.entry() == MERGE);
-        for number in [1, 2, 3, 4, 5, 6, 7, 8, 13] {
+        for number in [1, 2, 3, 4, 5, 6, 7, 8] {
             assert!(refused(&others, number) >= 9, "refusal {number}");
         }
+        assert!(refused(&others, 13) == 0, "13 is retired");
+        assert!(decimals(&others).iter().flatten().all(|&count| count >= 9), "{:?}", decimals(&others));
         for number in [1, 2, 3, 4, 5, 9, 10, 11, 12] {
             assert!(refused(&merges, number) >= 3, "refusal {number} of a merge");
         }
@@ -196,6 +198,23 @@ mod tests {
         for answer in [[0, 0], [0, INT8.into()], [9, 0], [10, 0]] {
             assert!(of_null.iter().filter(|&&other| other == answer).count() >= 3, "{answer:?} to Null");
         }
+    }
+
+    /// How many Decimals on the left of an integer type stay and become others in the supertype, and how many on the
+    /// right.
+    fn decimals(lines: &[Line]) -> [[usize; 2]; 2] {
+        let (decimal, is_integer) = (u64::from(DECIMAL), |kind| (UINT8.into()..=INT128.into()).contains(&kind));
+        let mut counts = [[0; 2]; 2];
+        for line in lines {
+            let &[SUPERTYPE, 1, left, 1, x, 1, right, 1, y, ..] = &line.call[..] else { continue };
+            let &[0, 1, _, result] = &line.answer[..] else { continue };
+            if left == decimal && is_integer(right) {
+                counts[0][usize::from(result != x)] += 1;
+            } else if is_integer(left) && right == decimal {
+                counts[1][usize::from(result != y)] += 1;
+            }
+        }
+        counts
     }
 
     /// How many lines have this refusal.

@@ -1,6 +1,8 @@
 use std::fmt;
 
 /// Why a call is refused. Of several causes that apply, the one with the lowest number is given.
+///
+/// 13 is retired: it was given for a Decimal with an integer type in a supertype call, and is never given again.
 #[derive(Debug, Clone, Copy, PartialEq, Eq, Hash)]
 pub enum Error {
     /// No node, too many nodes, a flat type's two lengths differ, or an encoded type's length is under 2 or doesn't
@@ -28,13 +30,11 @@ pub enum Error {
     NotAnInteger = 11,
     /// The channel's type and the one merged into it are unequal, and their lossless upcast is None.
     NoUpcast = 12,
-    /// A Decimal with an integer type in a supertype call.
-    DecimalWithInteger = 13,
 }
 
 impl Error {
     /// Every cause, in the order of their numbers.
-    pub const ALL: [Error; 13] = [
+    pub const ALL: [Error; 12] = [
         Error::Length,
         Error::Kind,
         Error::Argument,
@@ -47,10 +47,9 @@ impl Error {
         Error::ChannelCode,
         Error::NotAnInteger,
         Error::NoUpcast,
-        Error::DecimalWithInteger,
     ];
 
-    /// The cause's number, 1 to 13.
+    /// The cause's number, 1 to 12.
     pub const fn number(self) -> u64 {
         self as u64
     }
@@ -60,7 +59,7 @@ impl Error {
     /// ```
     /// use lomzegash::Error;
     /// assert_eq!(Error::from_number(4), Some(Error::Shape));
-    /// assert_eq!(Error::from_number(0), None);
+    /// assert_eq!([0, 13].map(Error::from_number), [None; 2]);
     /// ```
     pub fn from_number(number: u64) -> Option<Error> {
         Error::ALL.into_iter().find(|error| error.number() == number)
@@ -86,7 +85,6 @@ impl fmt::Display for Error {
             Error::ChannelCode => "addressed channel holds neither 0 nor 2 to 11",
             Error::NotAnInteger => "offered type not an integer code 2 to 11",
             Error::NoUpcast => "in an offer, held and offered are unequal integers whose upcast is None",
-            Error::DecimalWithInteger => "Decimal with an integer code 2 to 11 in a supertype call",
         })
     }
 }

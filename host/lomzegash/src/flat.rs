@@ -125,8 +125,20 @@ pub fn get_numeric_upcast_supertype_lossless(left: Nodes, right: Nodes, out: Out
 /// Writes the type that both can be cast to, and gives its number of nodes, as
 /// [`crate::supertype::get_supertype_with_options`] does on encoded types.
 ///
-/// Refused by numbers 1 to 5 of the left type, then of the right, by [`Error::Nested`] where either is nested, by
-/// [`Error::DecimalWithInteger`], then by [`Error::OutputTooShort`]; a None or a refused call writes nothing.
+/// Refused by numbers 1 to 5 of the left type, then of the right, by [`Error::Nested`] where either is nested, then by
+/// [`Error::OutputTooShort`]; a None or a refused call writes nothing.
+///
+/// ```
+/// use lomzegash::flat::get_supertype_with_options;
+/// use lomzegash::kind::{DECIMAL, INT32};
+/// use lomzegash::supertype::SuperTypeOptions;
+///
+/// let (mut kinds, mut args) = ([9; 2], [9; 2]);
+/// let (reading, counter) = ((&[DECIMAL][..], &[256 * 2 + 10][..]), (&[INT32][..], &[0][..]));
+/// let out = (&mut kinds[..], &mut args[..]);
+/// assert_eq!(get_supertype_with_options(reading, counter, SuperTypeOptions::OFF, out), Ok(Some(1)));
+/// assert_eq!((kinds, args), ([DECIMAL, 9], [256 * 2 + 38, 9]));
+/// ```
 #[inline]
 pub fn get_supertype_with_options(
     left: Nodes,

@@ -73,8 +73,12 @@ pub fn get_numeric_upcast_supertype_lossless(
 /// Writes the type that both can be cast to, with loss where the source takes it for reasonable; None where there is
 /// none. Not every answer is the same with left and right exchanged.
 ///
-/// Refused by numbers 1 to 5 of the left type, then of the right, by [`Error::Nested`] where either is nested, by
-/// [`Error::DecimalWithInteger`], then by [`Error::OutputTooShort`].
+/// Of a Decimal and an integer type, in either order, it is a Decimal of the same scale: of the same precision where
+/// the type's largest number has at most as many digits as the Decimal has before its point, else of precision 38, as
+/// always beside UInt128 and Int128.
+///
+/// Refused by numbers 1 to 5 of the left type, then of the right, by [`Error::Nested`] where either is nested, then by
+/// [`Error::OutputTooShort`].
 ///
 /// ```
 /// use lomzegash::kind::{FLOAT64, INT32, UINT64};
@@ -84,6 +88,21 @@ pub fn get_numeric_upcast_supertype_lossless(
 /// let mut out = [9; 12];
 /// assert_eq!(get_supertype_with_options(&old, &new, SuperTypeOptions::OFF, &mut out), Ok(Some(11)));
 /// assert_eq!(out, [1, 0, FLOAT64, 0, 0, 0, 0, 0, 0, 0, 0, 9]);
+/// ```
+///
+/// Readings with two digits behind the point, joined with counters of 16 bits and of 32:
+///
+/// ```
+/// use lomzegash::kind::{DECIMAL, INT32, UINT16};
+/// use lomzegash::supertype::{get_supertype_with_options, SuperTypeOptions};
+///
+/// let [reading, small, large] = [(DECIMAL, 256 * 2 + 10), (UINT16, 0), (INT32, 0)]
+///     .map(|(kind, arg)| lomzegash::encode_to_vec(&[kind], &[arg]).unwrap());
+/// let mut out = [9; 11];
+/// assert_eq!(get_supertype_with_options(&reading, &small, SuperTypeOptions::OFF, &mut out), Ok(Some(11)));
+/// assert_eq!(out, [1, 0, DECIMAL, 10, 2, 0, 0, 0, 0, 0, 0]);
+/// assert_eq!(get_supertype_with_options(&large, &reading, SuperTypeOptions::OFF, &mut out), Ok(Some(11)));
+/// assert_eq!(out, [1, 0, DECIMAL, 38, 2, 0, 0, 0, 0, 0, 0]);
 /// ```
 #[inline]
 pub fn get_supertype_with_options(

@@ -40,8 +40,8 @@ const KINDS: [(u8, &str); 32] = [
     (FIELD, "field"),
 ];
 
-/// Document 01's causes from 1 to 13, but for the limits, which stand in the proved code alone.
-const ERRORS: [(Error, &str, &str); 13] = [
+/// Document 01's causes from 1 to 12, but for the limits, which stand in the proved code alone.
+const ERRORS: [(Error, &str, &str); 12] = [
     (
         Error::Length,
         "Length",
@@ -58,7 +58,6 @@ const ERRORS: [(Error, &str, &str); 13] = [
     (Error::ChannelCode, "ChannelCode", "addressed channel holds neither 0 nor 2 to 11"),
     (Error::NotAnInteger, "NotAnInteger", "offered type not an integer code 2 to 11"),
     (Error::NoUpcast, "NoUpcast", "in an offer, held and offered are unequal integers whose upcast is None"),
-    (Error::DecimalWithInteger, "DecimalWithInteger", "Decimal with an integer code 2 to 11 in a supertype call"),
 ];
 
 #[test]
@@ -76,7 +75,8 @@ fn each_error_has_its_number_and_its_text() {
         assert_eq!((format!("{error:?}"), error.to_string()), (name.to_owned(), text.to_owned()));
     }
     assert_eq!(Error::ALL, ERRORS.map(|(error, _, _)| error));
-    assert_eq!([0, 14, u64::MAX].map(Error::from_number), [None; 3]);
+    // 13 is retired.
+    assert_eq!([0, 13, 14, u64::MAX].map(Error::from_number), [None; 4]);
 }
 
 #[test]

@@ -1,5 +1,5 @@
 //! Document 01's rules for flat types, stored sheets, inner types and the season record, in plain Rust, the last with
-//! what change request One makes of it.
+//! what change request One makes of it; and change request Two's Decimals beside integer types.
 //!
 //! Written from the documents alone, with limits, codes and refusals of its own: the tests compare the proved code with
 //! it, and the benchmark times the two side by side.
@@ -9,6 +9,7 @@
 
 pub mod by_kinds;
 pub mod channels;
+pub mod decimals;
 pub mod inner;
 pub mod sheet;
 

@@ -15,7 +15,7 @@ use std::fmt::{Debug, Display};
 /// What is said where there is nothing to compare with.
 pub const NO_ORACLE: &str = "no source of polars-core at hand: the port was not compared with the crate";
 
-/// How many comparisons came to each number from 0, success, to 13.
+/// How many comparisons came to each number from 0, success, to 13, which is retired: none comes to it.
 pub type Numbers = [u64; 14];
 
 /// Compares, and counts the comparisons by the number that they came to, and those of two types by what they said.
@@ -24,6 +24,7 @@ pub struct Differential {
     of_number: Numbers,
     said: [[u64; 3]; RELATIONS.len()],
     pub(crate) reported: [u64; JoinReport::ALL.len()],
+    pub(crate) decimals: [u64; 2],
     pub(crate) bytes: Vec<u8>,
     pub(crate) kinds: Vec<u8>,
     pub(crate) args: Vec<u64>,
@@ -78,6 +79,9 @@ impl Differential {
         if self.reported != [0; JoinReport::ALL.len()] {
             println!("  {:?} were reported: {:?}", JoinReport::ALL, self.reported);
         }
+        if self.decimals != [0; 2] {
+            println!("  Decimals joined with integer types stayed, became others: {:?}", self.decimals);
+        }
         self.of_number
     }
 
@@ -89,6 +93,11 @@ impl Differential {
     /// How often each report was given.
     pub fn reported(&self) -> [u64; JoinReport::ALL.len()] {
         self.reported
+    }
+
+    /// How often the supertype of a Decimal and an integer type was the Decimal itself, and another type.
+    pub fn decimals(&self) -> [u64; 2] {
+        self.decimals
     }
 
     fn predicate(&mut self, predicate: &Predicate, input: &Input) {

@@ -1,8 +1,11 @@
 //! The entry points that join two types, compared as the others are.
 
 use crate::differential::Differential;
+use crate::entries::Outcome;
 use crate::input::{Input, Shown};
 use crate::joins::{report, Join};
+use crate::ranges;
+use lomzegash::kind::DECIMAL;
 use lomzegash::supertype;
 use std::ops::Range;
 
@@ -28,6 +31,7 @@ impl Differential {
         let nodes = left.nodes().zip(right.nodes());
         for join in joins {
             let outcome = join.outcome(left, right);
+            self.count_decimal(left, right, &outcome);
             for place in places.clone() {
                 self.write_bytes(format_args!("{join:?}"), &outcome, BYTES[place % BYTES.len()], |out| {
                     join.on_bytes(&left.bytes, &right.bytes, out)
@@ -39,6 +43,17 @@ impl Differential {
             }
         }
         self.report_of(left, right);
+    }
+
+    /// Counts a Decimal that was joined with an integer type, by whether it is itself the result.
+    fn count_decimal(&mut self, left: &Input, right: &Input, outcome: &Outcome) {
+        let Outcome::Written(result) = outcome else { return };
+        let decimal = match (left.root(), right.root()) {
+            (DECIMAL, kind) if ranges::is_integer(kind) => left,
+            (kind, DECIMAL) if ranges::is_integer(kind) => right,
+            _ => return,
+        };
+        self.decimals[usize::from(*result != decimal.bytes)] += 1;
     }
 
     fn report_of(&mut self, left: &Input, right: &Input) {

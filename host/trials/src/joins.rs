@@ -4,7 +4,6 @@ use crate::entries::Outcome;
 use crate::input::{types, Input};
 use crate::ranges;
 use lomzegash::flat::{self, Nodes, Output};
-use lomzegash::kind::DECIMAL;
 use lomzegash::supertype::{self, JoinReport, SuperTypeOptions};
 use lomzegash::Error;
 use oracle::Type;
@@ -54,24 +53,12 @@ impl Join {
         };
         let dtype = match self {
             Join::Lossless => types.0.get_numeric_upcast_supertype_lossless(types.1),
-            Join::Supertype(options) => match refusal(left, right, types) {
-                Some(error) => return Outcome::Refused(error.number()),
-                None => of_crate(types, options),
-            },
+            Join::Supertype(_) if types.0.is_nested() || types.1.is_nested() => {
+                return Outcome::Refused(Error::Nested.number());
+            }
+            Join::Supertype(options) => of_crate(types, options),
         };
         dtype.map_or(Outcome::None, |dtype| Outcome::Written(dtype.encode()))
-    }
-}
-
-/// Refusals 6 and 13 of two types.
-fn refusal(left: &Input, right: &Input, types: (&Type, &Type)) -> Option<Error> {
-    let is_13 = |one: &Input, other: &Input| one.root() == DECIMAL && ranges::is_integer(other.root());
-    if types.0.is_nested() || types.1.is_nested() {
-        Some(Error::Nested)
-    } else if is_13(left, right) || is_13(right, left) {
-        Some(Error::DecimalWithInteger)
-    } else {
-        None
     }
 }
 

@@ -46,15 +46,19 @@ pub fn every() -> Vec<(u8, u64)> {
         leaves.push((DURATION, unit));
         leaves.extend(ZONES.map(|zone| (DATETIME, 4 * zone + unit)));
     }
-    for precision in 1..=38 {
-        leaves.extend((0..=precision).map(|scale| (DECIMAL, 256 * scale + precision)));
-    }
+    leaves.extend(decimals());
     for value in around_powers_of_two() {
         leaves.push((UNKNOWN_INT_POS, value));
         leaves.extend(value.checked_sub(1).map(|arg| (UNKNOWN_INT_NEG, arg)));
     }
     leaves.push((UNKNOWN_INT_NEG, u64::MAX));
     leaves
+}
+
+/// Every Decimal: of each precision from 1 to 38 those with the scales from 0 to the precision.
+pub fn decimals() -> Vec<(u8, u64)> {
+    let of = |precision| (0..=precision).map(move |scale| (DECIMAL, 256 * scale + precision));
+    (1..=38).flat_map(of).collect()
 }
 
 /// Every number of 64 bits that is a power of two, one less or one more.

@@ -1,5 +1,5 @@
 //! Corners 1 to 18 of document 01, by its own words: of the port, and of the crate's text where the crate has the rule.
-//! And change request One's sentences.
+//! And the sentences of change requests One and Two.
 
 use lomzegash::dtype;
 use lomzegash::kind::*;
@@ -62,6 +62,10 @@ of_both! {
     corner_15_what_becomes_of_unknown_types
     corner_16_the_physical_forms
     corner_17_leaf_types_and_shapes
+    request_2_the_decimal_keeps_its_precision_or_gets_38
+    request_2_the_digit_counts
+    request_2_the_128_bit_types_always_give_38
+    request_2_boolean_with_decimal_has_no_supertype
 }
 
 const YES: Option<bool> = Some(true);
@@ -114,6 +118,10 @@ fn dyn_int(value: i128) -> Flat {
 
 fn datetime(unit: u64, zone: u64) -> Flat {
     Flat::new(&[(DATETIME, 4 * zone + unit)])
+}
+
+fn decimal(precision: u64, scale: u64) -> Flat {
+    Flat::new(&[(DECIMAL, 256 * scale + precision)])
 }
 
 /// What a join of two types is; None where there is none.
@@ -302,31 +310,34 @@ fn int32_with_uint64(who: Who) {
     joins(who, Join::Lossless, &old, &new, Some(&leaf(INT128)));
 }
 
-/// 6 comes before 13, which asks about the two types and not about what stands inside them, and 8 after both.
+/// 6 asks about the two types and not about what stands inside them, and 8 comes after it.
 #[test]
-fn refusals_6_13_and_8_of_the_supertype() {
-    let (decimal, int8) = (Flat::new(&[(DECIMAL, 256 * 2 + 10)]), leaf(INT8));
+fn refusals_6_and_8_of_the_supertype() {
+    let (decimal, int8) = (decimal(10, 2), leaf(INT8));
     let cases = [
         (&decimal, &list(&int8), Error::Nested),
         (&list(&decimal), &int8, Error::Nested),
         (&fields(0, std::slice::from_ref(&decimal)), &int8, Error::Nested),
         (&int8, &array(1, &decimal), Error::Nested),
-        (&decimal, &int8, Error::DecimalWithInteger),
-        (&int8, &decimal, Error::DecimalWithInteger),
         (&decimal, &leaf(FLOAT64), Error::OutputTooShort),
         (&int8, &leaf(INT16), Error::OutputTooShort),
     ];
-    for join in &joins::JOINS[1..] {
-        for (left, right, error) in cases {
-            let answer = join.on_bytes(&left.laid_out(), &right.laid_out(), &mut []);
-            assert_eq!(answer, Err(error), "{join:?} of {left:?} and {right:?}");
-        }
+    for (left, right, error) in cases {
+        refused_without_room(left, right, error);
     }
 }
 
-/// It isn't a supertype call in the sense of 6 and 13.
+/// The refusal of the supertype, whatever the flags, of a call that has no output.
+fn refused_without_room(left: &Flat, right: &Flat, error: Error) {
+    for join in &joins::JOINS[1..] {
+        let answer = join.on_bytes(&left.laid_out(), &right.laid_out(), &mut []);
+        assert_eq!(answer, Err(error), "{join:?} of {left:?} and {right:?}");
+    }
+}
+
+/// It isn't a supertype call in the sense of 6.
 fn the_lossless_upcast_takes_any_two_types(who: Who) {
-    let (decimal, int8) = (Flat::new(&[(DECIMAL, 256 * 2 + 10)]), leaf(INT8));
+    let (decimal, int8) = (decimal(10, 2), leaf(INT8));
     let without = [
         (&decimal, &int8),
         (&int8, &decimal),
@@ -571,6 +582,77 @@ fn request_1_what_null_is_refused_by() {
         merges(holding(5, byte), 6, &leaf(NULL), Ok(0));
     }
     merges(holding(5, UINT128), 5, &leaf(NULL), Ok(UINT128));
+}
+
+/// The supertype of a Decimal, by precision and scale, and an integer type, in either order, has this precision.
+fn beside_integer(who: Who, (precision, scale): (u64, u64), integer: u8, expected: u64) {
+    let (dtype, integer, expected) = (decimal(precision, scale), leaf(integer), decimal(expected, scale));
+    supertype(who, &dtype, &integer, &expected);
+    supertype(who, &integer, &dtype, &expected);
+}
+
+/// "The Decimal keeps its precision p and scale s where the integer type's largest value has at most p − s digits, else
+/// its precision becomes 38."
+fn request_2_the_decimal_keeps_its_precision_or_gets_38(who: Who) {
+    beside_integer(who, (10, 2), INT32, 38);
+    beside_integer(who, (12, 2), INT32, 12);
+    beside_integer(who, (38, 20), INT64, 38);
+    beside_integer(who, (37, 30), INT64, 38);
+    beside_integer(who, (5, 0), UINT16, 5);
+    beside_integer(who, (4, 0), UINT16, 38);
+    beside_integer(who, (1, 1), INT8, 38);
+}
+
+/// "The digit counts are 3 for 8-bit types, 5 for 16, 10 for 32, 19 for Int64 and 20 for UInt64."
+fn request_2_the_digit_counts(who: Who) {
+    let counts = [(UINT8, 3), (INT8, 3), (UINT16, 5), (INT16, 5), (UINT32, 10), (INT32, 10), (INT64, 19), (UINT64, 20)];
+    for (integer, digits) in counts {
+        for scale in [0, 1, 38 - digits] {
+            beside_integer(who, (digits + scale, scale), integer, digits + scale);
+            beside_integer(who, (digits + scale - 1, scale), integer, 38);
+        }
+    }
+}
+
+/// "The 128-bit types always give 38."
+fn request_2_the_128_bit_types_always_give_38(who: Who) {
+    for of in [(1, 0), (1, 1), (10, 2), (37, 0), (38, 0), (38, 38)] {
+        beside_integer(who, of, UINT128, 38);
+        beside_integer(who, of, INT128, 38);
+    }
+}
+
+/// The arm is one of integer types alone.
+fn request_2_boolean_with_decimal_has_no_supertype(who: Who) {
+    for to_string in [false, true] {
+        supertype_where(who, to_string, &decimal(10, 2), &leaf(BOOLEAN), None);
+        supertype_where(who, to_string, &leaf(BOOLEAN), &decimal(10, 2), None);
+    }
+}
+
+/// "Refused: nothing added; 13 no longer occurs." A Decimal with an integer type meets 1 to 5, the left type's first,
+/// and 8.
+#[test]
+fn request_2_what_a_decimal_with_an_integer_is_refused_by() {
+    let no_decimals = [
+        (Flat::default(), Error::Length),
+        (Flat::new(&[(DECIMAL, 10), (FIELD + 1, 0)]), Error::Kind),
+        (decimal(39, 2), Error::Argument),
+        (decimal(2, 3), Error::Argument),
+        (Flat::new(&[(DECIMAL, 10), (DECIMAL, 10)]), Error::Shape),
+        (Flat::repeated(&[(LIST, 0)], 33, &decimal(10, 2)), Error::Depth),
+    ];
+    let no_integer = Flat::new(&[(INT32, 1)]);
+    for (no_decimal, error) in &no_decimals {
+        refused_without_room(no_decimal, &leaf(INT32), *error);
+        refused_without_room(&leaf(INT32), no_decimal, *error);
+        refused_without_room(no_decimal, &no_integer, *error);
+        refused_without_room(&no_integer, no_decimal, Error::Argument);
+    }
+    for integer in (UINT8..=INT128).map(leaf) {
+        refused_without_room(&decimal(10, 2), &integer, Error::OutputTooShort);
+        refused_without_room(&integer, &decimal(10, 2), Error::OutputTooShort);
+    }
 }
 
 /// Of several refusals that apply the lowest number is given: 1 to 5 of the type, then 9, 10 and 11.

@@ -44,10 +44,11 @@ fn every_pair_of_types_of_one_node() {
     let (all, nested) = (count(|_| true), count(|kind| kind == STRUCT));
     // The supertype is asked for eight times: on encoded types and on flat ones, with two flags.
     assert_eq!(of_number[6], 8 * (2 * all * nested - nested * nested));
-    assert_eq!(of_number[13], 8 * 2 * count(|kind| kind == DECIMAL) * 10);
-    assert_eq!(of_number[0] + of_number[6] + of_number[13], 11 * all * all);
+    assert_eq!(of_number[0] + of_number[6], 11 * all * all);
     // Int8 to Int64 with UInt64; Int8 to Int128 with UInt128.
     assert_eq!(differential.reported(), [100 - 8 - 10, 8, 10, all * all - 100]);
+    // Each Decimal with each integer type, in either order, with two flags.
+    assert_eq!(differential.decimals().iter().sum::<u64>(), 2 * 4 * 10 * count(|kind| kind == DECIMAL));
 }
 
 /// One of each behaviour, and the arguments on which a rule turns.
@@ -57,9 +58,10 @@ fn every_length_of_output() {
     let integers = (UINT8..=INT128).map(|kind| (kind, 0));
     let dyns = [(UNKNOWN_INT_POS, 300), (UNKNOWN_INT_POS, 1 << 63), (UNKNOWN_INT_NEG, 1 << 63)];
     let all: Vec<_> = leaves::FEW.into_iter().chain(integers).chain(dyns).collect();
-    let (_, of_number) = each_pair("joins into every length", &one_node(&all), EVERY_LENGTH);
-    assert!([0, 6, 8, 13].iter().all(|&number| of_number[number] > 1000));
-    assert_eq!(of_number[1..6], [0; 5]);
+    let (differential, of_number) = each_pair("joins into every length", &one_node(&all), EVERY_LENGTH);
+    assert!([0, 6, 8].iter().all(|&number| of_number[number] > 1000));
+    assert!(of_number[1..6] == [0; 5] && of_number[13] == 0);
+    assert!(differential.decimals().iter().all(|&count| count > 100));
 }
 
 /// Nested types with leaves and with each other; what stands inside them counts for nothing.
@@ -86,8 +88,9 @@ fn what_is_no_type_is_refused_the_left_first() {
     ];
     let types = [Flat::int8(), Flat::new(&[(DECIMAL, 10)]), Flat::lists(1)];
     let all: Vec<Flat> = no_types.into_iter().chain(types).collect();
-    let (_, of_number) = each_pair("joins of what is no type", &all, EVERY_LENGTH);
-    assert!(of_number[..7].iter().all(|&count| count > 100) && of_number[13] > 50);
+    let (differential, of_number) = each_pair("joins of what is no type", &all, EVERY_LENGTH);
+    assert!(of_number[..7].iter().all(|&count| count > 100) && of_number[13] == 0);
+    assert_eq!(differential.decimals(), [2 * 4, 0]);
 }
 
 /// Flat types have a refusal that encoded ones don't have: kinds and arguments of unequal number.
@@ -123,8 +126,9 @@ fn joins_as_the_long_run_draws_them() {
         draw::join_leaves(&mut differential, &mut random);
     }
     let of_number = differential.report("joins as the long run draws them");
-    assert!([0, 1, 2, 3, 4, 6, 8, 13].iter().all(|&number| of_number[number] > 500));
+    assert!([0, 1, 2, 3, 4, 6, 8].iter().all(|&number| of_number[number] > 500) && of_number[13] == 0);
     assert!(differential.reported().iter().all(|&count| count > 500));
+    assert!(differential.decimals().iter().all(|&count| count > 500));
 }
 
 /// Both rules in one state of the flags, and the report, of random types of every size and of damaged ones.

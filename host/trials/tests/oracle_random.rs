@@ -126,7 +126,8 @@ fn types_as_the_long_run_draws_them() {
         draw::round(&mut differential, &mut random);
     }
     let of_number = differential.report("types as the long run draws them");
-    assert!([0, 1, 2, 3, 4, 6, 7, 8, 13].iter().all(|&number| of_number[number] > 1000));
+    assert!([0, 1, 2, 3, 4, 6, 7, 8].iter().all(|&number| of_number[number] > 1000) && of_number[13] == 0);
+    assert!(differential.decimals().iter().all(|&count| count > 1000));
 }
 
 fn both_ways(differential: &mut Differential, flat: &Flat, other: &Flat) {

@@ -54,13 +54,30 @@ const CORNERS: [(Leaf, Leaf); 36] = [
     ((UINT64, 0), (INT32, 0)),
 ];
 
-/// Each corner, every two kinds of leaves, and each refusal.
+/// Change request Two's rows: the argument of a Decimal, and the integer type that it is joined with.
+const DECIMALS: [(u64, u8); 8] = [
+    (256 * 2 + 10, INT32),
+    (256 * 2 + 12, INT32),
+    (256 * 20 + 38, INT64),
+    (256 * 30 + 37, INT64),
+    (5, UINT16),
+    (4, UINT16),
+    (38, UINT128),
+    (1, INT128),
+];
+
+/// The digits of an integer type's largest number, by that request.
+const DIGITS: [(u8, u64); 8] =
+    [(UINT8, 3), (UINT16, 5), (UINT32, 10), (UINT64, 20), (INT8, 3), (INT16, 5), (INT32, 10), (INT64, 19)];
+
+/// Each corner, every two kinds of leaves, each refusal, and Decimals with integer types.
 pub fn chosen(answers: &mut Answers) {
     for (left, right) in CORNERS {
         all(answers, &Flat::new(&[left]), &Flat::new(&[right]));
     }
     leaves(answers);
     refusals(answers);
+    decimals(answers);
 }
 
 /// Both rules and the report on two types of their own.
@@ -113,7 +130,7 @@ fn argument(kind: u8, side: usize) -> u64 {
     arguments[side]
 }
 
-/// What is no type, the left first; nested types; a Decimal with integer types; and outputs that are too short.
+/// What is no type, the left first; nested types; and outputs that are too short.
 fn refusals(answers: &mut Answers) {
     let (good, bad) = (Flat::int8(), no_types());
     for (flat, other) in bad.iter().zip(bad.iter().rev()) {
@@ -127,13 +144,28 @@ fn refusals(answers: &mut Answers) {
         in_every_room(answers, &nested, &good);
         in_every_room(answers, &decimal, &nested);
     }
-    for kind in UINT8..=INT128 {
-        let integer = Flat::new(&[(kind, 0)]);
-        answers.join(JOINS[4], &decimal, &integer, |_| 0);
-        answers.join(JOINS[1], &integer, &decimal, |nodes| nodes);
-    }
     in_every_room(answers, &good, &Flat::new(&[(INT16, 0)]));
     in_every_room(answers, &good, &Flat::new(&[(TIME, 0)]));
+}
+
+/// In either order: the rows of the request; then with as many digits before the point as each type needs and with one
+/// less, of the least scale and of the most.
+fn decimals(answers: &mut Answers) {
+    for (arg, kind) in DECIMALS {
+        let (decimal, integer) = (Flat::new(&[(DECIMAL, arg)]), Flat::new(&[(kind, 0)]));
+        all(answers, &decimal, &integer);
+        all(answers, &integer, &decimal);
+        in_every_room(answers, &decimal, &integer);
+    }
+    for (kind, digits) in DIGITS {
+        for scale in [0, 38 - digits] {
+            for precision in [digits + scale, digits + scale - 1] {
+                let (decimal, integer) = (Flat::new(&[(DECIMAL, 256 * scale + precision)]), Flat::new(&[(kind, 0)]));
+                answers.join(JOINS[4], &decimal, &integer, |nodes| nodes);
+                answers.join(JOINS[1], &integer, &decimal, |nodes| nodes);
+            }
+        }
+    }
 }
 
 fn in_every_room(answers: &mut Answers, left: &Flat, right: &Flat) {

@@ -222,7 +222,7 @@ mod tests {
     #[test]
     fn any_other_reply_is_ruled_out() {
         assert!(is_ruled_out(|| Reply { number: 8, value: 1 }.result()));
-        assert!(is_ruled_out(|| refused(14).result()));
+        assert!([13, 14].iter().all(|&number| is_ruled_out(move || refused(number).result())));
         assert!(is_ruled_out(|| value(1).nothing()));
         assert!(is_ruled_out(|| value(2).yes_or_no()));
         assert!(is_ruled_out(|| value(3).verdict()));
@@ -236,6 +236,6 @@ mod tests {
         assert!(is_ruled_out(|| shape(0, 1, &[3, 4]).result()));
         assert!(is_ruled_out(|| shape(0, 33, &[]).result()));
         assert!(is_ruled_out(|| shape(5, 1, &[3]).result()));
-        assert!(is_ruled_out(|| shape(14, 0, &[]).result()));
+        assert!([13, 14].iter().all(|&number| is_ruled_out(move || shape(number, 0, &[]).result())));
     }
 }

@@ -1,4 +1,5 @@
-//! Types come and go unchanged, and every corner of document 01 is what the crate's text answers.
+//! Types come and go unchanged, and every corner of document 01 is what the crate's text answers, and so are change
+//! request Two's rows.
 
 mod dtype;
 mod round_trip;

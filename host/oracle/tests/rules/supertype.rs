@@ -1,4 +1,4 @@
-//! Corners 1 to 10, the lossless upcast and the time units.
+//! Corners 1 to 10, the lossless upcast and the time units; and change request Two's Decimals beside integer types.
 
 use crate::types::*;
 
@@ -107,6 +107,52 @@ fn corner_10_datetimes_of_different_zones() {
         }
     }
     supertypes(&[(datetime(0, 1), datetime(2, 1), datetime(2, 1)), (datetime(1, 0), datetime(0, 0), datetime(1, 0))]);
+}
+
+/// The supertype of a Decimal, by precision and scale, and an integer type, in either order, has this precision.
+fn beside_integer((precision, scale): (u64, u64), integer: u8, expected: u64) {
+    let (dtype, integer, expected) = (decimal(precision, scale), plain(integer), decimal(expected, scale));
+    supertypes(&[(dtype.clone(), integer.clone(), expected.clone()), (integer, dtype, expected)]);
+}
+
+/// Int64's largest number with 20 or 30 digits behind its point is past 128 bits.
+#[test]
+#[cfg_attr(not(polars_src), ignore = "no text of polars-core 0.55.2")]
+fn request_2_a_decimal_keeps_its_precision_or_gets_38() {
+    beside_integer((10, 2), INT32, 38);
+    beside_integer((12, 2), INT32, 12);
+    beside_integer((38, 20), INT64, 38);
+    beside_integer((37, 30), INT64, 38);
+    beside_integer((5, 0), UINT16, 5);
+    beside_integer((4, 0), UINT16, 38);
+    for to_string in [false, true] {
+        assert_eq!(supertype(&decimal(10, 2), &plain(BOOLEAN), to_string), None);
+        assert_eq!(supertype(&plain(BOOLEAN), &decimal(10, 2), to_string), None);
+    }
+}
+
+/// Whatever the Decimal.
+#[test]
+#[cfg_attr(not(polars_src), ignore = "no text of polars-core 0.55.2")]
+fn request_2_the_128_bit_types_always_give_38() {
+    for precision in 1..=38 {
+        for scale in 0..=precision {
+            [UINT128, INT128].into_iter().for_each(|integer| beside_integer((precision, scale), integer, 38));
+        }
+    }
+}
+
+/// With as many digits before the point as the request counts, and with one less.
+#[test]
+#[cfg_attr(not(polars_src), ignore = "no text of polars-core 0.55.2")]
+fn request_2_the_digit_counts() {
+    let counts = [(UINT8, 3), (INT8, 3), (UINT16, 5), (INT16, 5), (UINT32, 10), (INT32, 10), (INT64, 19), (UINT64, 20)];
+    for (integer, digits) in counts {
+        for scale in 0..=38 - digits {
+            beside_integer((digits + scale, scale), integer, digits + scale);
+            beside_integer((digits + scale - 1, scale), integer, 38);
+        }
+    }
 }
 
 /// The probes of tank 7 and tank 9.

@@ -9,6 +9,7 @@ pub const NULL: u8 = 0;
 pub const BOOLEAN: u8 = 1;
 pub const UINT8: u8 = 2;
 pub const UINT16: u8 = 3;
+pub const UINT32: u8 = 4;
 pub const UINT64: u8 = 5;
 pub const UINT128: u8 = 6;
 pub const INT8: u8 = 7;

@@ -50,7 +50,6 @@ static void constants(void) {
     MUST(LZ_CHANNEL_CODE == 10);
     MUST(LZ_NOT_AN_INTEGER == 11);
     MUST(LZ_NO_UPCAST == 12);
-    MUST(LZ_DECIMAL_WITH_INTEGER == 13);
     MUST(LZ_CHANNELS == 32);
     MUST(LZ_JOIN_KEPT == 0);
     MUST(LZ_JOIN_AVOIDABLE == 1);
@@ -154,7 +153,6 @@ static void joins(void) {
     MUST(out[0] == 1 && out[2] == 0x0B && out[10] == 0 && out[11] == 9);
 
     MUST(is(lz_get_supertype_with_options(LENT(decimal), LENT(list), 0, 0, LENT(out)), LZ_NESTED, 0));
-    MUST(is(lz_get_supertype_with_options(LENT(decimal), LENT(int32), 0, 0, out, 0), LZ_DECIMAL_WITH_INTEGER, 0));
     MUST(is(lz_get_supertype_with_options(LENT(int32), LENT(uint64), 0, 0, out, 10), LZ_OUTPUT_TOO_SHORT, 0));
     MUST(out[2] == 0x0B);
     MUST(is(lz_get_supertype_with_options(LENT(int32), LENT(uint64), 1, 1, LENT(out)), LZ_OK, 11) && out[2] == 0x0E);
@@ -163,6 +161,31 @@ static void joins(void) {
     MUST(is(lz_join_report(LENT(int32), LENT(uint64)), LZ_OK, LZ_JOIN_AVOIDABLE));
     MUST(is(lz_join_report(LENT(uint128), LENT(int32)), LZ_OK, LZ_JOIN_UNAVOIDABLE));
     MUST(is(lz_join_report(LENT(list), LENT(int32)), LZ_OK, LZ_JOIN_NOT_INTEGERS));
+}
+
+/* Decimal(10, 2) stays beside Int8, whose largest number has 3 digits, and becomes Decimal(38, 2) beside Int32, whose
+ * largest has 10: in either order, and with a byte behind the result. */
+static void decimal_joins(void) {
+    const uint8_t wide[11] = {0x01, 0x00, 0x0F, 0x26, 0x02};
+    uint8_t out[12], expected[12];
+    memset(out, 9, sizeof out);
+    memset(expected, 9, sizeof expected);
+
+    MUST(is(lz_get_supertype_with_options(LENT(decimal), LENT(int32), 0, 0, out, 10), LZ_OUTPUT_TOO_SHORT, 0));
+    MUST(is(lz_get_supertype_with_options(LENT(boolean), LENT(decimal), 0, 0, LENT(out)), LZ_OK, 0));
+    MUST(memcmp(out, expected, sizeof out) == 0);
+    memcpy(expected, decimal, sizeof decimal);
+    MUST(is(lz_get_supertype_with_options(LENT(decimal), LENT(int8), 0, 0, LENT(out)), LZ_OK, 11));
+    MUST(memcmp(out, expected, sizeof out) == 0);
+    memset(out, 9, sizeof out);
+    MUST(is(lz_get_supertype_with_options(LENT(int8), LENT(decimal), 1, 0, LENT(out)), LZ_OK, 11));
+    MUST(memcmp(out, expected, sizeof out) == 0);
+    memcpy(expected, wide, sizeof wide);
+    MUST(is(lz_get_supertype_with_options(LENT(decimal), LENT(int32), 0, 1, LENT(out)), LZ_OK, 11));
+    MUST(memcmp(out, expected, sizeof out) == 0);
+    memset(out, 9, sizeof out);
+    MUST(is(lz_get_supertype_with_options(LENT(int32), LENT(decimal), 1, 1, LENT(out)), LZ_OK, 11));
+    MUST(memcmp(out, expected, sizeof out) == 0);
 }
 
 /* The rules on flat types, of List(Unknown(Str)), List(String) and List(Date). */
@@ -221,6 +244,31 @@ static void flat_joins(void) {
     reply = lz_flat_get_numeric_upcast_supertype_lossless(LENT(byte), LENT(zero), LENT(word), LENT(zero), kinds, 1,
                                                           args, 1);
     MUST(is(reply, LZ_OK, 1) && kinds[0] == 8 && args[0] == 0);
+}
+
+/* Decimal(10, 2) with Int8 and with Int32, as above. */
+static void flat_decimal_joins(void) {
+    const uint8_t reading[1] = {15}, byte[1] = {7}, counter[1] = {9};
+    const uint64_t zero[1] = {0}, of_10[1] = {2 * 256 + 10}, of_38 = 2 * 256 + 38;
+    uint8_t kinds[2] = {9, 9};
+    uint64_t args[2] = {9, 9};
+    lz_reply reply;
+
+    reply = lz_flat_get_supertype_with_options(LENT(reading), LENT(of_10), LENT(byte), LENT(zero), 0, 0, LENT(kinds),
+                                               args, 0);
+    MUST(is(reply, LZ_OUTPUT_TOO_SHORT, 0) && kinds[0] == 9 && args[0] == 9);
+    reply = lz_flat_get_supertype_with_options(LENT(reading), LENT(of_10), LENT(byte), LENT(zero), 0, 0, LENT(kinds),
+                                               LENT(args));
+    MUST(is(reply, LZ_OK, 1) && kinds[0] == 15 && kinds[1] == 9 && args[0] == of_10[0] && args[1] == 9);
+    reply = lz_flat_get_supertype_with_options(LENT(counter), LENT(zero), LENT(reading), LENT(of_10), 0, 1, LENT(kinds),
+                                               LENT(args));
+    MUST(is(reply, LZ_OK, 1) && kinds[0] == 15 && kinds[1] == 9 && args[0] == of_38 && args[1] == 9);
+    reply = lz_flat_get_supertype_with_options(LENT(byte), LENT(zero), LENT(reading), LENT(of_10), 1, 0, LENT(kinds),
+                                               LENT(args));
+    MUST(is(reply, LZ_OK, 1) && kinds[0] == 15 && kinds[1] == 9 && args[0] == of_10[0] && args[1] == 9);
+    reply = lz_flat_get_supertype_with_options(LENT(reading), LENT(of_10), LENT(counter), LENT(zero), 1, 1, LENT(kinds),
+                                               LENT(args));
+    MUST(is(reply, LZ_OK, 1) && kinds[0] == 15 && kinds[1] == 9 && args[0] == of_38 && args[1] == 9);
 }
 
 /* With a byte before the codes and one behind them. */
@@ -330,9 +378,11 @@ int main(void) {
     types_from_types();
     shapes_and_units();
     joins();
+    decimal_joins();
     flat_rules();
     flat_parts();
     flat_joins();
+    flat_decimal_joins();
     merges();
     null_merges();
     flat_merges();

@@ -3,6 +3,7 @@
 
 mod stack;
 
+use lomzegash::Error;
 use std::collections::BTreeSet;
 use std::env;
 use std::path::PathBuf;
@@ -22,7 +23,7 @@ const FFI: [&str; 5] = [
 ];
 
 /// Every constant of the header in its order, and what is said of it there. The caller in C holds them to their numbers.
-const CONSTANTS: [(&str, &str); 19] = [
+const CONSTANTS: [(&str, &str); 18] = [
     ("LZ_OK", ""),
     (
         "LZ_LENGTH",
@@ -39,7 +40,6 @@ const CONSTANTS: [(&str, &str); 19] = [
     ("LZ_CHANNEL_CODE", "the channel holds neither 0 nor 2 to 11"),
     ("LZ_NOT_AN_INTEGER", "the type is neither Null nor an integer type, codes 2 to 11"),
     ("LZ_NO_UPCAST", "no integer type holds the channel's numbers and the new type's"),
-    ("LZ_DECIMAL_WITH_INTEGER", "a Decimal with an integer type in a supertype call"),
     ("LZ_CHANNELS", ""),
     ("LZ_JOIN_KEPT", "the supertype keeps every whole number of both"),
     ("LZ_JOIN_AVOIDABLE", "it doesn't, and an integer type exists that holds both ranges"),
@@ -123,6 +123,22 @@ fn the_caller_holds_every_constant_to_its_number() {
 #[test]
 fn the_header_says_what_each_constant_means() {
     assert_eq!(constants(), CONSTANTS.map(|(name, meaning)| (name, meaning.to_owned())));
+}
+
+/// And no name has it: the numbers that have one are those of the safe crate.
+#[test]
+fn the_header_says_that_13_is_retired() {
+    let (_, rest) = HEADER.split_once("enum lz_error {").expect("the refusals");
+    let (refusals, _) = rest.split_once("};").expect("their end");
+    let digits = |rest: &str| rest.split(|c: char| !c.is_ascii_digit()).next().and_then(|digits| digits.parse().ok());
+    let numbers: Vec<u64> = refusals.split(" = ").skip(1).filter_map(digits).collect();
+    let errors = Error::ALL.map(Error::number);
+    assert_eq!(numbers, [&[0], &errors[..]].concat());
+    assert!(!numbers.contains(&13));
+    let said: Vec<&str> = refusals.split_whitespace().collect();
+    let retired =
+        "13 is retired: it was given for a Decimal with an integer type in a supertype call, and is never given";
+    assert!(said.join(" ").contains(&format!("/* {retired} again */")));
 }
 
 #[test]

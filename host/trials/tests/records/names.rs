@@ -2,7 +2,7 @@
 
 use crate::{entries, files, read, ROOT};
 use std::collections::HashSet;
-use std::path::{Path, PathBuf};
+use std::path::Path;
 
 /// The names in a text: letters, digits, `_` and `-`.
 fn names(text: &str) -> impl Iterator<Item = &str> {
