@@ -180,7 +180,8 @@ lz_reply lz_get_numeric_upcast_supertype_lossless(const uint8_t *left, size_t le
  * Each flag is off at 0 and else on. Of a Decimal and an integer type, codes 2 to 11, in either
  * order, it is a Decimal of the same scale: of the same precision where the type's largest number
  * has at most as many digits as the Decimal has before its point, else of precision 38, as always
- * beside UInt128 and Int128. Refused by 6 where either type is nested, then by 8.
+ * beside UInt128 and Int128. Where the integer type's largest number has more than 38 - scale
+ * digits, that number is lost. Refused by 6 where either type is nested, then by 8.
  */
 lz_reply lz_get_supertype_with_options(const uint8_t *left, size_t left_len,
                                        const uint8_t *right, size_t right_len,

@@ -21,7 +21,7 @@ fitsDec128 v prec scale = ltb (v * 10 ^ scale) (10 ^ prec)
 abbrev pub DecimalHolds : ℕ → ℕ → ℤ → Type 0
 DecimalHolds prec scale z = T (fitsDec128 (magnitude z) prec scale)
 
--- n is written with d decimal digits
+-- n is written with d decimal digits: so many are enough, and one less is not
 pub record Digits (n d : ℕ) : Type 0 where
   pub enough : n < 10 ^ d
   pub needed : 10 ^ (d - 1) ≤ n
@@ -32,7 +32,7 @@ abbrev pub digitsOf : ℕ → ℕ
 digitsOf k = getD (0 ∷ 0 ∷ 3 ∷ 5 ∷ 10 ∷ 20 ∷ 39 ∷ 3 ∷ 5 ∷ 10 ∷ 19 ∷ 39 ∷ []) k 0
 
 pub record DigitLaws : Type 0 where
-  -- a number of d digits fits a Decimal exactly where that has d digits before its point
+  -- a number of d digits fits a Decimal exactly where that has room for d digits before its point
   pub fits-when : (n d prec scale : ℕ) → Digits n d → scale ≤ prec
       → (fitsDec128 n prec scale ≡ true) ↔ (d ≤ prec - scale)
   -- `MAX` is the largest number of a type's range

@@ -75,7 +75,8 @@ pub fn get_numeric_upcast_supertype_lossless(
 ///
 /// Of a Decimal and an integer type, in either order, it is a Decimal of the same scale: of the same precision where
 /// the type's largest number has at most as many digits as the Decimal has before its point, else of precision 38, as
-/// always beside UInt128 and Int128.
+/// always beside UInt128 and Int128. Where the type's largest number has more than 38 − scale digits, that number is
+/// lost.
 ///
 /// Refused by numbers 1 to 5 of the left type, then of the right, by [`Error::Nested`] where either is nested, then by
 /// [`Error::OutputTooShort`].
