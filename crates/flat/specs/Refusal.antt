@@ -1,5 +1,5 @@
--- The number of each cause for which a call is refused: document 01's table. Assumes nothing: these are definitions, and
--- a statement that is proved in proofs/Retired.antt.
+-- The number of each cause for which a call is refused: document 01's table. Assumes nothing: these are definitions,
+-- and a statement that is proved in proofs/Retired.antt.
 use mathlib.Core.Path.{_≡_}
 use Prim.Native.Nat.{ℕ}
 use Rattle.flat.specs.declared.error.Error.{Error}

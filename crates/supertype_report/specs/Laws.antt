@@ -1,5 +1,5 @@
--- What the two rules do to whole numbers, each law over all pairs of integer types, or of a Decimal and an integer type,
--- and both flags. Assumes nothing: these are definitions.
+-- What the two rules do to whole numbers, each law over all pairs of integer types, or of a Decimal and an integer
+-- type, and both flags. Assumes nothing: these are definitions.
 use mathlib.Core.Path.{_≡_}
 use mathlib.Core.Logic.{_↔_}
 use mathlib.Core.Bool.{Bool, true, false, _&&_, _||_}
