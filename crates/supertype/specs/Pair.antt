@@ -1,5 +1,4 @@
--- `get_supertype_with_options` of two valid types: refusal 6, then the rule. Assumes nothing: these are
--- definitions.
+-- `get_supertype_with_options` of two valid types: refusal 6, then the rule. Assumes nothing: these are definitions.
 use mathlib.Core.Bool.{Bool, cond, _||_}
 use mathlib.Core.Option.{Option, some}
 use Prim.Native.Nat.{ℕ}

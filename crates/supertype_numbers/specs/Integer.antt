@@ -22,6 +22,7 @@ abbrev pub bits : Bool → ℕ → ℕ
 bits true w = w - 1
 bits false w = w
 
+-- those of the integer kind k
 abbrev pub bitsOf : ℕ → ℕ
 bitsOf k = bits (isSignedInteger k) (widthOf k)
 

@@ -13,14 +13,13 @@ use Rattle.flat.proofs.Truths.{is-true}
 use Rattle.supertype_answer.specs.Join.{Node, Some, node}
 use Rattle.supertype_numbers.specs.Integer.{maxOf}
 use Rattle.supertype_numbers.specs.Range.{Listed, Holds}
-use Rattle.supertype_numbers.specs.Decimal.{DecimalHolds, digitsOf}
+use Rattle.supertype_numbers.specs.Decimal.{fitsDec128, DecimalHolds, digitsOf}
 use Rattle.supertype_numbers.proofs.Digits.{digit-laws}
 use Rattle.supertype_arms.specs.Node.{precision, scale, fits}
 use Rattle.supertype_arms.specs.Supertype.{supertype}
 use Rattle.supertype_arms.specs.Laws.{byDigits}
 use Rattle.supertype_arms.proofs.Decimals.{IsDecimal, most, within}
 use Rattle.supertype_arms.proofs.Recursive.{supertype-laws}
-use Rattle.supertype_report.specs.Laws.{Missed}
 
 -- the precision that a Decimal has beside an integer type, and the digits that it is enough for
 record Becomes (n : Node) (k prec : ℕ) : Type 0 where
@@ -82,12 +81,10 @@ module _ (i s : Bool) (n : Node) (k : ℕ) (e : n .kind ≡ Decimal) (f : fits n
           let all = digit-laws .all-fit k (becomes w k .0) (scale n) l (omega (arith, within w, b .no-less)) in
           rw (b .precision-is, b .scale-is) ((λ h. b .enough .0 (all .0 h)), (λ h. all .1 (b .enough .1 h)))
 
-pub decimal-misses : (k scale : ℕ) → Listed k → dec128MaxPrec - scale < digitsOf k → Missed k scale
-decimal-misses k scale l h =
-    record {
-      number = pos (maxOf k);
-      logged = digit-laws .largest k l .0;
-      missed = λ prec g m t.
-          let d : digitsOf k ≤ prec - scale = digit-laws .fits-when (maxOf k) (digitsOf k) prec scale (digit-laws .counts k l) g .0 (is-true _ t) in
-          omega arith;
-    }
+pub decimal-misses : (k prec scale : ℕ) → Listed k → scale ≤ prec → prec ≤ dec128MaxPrec
+    → dec128MaxPrec - scale < digitsOf k → Holds k (pos (maxOf k)) × (DecimalHolds prec scale (pos (maxOf k)) → ⊥)
+decimal-misses k prec scale l g m h = (digit-laws .largest k l .0, λ t. lost (is-true _ t))
+  where
+    lost : fitsDec128 (maxOf k) prec scale ≡ true → ⊥
+    lost e =
+        let d = digit-laws .fits-when (maxOf k) (digitsOf k) prec scale (digit-laws .counts k l) g .0 e in omega arith

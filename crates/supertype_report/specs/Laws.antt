@@ -6,12 +6,13 @@ use mathlib.Core.Bool.{Bool, true, false, _&&_, _||_}
 use mathlib.Core.List.{List, [], _∷_}
 use Prim.Native.Nat.{ℕ, _-_, _≤_, _<_}
 use lib.Dec.{eqb}
-use lib.IntN.{ℤ}
+use lib.IntN.{ℤ, pos}
 use Rattle.flat.specs.Kind.{UInt64, UInt128, Int8, Int16, Int32, Int64, Int128, Float64, Decimal}
 use Rattle.flat.specs.Argument.{dec128MaxPrec}
 use Rattle.dtype.specs.Match.{among}
 use Rattle.dtype.specs.Predicate.{isSignedInteger}
 use Rattle.supertype_answer.specs.Join.{Node, Some, node}
+use Rattle.supertype_numbers.specs.Integer.{maxOf}
 use Rattle.supertype_numbers.specs.Range.{Listed, Holds, Includes}
 use Rattle.supertype_numbers.specs.Decimal.{DecimalHolds, digitsOf}
 use Rattle.supertype_lossless.specs.Lossless.{upcastOf}
@@ -46,12 +47,6 @@ pub record MadeOne (a b : ℕ) : Type 0 where
   pub other-logged : Logged a b other
   pub merged : asFloat64 one ≡ asFloat64 other
 
--- a number of an integer column that no Decimal of this scale could hold
-pub record Missed (k scale : ℕ) : Type 0 where
-  pub number : ℤ
-  pub logged : Holds k number
-  pub missed : (prec : ℕ) → scale ≤ prec → prec ≤ dec128MaxPrec → DecimalHolds prec scale number → ⊥
-
 pub record NumberLaws : Type 0 where
   -- two integer types always have a supertype, and it is Float64 or an integer type
   pub answers : (i s : Bool) (a b : ℕ) → Listed a → Listed b
@@ -80,5 +75,6 @@ pub record NumberLaws : Type 0 where
   pub decimal-keeps : (i s : Bool) (n t : Node) (k : ℕ) → n .kind ≡ Decimal → fits n ≡ true → Listed k
       → supertype i s n (node k 0) ≡ Some t
       → ((z : ℤ) → Holds k z → DecimalHolds (precision t) (scale t) z) ↔ (digitsOf k ≤ dec128MaxPrec - scale n)
-  -- where it has more, no Decimal of that scale keeps them: the largest is lost
-  pub decimal-misses : (k scale : ℕ) → Listed k → dec128MaxPrec - scale < digitsOf k → Missed k scale
+  -- where it has more, the largest number is lost, and no Decimal of that scale could hold it
+  pub decimal-misses : (k prec scale : ℕ) → Listed k → scale ≤ prec → prec ≤ dec128MaxPrec
+      → dec128MaxPrec - scale < digitsOf k → Holds k (pos (maxOf k)) × (DecimalHolds prec scale (pos (maxOf k)) → ⊥)
