@@ -270,11 +270,15 @@ module _ (call : Call) (l r : Node) (fl : fits l ≡ true) (fr : fits r ≡ true
   swapped p q t =
       or-cases (alike p No) _ t (λ u. rw (alike-eq p No u) (sym (or-nothing (run call q r l))))
       (λ t. or-cases (alike q No) _ t (λ u. rw (alike-eq q No u) (or-nothing (run call p l r)))
-      (λ t. or-cases (turns (l .kind) (r .kind) q && alike p (turn q)) _ t
-      (λ u. rw (alike-eq p (turn q) (and-right (turns (l .kind) (r .kind) q) _ u), turned call l r q (and-left (turns (l .kind) (r .kind) q) _ u)))
+      (λ t. or-cases (turns (l .kind) (r .kind) q && alike p (turn q)) _ t one-turns
       (λ t. or-cases (these (plain (l .kind)) p Left q (Kind (l .kind))) _ t named-left
       (λ t. or-cases (these (plain (r .kind)) p (Kind (r .kind)) q Left) _ t named-right timed))))
     where
+      one-turns : T (turns (l .kind) (r .kind) q && alike p (turn q)) → Level p q
+      one-turns u =
+          let does = turns (l .kind) (r .kind) q in
+          rw (alike-eq p (turn q) (and-right does _ u), turned call l r q (and-left does _ u))
+
       named-left : T (these (plain (l .kind)) p Left q (Kind (l .kind))) → Level p q
       named-left u =
           let v = of-these (plain (l .kind)) p Left q (Kind (l .kind)) u in

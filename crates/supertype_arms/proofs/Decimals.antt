@@ -1,17 +1,17 @@
 -- A Decimal beside an integer type: the definition's test is document 02's, and both orders answer by it. Assumes
 -- nothing.
 use mathlib.Core.Path.{_≡_, refl, sym, ap, _∙_}
-use mathlib.Core.Bool.{Bool, true, false, cond, not, _&&_, _||_, or-true}
+use mathlib.Core.Bool.{Bool, true, false, not, _&&_, _||_, or-true}
 use mathlib.Core.Logic.{_↔_}
-use Prim.Native.Nat.{ℕ, _+_, _-_, _*_, _≤_, _<_}
+use Prim.Native.Nat.{ℕ, _+_, _-_, _*_, _≤_}
 use native.Mathlib.Omega.{arith}
 use native.Mathlib.Decide.{decLe, ℕ-discrete}
-use lib.Dec.{T, leb, eqb}
+use lib.Dec.{T, leb}
 use borrow.Author.Tests.{eq-eqb, ne-eqb, le-leb, lt-leb, leb-true}
 use Rattle.flat.specs.Kind.{UInt128, Int128, Decimal}
 use Rattle.flat.specs.Argument.{dec128MaxPrec, decimalFits, argumentFits, argumentRule}
 use Rattle.flat.proofs.Rules.{and-left, and-right}
-use Rattle.flat.proofs.Truths.{never, both-true}
+use Rattle.flat.proofs.Truths.{both-true}
 use Rattle.dtype.proofs.Pairs.{left-known}
 use Rattle.supertype_numbers.specs.Integer.{maxOf}
 use Rattle.supertype_numbers.specs.Range.{Listed}

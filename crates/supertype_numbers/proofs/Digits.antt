@@ -1,5 +1,5 @@
 -- How many digits a number has, and the largest numbers of the integer types. Assumes nothing.
-use mathlib.Core.Path.{_≡_, sym, ap, _∙_}
+use mathlib.Core.Path.{_≡_, ap, _∙_}
 use mathlib.Core.Bool.{Bool, true, false, _&&_, _||_}
 use mathlib.Core.Logic.{_↔_}
 use Prim.Native.Nat.{ℕ, suc, _+_, _-_, _*_, _/_, _^_, _≤_, _<_}
@@ -14,7 +14,7 @@ use Rattle.flat.proofs.Rules.{and-left, and-right}
 use Rattle.flat.proofs.Truths.{is-true, to-T}
 use Rattle.dtype.specs.Match.{among}
 use Rattle.dtype.specs.Predicate.{isSignedInteger}
-use Rattle.supertype_numbers.specs.Integer.{widthOf, bitsOf, maxOf}
+use Rattle.supertype_numbers.specs.Integer.{inRange, widthOf, bits, bitsOf, maxIn, maxOf}
 use Rattle.supertype_numbers.specs.Range.{Listed, Holds}
 use Rattle.supertype_numbers.specs.Decimal.{fitsDec128, DecimalHolds, Digits, digitsOf, DigitLaws}
 use Rattle.supertype_numbers.proofs.Tests.{at}
@@ -65,21 +65,17 @@ fits-when n d prec scale w h =
 
 -- ---- the integer types
 
-module _ (k : ℕ) (l : Listed k) where
-  -- a number of the type, by its sign and its size
-  within : (z : ℤ) → Holds k z → mag z < 2 ^ bitsOf k
-  within z h = size (isSignedInteger k) (widthOf k) z (h .1)
-
-  largest : Holds k (pos (maxOf k)) × ((z : ℤ) → Holds k z → z ≤ℤ pos (maxOf k))
-  largest = ((l, into (isSignedInteger k) (widthOf k) (pos (maxOf k)) (go (isSignedInteger k)) (omega (arith, pow-pos (bitsOf k)))), most)
+module _ (s : Bool) (w : ℕ) where
+  has-most : T (inRange s w (pos (maxIn s w)))
+  has-most = into s w (pos (maxIn s w)) (go s) (omega (arith, pow-pos (bits s w)))
     where
       go : (s : Bool) → T (s || true)
       go true = tt
       go false = tt
 
-      most : (z : ℤ) → Holds k z → z ≤ℤ pos (maxOf k)
-      most (pos n) h = leZ-yes (le→leb n (maxOf k) (omega (arith, within (pos n) h)))
-      most (negsuc n) h = leZ-yes tt
+  at-most : (z : ℤ) → T (inRange s w z) → z ≤ℤ pos (maxIn s w)
+  at-most (pos n) h = leZ-yes (le→leb n (maxIn s w) (omega (arith, size s w (pos n) h)))
+  at-most (negsuc n) h = leZ-yes tt
 
 -- the digits of a type hold its largest number and one more, which is how far its numbers below 0 go, and are needed
 abbrev counted : ℕ → Bool
@@ -99,12 +95,21 @@ module _ (k : ℕ) (l : Listed k) where
   counts : Digits (maxOf k) (digitsOf k)
   counts = record { enough = omega (arith, hold); needed = need }
 
-  all-fit : (prec scale : ℕ) → scale ≤ prec → ((z : ℤ) → Holds k z → DecimalHolds prec scale z) ↔ (digitsOf k ≤ prec - scale)
-  all-fit prec scale h = ((λ f. needing h (maxOf k) (digitsOf k) need (f (pos (maxOf k)) (largest k l .0))), back)
+  -- a number of the type, by its size
+  within : (z : ℤ) → Holds k z → mag z < 2 ^ bitsOf k
+  within z h = size (isSignedInteger k) (widthOf k) z (h .1)
+
+  all-fit : (prec scale : ℕ) → scale ≤ prec
+      → ((z : ℤ) → Holds k z → DecimalHolds prec scale z) ↔ (digitsOf k ≤ prec - scale)
+  all-fit prec scale h = (there, back)
     where
+      there : ((z : ℤ) → Holds k z → DecimalHolds prec scale z) → digitsOf k ≤ prec - scale
+      there f =
+          needing h (maxOf k) (digitsOf k) need (f (pos (maxOf k)) (l, has-most (isSignedInteger k) (widthOf k)))
+
       back : digitsOf k ≤ prec - scale → (z : ℤ) → Holds k z → DecimalHolds prec scale z
-      back g (pos n) i = holding h n (digitsOf k) (omega (arith, hold, within k l (pos n) i)) g
-      back g (negsuc n) i = holding h (suc n) (digitsOf k) (omega (arith, hold, within k l (negsuc n) i)) g
+      back g (pos n) i = holding h n (digitsOf k) (omega (arith, hold, within (pos n) i)) g
+      back g (negsuc n) i = holding h (suc n) (digitsOf k) (omega (arith, hold, within (negsuc n) i)) g
 
 -- ---- the code's count
 
@@ -125,4 +130,9 @@ module _ {k n : ℕ} (l : Listed k) (e : n ≡ bitsOf k) where
 
 pub digit-laws : DigitLaws
 digit-laws =
-    record { fits-when = fits-when; largest = largest; counts = counts; all-fit = λ k prec scale l. all-fit k l prec scale }
+    record {
+      fits-when = fits-when;
+      largest = λ s w. (has-most s w, at-most s w);
+      counts = counts;
+      all-fit = λ k prec scale l. all-fit k l prec scale;
+    }

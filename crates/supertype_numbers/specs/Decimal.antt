@@ -9,7 +9,7 @@ use lib.Dec.{T, ltb}
 use lib.IntN.{ℤ, pos}
 use lib.ListN.{getD}
 use lib.Signed.{_≤ℤ_}
-use Rattle.supertype_numbers.specs.Integer.{maxOf}
+use Rattle.supertype_numbers.specs.Integer.{inRange, maxIn, maxOf}
 use Rattle.supertype_numbers.specs.Range.{Listed, Holds}
 use Rattle.supertype_numbers.specs.Format.{magnitude}
 
@@ -35,8 +35,9 @@ pub record DigitLaws : Type 0 where
   -- a number of d digits fits a Decimal exactly where that has room for d digits before its point
   pub fits-when : (n d prec scale : ℕ) → Digits n d → scale ≤ prec
       → (fitsDec128 n prec scale ≡ true) ↔ (d ≤ prec - scale)
-  -- `MAX` is the largest number of a type's range
-  pub largest : (k : ℕ) → Listed k → Holds k (pos (maxOf k)) × ((z : ℤ) → Holds k z → z ≤ℤ pos (maxOf k))
+  -- `MAX` is the largest number of a range, whatever its sign and width
+  pub largest : (s : Bool) (w : ℕ)
+      → T (inRange s w (pos (maxIn s w))) × ((z : ℤ) → T (inRange s w z) → z ≤ℤ pos (maxIn s w))
   -- document 02's counts are those of the largest numbers
   pub counts : (k : ℕ) → Listed k → Digits (maxOf k) (digitsOf k)
   -- and they tell which Decimals could hold every number of a type, those below 0 among them

@@ -26,9 +26,12 @@ bits false w = w
 abbrev pub bitsOf : ℕ → ℕ
 bitsOf k = bits (isSignedInteger k) (widthOf k)
 
--- `MAX`: the largest number of the integer kind k
+-- `MAX`: the largest number of the width w, and of the integer kind k
+abbrev pub maxIn : Bool → ℕ → ℕ
+maxIn s w = 2 ^ bits s w - 1
+
 abbrev pub maxOf : ℕ → ℕ
-maxOf k = 2 ^ bitsOf k - 1
+maxOf k = maxIn (isSignedInteger k) (widthOf k)
 
 -- a column of the integer kind k could hold z
 abbrev pub holds : ℕ → ℤ → Bool

@@ -1,5 +1,5 @@
 -- What a Decimal keeps of the numbers of an integer type that it is joined with. Assumes nothing.
-use mathlib.Core.Path.{_≡_, refl, sym, subst}
+use mathlib.Core.Path.{_≡_, refl, subst}
 use mathlib.Core.Bool.{Bool, true}
 use mathlib.Core.Logic.{_↔_}
 use Prim.Native.Nat.{ℕ, _-_, _≤_, _<_}
@@ -11,7 +11,8 @@ use Rattle.flat.specs.Kind.{Decimal}
 use Rattle.flat.specs.Argument.{dec128MaxPrec}
 use Rattle.flat.proofs.Truths.{is-true}
 use Rattle.supertype_answer.specs.Join.{Node, Some, node}
-use Rattle.supertype_numbers.specs.Integer.{maxOf}
+use Rattle.dtype.specs.Predicate.{isSignedInteger}
+use Rattle.supertype_numbers.specs.Integer.{widthOf, maxOf}
 use Rattle.supertype_numbers.specs.Range.{Listed, Holds}
 use Rattle.supertype_numbers.specs.Decimal.{fitsDec128, DecimalHolds, digitsOf}
 use Rattle.supertype_numbers.proofs.Digits.{digit-laws}
@@ -62,7 +63,8 @@ module _ (i s : Bool) (n : Node) (k : ℕ) (e : n .kind ≡ Decimal) (f : fits n
   decimals =
       let a = supertype-laws .decimal-integer i s n k e f l in
       let b = becomes w k .1 in
-      (byDigits n k, a .0, a .1, refl, b .scale-is, subst (λ (p : ℕ). precision n ≤ p) (sym (b .precision-is)) (b .no-less))
+      let more : precision n ≤ precision (byDigits n k) = omega (arith, b .precision-is, b .no-less) in
+      (byDigits n k, a .0, a .1, refl, b .scale-is, more)
 
   -- every number of the integer column is one of the Decimal
   abbrev Keeps : Node → Type 0
@@ -83,7 +85,8 @@ module _ (i s : Bool) (n : Node) (k : ℕ) (e : n .kind ≡ Decimal) (f : fits n
 
 pub decimal-misses : (k prec scale : ℕ) → Listed k → scale ≤ prec → prec ≤ dec128MaxPrec
     → dec128MaxPrec - scale < digitsOf k → Holds k (pos (maxOf k)) × (DecimalHolds prec scale (pos (maxOf k)) → ⊥)
-decimal-misses k prec scale l g m h = (digit-laws .largest k l .0, λ t. lost (is-true _ t))
+decimal-misses k prec scale l g m h =
+    ((l, digit-laws .largest (isSignedInteger k) (widthOf k) .0), λ t. lost (is-true _ t))
   where
     lost : fitsDec128 (maxOf k) prec scale ≡ true → ⊥
     lost e =
