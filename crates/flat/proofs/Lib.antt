@@ -5,7 +5,7 @@ pub mod ReadBack
 pub mod Positions
 pub mod Walks
 pub mod Meaning
-mod Retired
+mod Numbers
 pub mod Refusals
 pub mod Roots
 pub mod Pairs

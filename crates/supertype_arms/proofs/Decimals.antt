@@ -1,11 +1,10 @@
 -- A Decimal beside an integer type: the definition's test is document 02's, and both orders answer by it. Assumes
 -- nothing.
-use mathlib.Core.Path.{_≡_, refl, sym, ap, _∙_}
+use mathlib.Core.Path.{_≡_, sym, ap, _∙_}
 use mathlib.Core.Bool.{Bool, true, false, not, _&&_, _||_, or-true}
-use mathlib.Core.Logic.{_↔_}
 use Prim.Native.Nat.{ℕ, _+_, _-_, _*_, _≤_}
 use native.Mathlib.Omega.{arith}
-use native.Mathlib.Decide.{decLe, ℕ-discrete}
+use native.Mathlib.Decide.{ℕ-discrete}
 use lib.Dec.{T, leb}
 use borrow.Author.Tests.{eq-eqb, ne-eqb, le-leb, lt-leb, leb-true}
 use Rattle.flat.specs.Kind.{UInt128, Int128, Decimal}
@@ -49,20 +48,7 @@ module _ {n : Node} (w : IsDecimal n) where
       leb-true (scale n) (precision n) (both-true (leb 1 (precision n) && leb (precision n) dec128MaxPrec) _ rule .1)
 
   module _ {k : ℕ} (l : Listed k) where
-    -- the number of digits decides, of the types that the definition asks for their largest number
-    asked : fitsDec128 (maxOf k) (precision n) (scale n) ≡ leb (digitsOf k) (precision n - scale n)
-    asked = go (decLe (digitsOf k) (precision n - scale n)) (fitsDec128 (maxOf k) (precision n) (scale n)) refl
-      where
-        when : (fitsDec128 (maxOf k) (precision n) (scale n) ≡ true) ↔ (digitsOf k ≤ precision n - scale n)
-        when = digit-laws .fits-when (maxOf k) (digitsOf k) (precision n) (scale n) (digit-laws .counts k l) within
-
-        go : Dec (digitsOf k ≤ precision n - scale n) → (b : Bool)
-            → fitsDec128 (maxOf k) (precision n) (scale n) ≡ b → b ≡ leb (digitsOf k) (precision n - scale n)
-        go (yes h) b e = sym e ∙ when .1 h ∙ sym (le-leb _ _ h)
-        go (no h) true e = absurd (h (when .0 e))
-        go (no h) false e = sym (lt-leb (digitsOf k) (precision n - scale n) (omega arith))
-
-    -- and those that it doesn't ask have more digits than any Decimal
+    -- the types that the definition doesn't ask for their largest number have more digits than any Decimal
     fits-by-digits : fitsOrigPrecScale n k ≡ leb (digitsOf k) (precision n - scale n)
     unfolding fitsOrigPrecScale
     fits-by-digits = go (ℕ-discrete k UInt128) (ℕ-discrete k Int128)
@@ -75,7 +61,9 @@ module _ {n : Node} (w : IsDecimal n) where
             ≡ leb (digitsOf k) (precision n - scale n)
         go (yes e) d = rw (eq-eqb k UInt128 e) (too-many (ap digitsOf e))
         go (no e) (yes f) = rw (eq-eqb k Int128 f, or-true) (too-many (ap digitsOf f))
-        go (no e) (no f) = rw (ne-eqb k UInt128 e, ne-eqb k Int128 f) asked
+        go (no e) (no f) =
+            rw (ne-eqb k UInt128 e, ne-eqb k Int128 f)
+            (digit-laws .fits-when (maxOf k) (digitsOf k) (precision n) (scale n) (digit-laws .counts k l) within)
 
     beside : besideInteger n k ≡ byDigits n k
     unfolding besideInteger

@@ -1,24 +1,25 @@
 -- How many digits a number has, and the largest numbers of the integer types. Assumes nothing.
-use mathlib.Core.Path.{_≡_, ap, _∙_}
-use mathlib.Core.Bool.{Bool, true, false, _&&_, _||_}
+use mathlib.Core.Path.{_≡_, sym, ap, _∙_}
+use mathlib.Core.Bool.{Bool, true, false, _&&_}
 use mathlib.Core.Logic.{_↔_}
 use Prim.Native.Nat.{ℕ, suc, _+_, _-_, _*_, _/_, _^_, _≤_, _<_}
 use native.Mathlib.Nat.{one-le-pow, pow-le-pow-right, mul-le-mul-right, mul-lt-mul-of-pos-right}
 use native.Mathlib.Omega.{arith}
 use native.Mathlib.Decide.{decLe}
-use lib.Dec.{T, leb, ltb, eqb, eqb→eq, leb→le, le→leb, ltb→lt, lt→ltb}
-use lib.Pow.{pow-pos, pow-add}
+use lib.Dec.{T, leb, ltb, eqb, eqb→eq, leb→le, le→leb, ltb→lt}
+use lib.Pow.{pow-add}
 use lib.IntN.{ℤ, pos, negsuc}
+use borrow.Author.Tests.{lt-ltb, le-ltb, le-leb, lt-leb, leb-true}
 use lib.Signed.{mag, _≤ℤ_, leZ-yes}
 use Rattle.flat.proofs.Rules.{and-left, and-right}
 use Rattle.flat.proofs.Truths.{is-true, to-T}
 use Rattle.dtype.specs.Match.{among}
 use Rattle.dtype.specs.Predicate.{isSignedInteger}
-use Rattle.supertype_numbers.specs.Integer.{inRange, widthOf, bits, bitsOf, maxIn, maxOf}
+use Rattle.supertype_numbers.specs.Integer.{inRange, widthOf, bitsOf, maxIn, maxOf}
 use Rattle.supertype_numbers.specs.Range.{Listed, Holds}
 use Rattle.supertype_numbers.specs.Decimal.{fitsDec128, DecimalHolds, Digits, digitsOf, DigitLaws}
 use Rattle.supertype_numbers.proofs.Tests.{at}
-use Rattle.supertype_numbers.proofs.Ranges.{into, size}
+use Rattle.supertype_numbers.proofs.Ranges.{size, has-max}
 
 -- ---- numbers
 
@@ -29,53 +30,34 @@ module _ {prec scale : ℕ} (h : scale ≤ prec) where
       let e : prec ≡ (prec - scale) + scale = omega arith in
       ap (λ (n : ℕ). 10 ^ n) e ∙ pow-add 10 (prec - scale) scale
 
-  unscaled : (n : ℕ) → T (fitsDec128 n prec scale) ↔ (n < 10 ^ (prec - scale))
-  unfolding fitsDec128
-  unscaled n = (there (decLe (10 ^ (prec - scale)) n), back)
-    where
-      there : Dec (10 ^ (prec - scale) ≤ n) → T (ltb (n * 10 ^ scale) (10 ^ prec)) → n < 10 ^ (prec - scale)
-      there (yes g) t =
-          let l = ltb→lt (n * 10 ^ scale) (10 ^ prec) t in
-          absurd (omega (arith, parts, mul-le-mul-right (10 ^ scale) g))
-      there (no g) t = omega arith
-
-      back : n < 10 ^ (prec - scale) → T (ltb (n * 10 ^ scale) (10 ^ prec))
-      back l =
-          let m = mul-lt-mul-of-pos-right l (one-le-pow scale 10 (omega arith)) in
-          lt→ltb (n * 10 ^ scale) (10 ^ prec) (omega (arith, parts))
-
   -- a number that d digits hold, and one that needs them
-  holding : (n d : ℕ) → n < 10 ^ d → d ≤ prec - scale → T (fitsDec128 n prec scale)
-  holding n d l g =
-      let m : 10 ^ d ≤ 10 ^ (prec - scale) = pow-le-pow-right (omega arith) g in unscaled n .1 (omega arith)
+  room : (n d : ℕ) → n < 10 ^ d → d ≤ prec - scale → fitsDec128 n prec scale ≡ true
+  unfolding fitsDec128
+  room n d l g =
+      let m : 10 ^ d ≤ 10 ^ (prec - scale) = pow-le-pow-right (omega arith) g in
+      let o : n * 10 ^ scale < 10 ^ (prec - scale) * 10 ^ scale = mul-lt-mul-of-pos-right (omega arith)
+      (one-le-pow scale 10 (omega arith)) in
+      lt-ltb (n * 10 ^ scale) (10 ^ prec) (omega (arith, parts))
 
-  needing : (n d : ℕ) → 10 ^ (d - 1) ≤ n → T (fitsDec128 n prec scale) → d ≤ prec - scale
-  needing n d l t = go (decLe d (prec - scale))
-    where
-      go : Dec (d ≤ prec - scale) → d ≤ prec - scale
-      go (yes g) = g
-      go (no g) =
-          let m : 10 ^ (prec - scale) ≤ 10 ^ (d - 1) = pow-le-pow-right (omega arith) (omega arith) in
-          absurd (omega (arith, unscaled n .0 t))
+  no-room : (n d : ℕ) → 10 ^ (d - 1) ≤ n → prec - scale < d → fitsDec128 n prec scale ≡ false
+  unfolding fitsDec128
+  no-room n d l g =
+      let m : 10 ^ (prec - scale) ≤ 10 ^ (d - 1) = pow-le-pow-right (omega arith) (omega arith) in
+      let o : 10 ^ (prec - scale) * 10 ^ scale ≤ n * 10 ^ scale = mul-le-mul-right (10 ^ scale) (omega arith) in
+      le-ltb (n * 10 ^ scale) (10 ^ prec) (omega (arith, parts))
 
-pub fits-when : (n d prec scale : ℕ) → Digits n d → scale ≤ prec
-    → (fitsDec128 n prec scale ≡ true) ↔ (d ≤ prec - scale)
-fits-when n d prec scale w h =
-    ((λ e. needing h n d (w .needed) (to-T e)), (λ g. is-true _ (holding h n d (w .enough) g)))
+fits-when : (n d prec scale : ℕ) → Digits n d → scale ≤ prec → fitsDec128 n prec scale ≡ leb d (prec - scale)
+fits-when n d prec scale w h = go (decLe d (prec - scale))
+  where
+    go : Dec (d ≤ prec - scale) → fitsDec128 n prec scale ≡ leb d (prec - scale)
+    go (yes g) = room h n d (w .enough) g ∙ sym (le-leb d (prec - scale) g)
+    go (no g) = no-room h n d (w .needed) (omega arith) ∙ sym (lt-leb d (prec - scale) (omega arith))
 
 -- ---- the integer types
 
-module _ (s : Bool) (w : ℕ) where
-  has-most : T (inRange s w (pos (maxIn s w)))
-  has-most = into s w (pos (maxIn s w)) (go s) (omega (arith, pow-pos (bits s w)))
-    where
-      go : (s : Bool) → T (s || true)
-      go true = tt
-      go false = tt
-
-  at-most : (z : ℤ) → T (inRange s w z) → z ≤ℤ pos (maxIn s w)
-  at-most (pos n) h = leZ-yes (le→leb n (maxIn s w) (omega (arith, size s w (pos n) h)))
-  at-most (negsuc n) h = leZ-yes tt
+at-most : (s : Bool) (w : ℕ) (z : ℤ) → T (inRange s w z) → z ≤ℤ pos (maxIn s w)
+at-most s w (pos n) h = leZ-yes (le→leb n (maxIn s w) (omega (arith, size s w (pos n) h)))
+at-most s w (negsuc n) h = leZ-yes tt
 
 -- the digits of a type hold its largest number and one more, which is how far its numbers below 0 go, and are needed
 abbrev counted : ℕ → Bool
@@ -105,11 +87,13 @@ module _ (k : ℕ) (l : Listed k) where
     where
       there : ((z : ℤ) → Holds k z → DecimalHolds prec scale z) → digitsOf k ≤ prec - scale
       there f =
-          needing h (maxOf k) (digitsOf k) need (f (pos (maxOf k)) (l, has-most (isSignedInteger k) (widthOf k)))
+          let t = f (pos (maxOf k)) (l, has-max (isSignedInteger k) (widthOf k)) in
+          leb-true (digitsOf k) (prec - scale)
+          (sym (fits-when (maxOf k) (digitsOf k) prec scale counts h) ∙ is-true _ t)
 
       back : digitsOf k ≤ prec - scale → (z : ℤ) → Holds k z → DecimalHolds prec scale z
-      back g (pos n) i = holding h n (digitsOf k) (omega (arith, hold, within (pos n) i)) g
-      back g (negsuc n) i = holding h (suc n) (digitsOf k) (omega (arith, hold, within (negsuc n) i)) g
+      back g (pos n) i = to-T (room h n (digitsOf k) (omega (arith, hold, within (pos n) i)) g)
+      back g (negsuc n) i = to-T (room h (suc n) (digitsOf k) (omega (arith, hold, within (negsuc n) i)) g)
 
 -- ---- the code's count
 
@@ -132,7 +116,7 @@ pub digit-laws : DigitLaws
 digit-laws =
     record {
       fits-when = fits-when;
-      largest = λ s w. (has-most s w, at-most s w);
+      largest = λ s w. (has-max s w, at-most s w);
       counts = counts;
       all-fit = λ k prec scale l. all-fit k l prec scale;
     }

@@ -14,14 +14,14 @@ use lib.Signed.{mag, nonNeg}
 use Rattle.flat.proofs.Rules.{and-left, and-right, and-both, implies}
 use Rattle.dtype.specs.Match.{among}
 use Rattle.dtype.specs.Predicate.{isSignedInteger}
-use Rattle.supertype_numbers.specs.Integer.{inRange, widthOf, bits, holds}
+use Rattle.supertype_numbers.specs.Integer.{inRange, widthOf, bits, maxIn, holds}
 use Rattle.supertype_numbers.proofs.Integers.{in-range}
 use Rattle.supertype_numbers.specs.Range.{Listed, isListed, HasNumber, Includes, Least}
 use Rattle.supertype_numbers.proofs.Tests.{listed, is-listed, at, at-pair}
 
 -- z is in the range of a type by its sign and its size
 module _ (s : Bool) (w : ℕ) (z : ℤ) where
-  pub into : T (s || nonNeg z) → mag z < 2 ^ bits s w → T (inRange s w z)
+  into : T (s || nonNeg z) → mag z < 2 ^ bits s w → T (inRange s w z)
   into i l = subst T (sym (in-range s w z)) (and-both (s || nonNeg z) _ i (lt→ltb (mag z) (2 ^ bits s w) l))
 
   sign : T (inRange s w z) → T (s || nonNeg z)
@@ -29,6 +29,14 @@ module _ (s : Bool) (w : ℕ) (z : ℤ) where
 
   pub size : T (inRange s w z) → mag z < 2 ^ bits s w
   size h = ltb→lt (mag z) (2 ^ bits s w) (and-right (s || nonNeg z) _ (subst T (in-range s w z) h))
+
+-- the largest number of a range
+pub has-max : (s : Bool) (w : ℕ) → T (inRange s w (pos (maxIn s w)))
+has-max s w = into s w (pos (maxIn s w)) (go s) (omega (arith, pow-pos (bits s w)))
+  where
+    go : (s : Bool) → T (s || true)
+    go true = tt
+    go false = tt
 
 -- 2 ^ a - 1 < 2 ^ b only where a ≤ b
 back : (a b : ℕ) → 2 ^ a - 1 < 2 ^ b → a ≤ b
@@ -52,14 +60,7 @@ module _ (s : Bool) (w : ℕ) (t : Bool) (v : ℕ) where
       go false false f = tt
 
   most : ((z : ℤ) → T (inRange t v z) → T (inRange s w z)) → bits t v ≤ bits s w
-  most h =
-      let p : 0 < 2 ^ bits t v = pow-pos (bits t v) in
-      let z : ℤ = pos (2 ^ bits t v - 1) in
-      back (bits t v) (bits s w) (size s w z (h z (into t v z (go t) (omega arith))))
-    where
-      go : (t : Bool) → T (t || true)
-      go true = tt
-      go false = tt
+  most h = back (bits t v) (bits s w) (size s w (pos (maxIn t v)) (h (pos (maxIn t v)) (has-max t v)))
 
   all : T (s || not t) → bits t v ≤ bits s w → (z : ℤ) → T (inRange t v z) → T (inRange s w z)
   all i l z h =

@@ -71,12 +71,6 @@ module _ {k : ℕ} {row : IntegerType} (l : Listed k) (e : row ≡ rowOf k) wher
   unfolding rowOf among
   not-zero = rw e (ltb→lt 0 (widthOf k) (at (λ n. ltb 0 (widthOf n)) tt k l))
 
-  bits-of : {s : Bool} → row .signed ≡ s → bits s (row .width) ≡ bitsOf k
+  pub bits-of : {s : Bool} → row .signed ≡ s → bits s (row .width) ≡ bitsOf k
   unfolding rowOf
   bits-of {s} h = ap₂ bits (sym h ∙ ap (λ (r : IntegerType). r .signed) e) (ap (λ (r : IntegerType). r .width) e)
-
-  pub bits-signed : row .signed ≡ true → row .width - 1 ≡ bitsOf k
-  bits-signed h = bits-of h
-
-  pub bits-unsigned : row .signed ≡ false → row .width ≡ bitsOf k
-  bits-unsigned h = bits-of h

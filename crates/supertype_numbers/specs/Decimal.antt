@@ -1,11 +1,11 @@
 -- Which whole numbers a Decimal could hold, and how many digits the integer types need. Assumes nothing: these are
 -- definitions, and statements that are proved in proofs/Digits.antt.
 use mathlib.Core.Path.{_≡_}
-use mathlib.Core.Bool.{Bool, true}
+use mathlib.Core.Bool.{Bool}
 use mathlib.Core.List.{[], _∷_}
 use mathlib.Core.Logic.{_↔_}
 use Prim.Native.Nat.{ℕ, _-_, _*_, _^_, _≤_, _<_}
-use lib.Dec.{T, ltb}
+use lib.Dec.{T, leb, ltb}
 use lib.IntN.{ℤ, pos}
 use lib.ListN.{getD}
 use lib.Signed.{_≤ℤ_}
@@ -33,8 +33,7 @@ digitsOf k = getD (0 ∷ 0 ∷ 3 ∷ 5 ∷ 10 ∷ 20 ∷ 39 ∷ 3 ∷ 5 ∷ 10 �
 
 pub record DigitLaws : Type 0 where
   -- a number of d digits fits a Decimal exactly where that has room for d digits before its point
-  pub fits-when : (n d prec scale : ℕ) → Digits n d → scale ≤ prec
-      → (fitsDec128 n prec scale ≡ true) ↔ (d ≤ prec - scale)
+  pub fits-when : (n d prec scale : ℕ) → Digits n d → scale ≤ prec → fitsDec128 n prec scale ≡ leb d (prec - scale)
   -- `MAX` is the largest number of a range, whatever its sign and width
   pub largest : (s : Bool) (w : ℕ)
       → T (inRange s w (pos (maxIn s w))) × ((z : ℤ) → T (inRange s w z) → z ≤ℤ pos (maxIn s w))

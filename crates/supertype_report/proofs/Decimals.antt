@@ -1,12 +1,12 @@
 -- What a Decimal keeps of the numbers of an integer type that it is joined with. Assumes nothing.
-use mathlib.Core.Path.{_≡_, refl, subst}
+use mathlib.Core.Path.{_≡_, refl, sym, subst, _∙_}
 use mathlib.Core.Bool.{Bool, true}
 use mathlib.Core.Logic.{_↔_}
 use Prim.Native.Nat.{ℕ, _-_, _≤_, _<_}
 use native.Mathlib.Omega.{arith}
 use native.Mathlib.Decide.{decLe}
 use lib.IntN.{ℤ, pos}
-use borrow.Author.Tests.{le-leb, lt-leb}
+use borrow.Author.Tests.{le-leb, lt-leb, leb-true}
 use Rattle.flat.specs.Kind.{Decimal}
 use Rattle.flat.specs.Argument.{dec128MaxPrec}
 use Rattle.flat.proofs.Truths.{is-true}
@@ -14,7 +14,7 @@ use Rattle.supertype_answer.specs.Join.{Node, Some, node}
 use Rattle.dtype.specs.Predicate.{isSignedInteger}
 use Rattle.supertype_numbers.specs.Integer.{widthOf, maxOf}
 use Rattle.supertype_numbers.specs.Range.{Listed, Holds}
-use Rattle.supertype_numbers.specs.Decimal.{fitsDec128, DecimalHolds, digitsOf}
+use Rattle.supertype_numbers.specs.Decimal.{DecimalHolds, digitsOf}
 use Rattle.supertype_numbers.proofs.Digits.{digit-laws}
 use Rattle.supertype_arms.specs.Node.{precision, scale, fits}
 use Rattle.supertype_arms.specs.Supertype.{supertype}
@@ -85,9 +85,9 @@ module _ (i s : Bool) (n : Node) (k : ℕ) (e : n .kind ≡ Decimal) (f : fits n
 
 pub decimal-misses : (k prec scale : ℕ) → Listed k → scale ≤ prec → prec ≤ dec128MaxPrec
     → dec128MaxPrec - scale < digitsOf k → Holds k (pos (maxOf k)) × (DecimalHolds prec scale (pos (maxOf k)) → ⊥)
-decimal-misses k prec scale l g m h =
-    ((l, digit-laws .largest (isSignedInteger k) (widthOf k) .0), λ t. lost (is-true _ t))
+decimal-misses k prec scale l g m h = ((l, digit-laws .largest (isSignedInteger k) (widthOf k) .0), lost)
   where
-    lost : fitsDec128 (maxOf k) prec scale ≡ true → ⊥
-    lost e =
-        let d = digit-laws .fits-when (maxOf k) (digitsOf k) prec scale (digit-laws .counts k l) g .0 e in omega arith
+    lost : DecimalHolds prec scale (pos (maxOf k)) → ⊥
+    lost t =
+        let e = digit-laws .fits-when (maxOf k) (digitsOf k) prec scale (digit-laws .counts k l) g in
+        omega (arith, leb-true (digitsOf k) (prec - scale) (sym e ∙ is-true _ t))

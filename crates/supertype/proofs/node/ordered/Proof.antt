@@ -5,7 +5,8 @@ use borrow.Author.Needs.{needs}
 use Rattle.supertype_answer.specs.Join.{node}
 use Rattle.supertype_arms.specs.declared.plan.Plan.{Plan}
 use Rattle.supertype.proofs.ByPlan.{Planned, none, left, right, kind, decimals, decimal-kinds, decimal-integer}
-use Rattle.supertype.proofs.ByPlan.{dyn-decimal, datetime-duration, one-zone, two-zones, durations, number-kinds, number, boolean}
+use Rattle.supertype.proofs.ByPlan.{dyn-decimal, datetime-duration, one-zone, two-zones, durations}
+use Rattle.supertype.proofs.ByPlan.{number-kinds, number, boolean}
 use Rattle.supertype.proofs.node.ordered.Statement.{statement}
 use Rattle.supertype.proofs.node.ordered.Tie as tie
 

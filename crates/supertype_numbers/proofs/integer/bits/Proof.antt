@@ -1,6 +1,6 @@
 -- `supertype_numbers::integer::bits` meets its contract. Assumes nothing.
 use borrow.Author.Needs.{needs}
-use Rattle.supertype_numbers.proofs.Rows.{not-zero, bits-signed, bits-unsigned}
+use Rattle.supertype_numbers.proofs.Rows.{not-zero, bits-of}
 use Rattle.supertype_numbers.proofs.integer.bits.Statement.{statement}
 use Rattle.supertype_numbers.proofs.integer.bits.Tie as tie
 
@@ -9,11 +9,11 @@ sub-result c = let row = c .before .before in not-zero (row .before .pre) (row .
 
 returns : tie.Need-returns
 returns c =
-    let row = c .before .before in bits-signed (row .before .pre) (row .integer .ensures) (c .before .if1 .taken)
+    let row = c .before .before in bits-of (row .before .pre) (row .integer .ensures) (c .before .if1 .taken)
 
 returns-2 : tie.Need-returns-2
 returns-2 c =
-    let row = c .before .before in bits-unsigned (row .before .pre) (row .integer .ensures) (c .before .if1 .left)
+    let row = c .before .before in bits-of (row .before .pre) (row .integer .ensures) (c .before .if1 .left)
 
 pub bits-spec : {M : Type 1} → statement M
 bits-spec =
