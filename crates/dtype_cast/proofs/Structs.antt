@@ -5,9 +5,9 @@ use mathlib.Core.Option.{Option, none, some}
 use Prim.Native.Nat.{ℕ, suc}
 use native.Mathlib.Omega.{arith}
 use borrow.Author.Tests.{eq-eqb, ne-eqb}
-use Rattle.flat.specs.Tree.{DataType, struct, Fields, empty, field, count}
+use Rattle.flat.specs.Tree.{DataType, struct, Fields, empty, field, count, append}
 use Rattle.dtype_cast.specs.Cast.{andThen, canCastTo, fieldsCast}
-use Rattle.dtype_cast.specs.Laws.{append, AllCast, no-fields, one-more, CastLaws}
+use Rattle.dtype_cast.specs.Laws.{AllCast, no-fields, one-more, CastLaws}
 use Rattle.dtype_cast.proofs.Arms.{structs-arm, struct-arms}
 
 no-field : (gs : Fields) → canCastTo (struct empty) (struct gs) ≡ some true

@@ -3,13 +3,8 @@ use mathlib.Core.Path.{_≡_}
 use mathlib.Core.Bool.{true, false}
 use mathlib.Core.Option.{some}
 use Prim.Native.Nat.{ℕ}
-use Rattle.flat.specs.Tree.{DataType, struct, Fields, empty, field, count}
+use Rattle.flat.specs.Tree.{DataType, struct, Fields, empty, field, count, append}
 use Rattle.dtype_cast.specs.Cast.{canCastTo}
-
--- the fields of one run, then those of another
-unfoldable pub append : Fields → Fields → Fields
-append empty gs = gs
-append (field name t fs) gs = field name t (append fs gs)
 
 -- as many fields on both sides, and each one's type casts to that of the other in its place, whatever they are named
 pub data AllCast : Fields → Fields → Type 0 where

@@ -22,6 +22,11 @@ unfoldable pub count : Fields → ℕ
 count empty = 0
 count (field name t fs) = suc (count fs)
 
+-- the fields of one run, then those of another
+unfoldable pub append : Fields → Fields → Fields
+append empty gs = gs
+append (field name t fs) gs = field name t (append fs gs)
+
 -- the kind and the argument at a tree's root
 unfoldable pub headKind : DataType → ℕ
 headKind (leaf k a) = k

@@ -1,5 +1,6 @@
--- `get_supertype_with_options` of supertype.rs for two types that are not nested: its `inner`, arm by arm in the
--- source's order, then `or_else` the other way round. Assumes nothing: these are definitions.
+-- `get_supertype_with_options` of supertype.rs: the arms of its `inner`, nested ones among them, in the source's order;
+-- and what it comes to for two types that are not nested, `or_else` the other way round included. For all types it is
+-- crates/supertype_nested/specs/Nested.antt. Assumes nothing: these are definitions.
 use mathlib.Core.Bool.{Bool, true, false, cond, not, _&&_, _||_}
 use mathlib.Core.List.{List, [], _∷_}
 use Prim.Native.Nat.{ℕ, max}
@@ -9,6 +10,7 @@ use lib.Signed.{leZ, nonNeg}
 use Rattle.flat.specs.Kind.{Null, Boolean, UInt8, UInt16, UInt32, UInt64, UInt128, Int8, Int16, Int32, Int64, Int128}
 use Rattle.flat.specs.Kind.{Float16, Float32, Float64, Decimal, String, Binary, Date, Datetime, Duration, Time}
 use Rattle.flat.specs.Kind.{UnknownAny, UnknownStr, UnknownFloat}
+use Rattle.flat.specs.Kind as kind
 use Rattle.flat.specs.Argument.{dec128MaxPrec}
 use Rattle.dtype.specs.Predicate.{isFloat, isUnknownInt, isSignedInteger, isUnsignedInteger, isInteger}
 use Rattle.dtype.specs.Predicate.{isPrimitiveNumeric, isPrimitive, isString, isUnknown}
@@ -27,13 +29,19 @@ use Rattle.supertype_arms.specs.declared.plan.Plan.the-variants.{DynNumb
 
 -- ---- the arms
 
+-- what an arm answers: one of the two types, what their roots alone come to, or one of the nested arms' answers
+pub data TreePlan : Type 0 where
+  leftType rightType : TreePlan
+  roots : Plan → TreePlan
+  lists arrays implodeLeft implodeRight firstField structs eachField : TreePlan
+
 -- which left and which right kinds an arm takes, its guard included, and what it answers
 pub record Arm : Type 0 where
   pub left : ℕ → Bool
   pub right : ℕ → Bool
-  pub plan : Plan
+  pub plan : TreePlan
 
-abbrev pub arm : (ℕ → Bool) → (ℕ → Bool) → Plan → Arm
+abbrev pub arm : (ℕ → Bool) → (ℕ → Bool) → TreePlan → Arm
 arm p q a = record { left = p; right = q; plan = a }
 
 -- the pattern of one kind
@@ -47,26 +55,26 @@ every k = true
 -- the arm `(l, r) => Some(k)`
 infix 68 _&_⇒_
 abbrev pub _&_⇒_ : ℕ → ℕ → ℕ → Arm
-l & r ⇒ k = arm (is l) (is r) (Kind k)
+l & r ⇒ k = arm (is l) (is r) (roots (Kind k))
 
 -- `(dt, Unknown(kind)) => match kind { .. }`: the arms of that match, with dt on the left and the kind on the right
 unfoldable pub unknownArms : Bool → List Arm
 unknownArms toString =
-    arm isString (λ k. is UnknownFloat k || isUnknownInt k) (cond toString Left No)
-    ∷ arm isFloat (λ k. is UnknownFloat k || isUnknownInt k) Left
+    arm isString (λ k. is UnknownFloat k || isUnknownInt k) (cond toString leftType (roots No))
+    ∷ arm isFloat (λ k. is UnknownFloat k || isUnknownInt k) leftType
     -- known or not
-    ∷ arm (λ dt. isInteger dt && not (isUnknown dt)) (is UnknownFloat) (Kind Float64)
-    ∷ arm isInteger (is UnknownFloat) (Kind UnknownFloat)
-    ∷ arm isString (is UnknownStr) Left
-    ∷ arm (is Null) isUnknown Right
-    ∷ arm isPrimitiveNumeric isUnknownInt DynNumber
-    ∷ arm (is Boolean) isUnknownInt DynBoolean
-    ∷ arm (is Decimal) isUnknownInt DynDecimal
-    ∷ arm every isUnknown (Kind UnknownAny)
+    ∷ arm (λ dt. isInteger dt && not (isUnknown dt)) (is UnknownFloat) (roots (Kind Float64))
+    ∷ arm isInteger (is UnknownFloat) (roots (Kind UnknownFloat))
+    ∷ arm isString (is UnknownStr) leftType
+    ∷ arm (is Null) isUnknown rightType
+    ∷ arm isPrimitiveNumeric isUnknownInt (roots DynNumber)
+    ∷ arm (is Boolean) isUnknownInt (roots DynBoolean)
+    ∷ arm (is Decimal) isUnknownInt (roots DynDecimal)
+    ∷ arm every isUnknown (roots (Kind UnknownAny))
     ∷ []
 
-unfoldable pub arms : Bool → List Arm
-arms toString =
+unfoldable pub arms : Bool → Bool → List Arm
+arms implode toString =
     Int8 & Boolean ⇒ Int8
     ∷ Int8 & Int16 ⇒ Int16
     ∷ Int8 & Int32 ⇒ Int32
@@ -111,17 +119,17 @@ arms toString =
     ∷ Int64 & Float16 ⇒ Float64
     ∷ Int64 & Float32 ⇒ Float64
     ∷ Int64 & Float64 ⇒ Float64
-    ∷ arm (is Int128) (λ a. isInteger a || is Boolean a) (Kind Int128)
-    ∷ arm (is Int128) isFloat (Kind Float64)
+    ∷ arm (is Int128) (λ a. isInteger a || is Boolean a) (roots (Kind Int128))
+    ∷ arm (is Int128) isFloat (roots (Kind Float64))
     ∷ UInt8 & UInt32 ⇒ UInt32
     ∷ UInt8 & UInt64 ⇒ UInt64
     ∷ UInt16 & UInt8 ⇒ UInt16
     ∷ UInt16 & UInt32 ⇒ UInt32
     ∷ UInt16 & UInt64 ⇒ UInt64
     ∷ UInt32 & UInt64 ⇒ UInt64
-    ∷ arm (is UInt128) (λ a. isUnsignedInteger a || is Boolean a) (Kind UInt128)
-    ∷ arm (is UInt128) isSignedInteger (Kind Int128)
-    ∷ arm (is UInt128) isFloat (Kind Float64)
+    ∷ arm (is UInt128) (λ a. isUnsignedInteger a || is Boolean a) (roots (Kind UInt128))
+    ∷ arm (is UInt128) isSignedInteger (roots (Kind Int128))
+    ∷ arm (is UInt128) isFloat (roots (Kind Float64))
     ∷ Boolean & UInt8 ⇒ UInt8
     ∷ Boolean & UInt16 ⇒ UInt16
     ∷ Boolean & UInt32 ⇒ UInt32
@@ -151,7 +159,7 @@ arms toString =
     ∷ Date & Float16 ⇒ Float32
     ∷ Date & Float32 ⇒ Float32
     ∷ Date & Float64 ⇒ Float64
-    ∷ arm (is Date) (is Datetime) Right
+    ∷ arm (is Date) (is Datetime) rightType
     ∷ Datetime & UInt32 ⇒ Int64
     ∷ Datetime & UInt64 ⇒ Int64
     ∷ Datetime & Int32 ⇒ Int64
@@ -159,7 +167,7 @@ arms toString =
     ∷ Datetime & Float16 ⇒ Float64
     ∷ Datetime & Float32 ⇒ Float64
     ∷ Datetime & Float64 ⇒ Float64
-    ∷ arm (is Datetime) (is Date) Left
+    ∷ arm (is Datetime) (is Date) leftType
     ∷ Boolean & Float16 ⇒ Float16
     ∷ Boolean & Float32 ⇒ Float32
     ∷ Boolean & Float64 ⇒ Float64
@@ -177,35 +185,58 @@ arms toString =
     ∷ Time & Float64 ⇒ Float64
     -- `&&` binds before `||`
     ∷ arm (λ dt. not (is UnknownAny dt) && not (is Binary dt) && toString || not (isPrimitive (physicalKind dt)))
-    (is String) (Kind String)
+    (is String) (roots (Kind String))
     ∷ String & Binary ⇒ Binary
-    ∷ arm every (is Null) Left
+    ∷ arm every (is Null) leftType
     -- with a zone or without one: the Datetime's own zone
-    ∷ arm (is Duration) (is Datetime) DatetimeDuration
-    ∷ arm (is Datetime) (is Duration) DatetimeDuration
+    ∷ arm (is Duration) (is Datetime) (roots DatetimeDuration)
+    ∷ arm (is Datetime) (is Duration) (roots DatetimeDuration)
     ∷ Duration & Date ⇒ Date
     ∷ Date & Duration ⇒ Date
-    ∷ arm (is Duration) (is Duration) Durations
+    ∷ arm (is Duration) (is Duration) (roots Durations)
     -- its guard is read with its answer: no later arm takes two Datetimes
-    ∷ arm (is Datetime) (is Datetime) Datetimes
-    -- the nested arms stand here (refusal 6)
-    ∷ arm (is Decimal) (is Decimal) Decimals
+    ∷ arm (is Datetime) (is Datetime) (roots Datetimes)
+    ∷ arm (is kind.List) (is kind.List) lists
+    ∷ arm (is kind.List) (is kind.Array) lists
+    ∷ arm (is kind.Array) (is kind.List) lists
+    -- its guard, equal widths, is read with its answer, and so is the later arm of two Arrays: no arm between takes them
+    ∷ arm (is kind.Array) (is kind.Array) arrays
+    ∷ arm (λ dt. is kind.List dt && implode) every implodeLeft
+    ∷ arm every (λ dt. is kind.List dt && implode) implodeRight
+    ∷ arm (is kind.Struct) (λ dt. is UnknownFloat dt || isUnknownInt dt) firstField
+    ∷ arm (is kind.Struct) (is kind.Struct) structs
+    ∷ arm (is kind.Struct) isPrimitiveNumeric eachField
+    ∷ arm (is Decimal) (is Decimal) (roots Decimals)
     ∷ Decimal & Float16 ⇒ Float64
     ∷ Decimal & Float32 ⇒ Float64
     ∷ Decimal & Float64 ⇒ Float64
     ∷ Decimal & UnknownFloat ⇒ Float64
-    ∷ arm (is Decimal) (λ dt. isSignedInteger dt || isUnsignedInteger dt) DecimalInteger
+    ∷ arm (is Decimal) (λ dt. isSignedInteger dt || isUnsignedInteger dt) (roots DecimalInteger)
     ∷ unknownArms toString
 
 -- the plan of the first arm that takes both kinds; `_ => None` where no arm does
-abbrev pub choose : List Arm → ℕ → ℕ → Plan
-choose [] a b = No
+abbrev pub choose : List Arm → ℕ → ℕ → TreePlan
+choose [] a b = roots No
 choose (x ∷ xs) a b = elim (x .left a && x .right b) [ true ↦ x .plan | false ↦ choose xs a b ]
 
-unfoldable pub planOf : Bool → ℕ → ℕ → Plan
-planOf toString a b = choose (arms toString) a b
+-- ---- the answers, of two types that are not nested
 
--- ---- the answers
+-- a plan as one of two roots, which are then the types; no nested arm takes them
+abbrev pub leafPlan : TreePlan → Plan
+leafPlan leftType = Left
+leafPlan rightType = Right
+leafPlan (roots p) = p
+leafPlan lists = No
+leafPlan arrays = No
+leafPlan implodeLeft = No
+leafPlan implodeRight = No
+leafPlan firstField = No
+leafPlan structs = No
+leafPlan eachField = No
+
+-- their plan, in which the implode flag has no part
+unfoldable pub planOf : Bool → ℕ → ℕ → Plan
+planOf toString a b = leafPlan (choose (arms false toString) a b)
 
 abbrev pub pick : Bool → Supertype → Supertype → Supertype
 pick true a b = a
@@ -261,7 +292,7 @@ run getSupertype DynNumber l r =
 run getSupertype DynBoolean l r = getSupertype l (node (materializeDynInt (value r)) 0)
 run getSupertype DynDecimal l r = Some (decimal dec128MaxPrec (scale l))
 
--- ---- the function
+-- ---- the function, of two types that are not nested
 
 abbrev pub orElse : Supertype → Supertype → Supertype
 orElse (Some n) s = Some n

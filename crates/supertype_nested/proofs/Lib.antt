@@ -1,0 +1,3 @@
+-- The laws of the supertype of any two types.
+pub mod Found
+pub mod Smaller
