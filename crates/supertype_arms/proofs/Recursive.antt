@@ -1,6 +1,6 @@
--- The definition's two layers of calls are the source's recursion: the inner call meets known types, for which no arm
--- calls again. Assumes nothing.
-use mathlib.Core.Path.{_≡_, refl, ap}
+-- The definition's two layers of calls are the source's recursion: the inner call meets Null, Boolean, integers and
+-- floats, for which no arm calls again or asks for a flag. Assumes nothing.
+use mathlib.Core.Path.{_≡_, refl, ap, _∙_}
 use mathlib.Core.Bool.{Bool, true, false, cond, not, _&&_, _||_}
 use mathlib.Core.List.{List, [], _∷_}
 use Prim.Native.Nat.{ℕ, _≤_, _<_}
@@ -11,7 +11,7 @@ use lib.Dec.{T, leb→le, ltb, ltb→lt}
 use lib.IntN.{ℤ, pos, negsuc}
 use lib.Signed.{leZ, nonNeg, _≤ℤ_}
 use borrow.Author.Tests.{le-ltb}
-use Rattle.flat.specs.Kind.{Null, UInt8, UInt16, UInt32, UInt64, Int8, Int16, Int32, Int64, Int128, UnknownAny}
+use Rattle.flat.specs.Kind.{Null, UInt8, UInt16, UInt32, UInt64, Int8, Int16, Int32, Int64, Int128, Decimal}
 use Rattle.flat.specs.Kind.{UnknownIntNeg}
 use Rattle.flat.proofs.Rules.{area, in-area, and-left, and-right, or-right}
 use Rattle.flat.proofs.Truths.{is-true, to-T}
@@ -35,7 +35,7 @@ use Rattle.supertype_arms.proofs.Decimals.{decimal-integer}
 -- ---- which plans call
 
 -- a plan that makes no inner call
-abbrev quiet : Plan → Bool
+abbrev pub quiet : Plan → Bool
 quiet No = true
 quiet Left = true
 quiet Right = true
@@ -50,7 +50,7 @@ quiet DynBoolean = false
 quiet DynDecimal = true
 
 module _ (f g : Call) (l r : Node) where
-  quiet-run : (p : Plan) → T (quiet p) → run f p l r ≡ run g p l r
+  pub quiet-run : (p : Plan) → T (quiet p) → run f p l r ≡ run g p l r
   unfolding run
   quiet-run No t = refl
   quiet-run Left t = refl
@@ -65,25 +65,51 @@ module _ (f g : Call) (l r : Node) where
   quiet-run DynBoolean t = absurd t
   quiet-run DynDecimal t = refl
 
--- two known types make no inner call
-known-quiet : T (area (λ a b. quiet (planOf true a b)) 0 UnknownAny 0 UnknownAny)
+-- nor does the arm of a number with a dyn int, where the left type is a dyn int too
+pub dyn-run : (f g : Call) (l r : Node) → isUnknownInt (l .kind) ≡ true → (p : Plan) → T (quiet p || alike p DynNumber)
+    → run f p l r ≡ run g p l r
+unfolding run
+dyn-run f g l r e p t = go (quiet p) refl t
+  where
+    maxima : run f DynNumber l r ≡ run g DynNumber l r
+    maxima = rw e
+
+    go : (b : Bool) → quiet p ≡ b → T (b || alike p DynNumber) → run f p l r ≡ run g p l r
+    go true q u = quiet-run f g l r p (to-T q)
+    go false q u = rw (alike-eq p DynNumber u) maxima
+
+-- two kinds below Decimal's: their plan makes no inner call, and is the same for both flags
+unfoldable settled-early : ℕ → ℕ → Bool
 unfolding right-at
-known-quiet = tt
+settled-early a b = quiet (planOf true a b) && alike (planOf true a b) (planOf false a b)
 
-quiet-inner : (f g : Call) (l r : Node) → l .kind < UnknownAny → r .kind < UnknownAny
-    → inner f true l r ≡ inner g true l r
-unfolding inner
-quiet-inner f g l r p q =
-    ap (pick (same l r) (Some l))
-    (quiet-run f g l r (planOf true (l .kind) (r .kind))
-    (in-area (λ a b. quiet (planOf true a b)) 0 UnknownAny 0 UnknownAny known-quiet (l .kind) (r .kind)
-    (omega arith)))
+below-decimal : (a b : ℕ) → a < Decimal → b < Decimal → T (settled-early a b)
+below-decimal a b p q = in-area settled-early 0 Decimal 0 Decimal (unfold settled-early in tt) a b (omega arith)
 
-quiet-call : (l r : Node) → l .kind < UnknownAny → r .kind < UnknownAny → knownSupertype l r ≡ supertype false true l r
-unfolding knownSupertype supertype supertypeWith
-quiet-call l r p q =
-    λ i. orElse (quiet-inner (λ l r. Nothing) knownSupertype l r p q i)
-    (quiet-inner (λ l r. Nothing) knownSupertype r l q p i)
+either-flag : (s : Bool) (a b : ℕ) → a < Decimal → b < Decimal → planOf true a b ≡ planOf s a b
+unfolding settled-early
+either-flag true a b p q = refl
+either-flag false a b p q =
+    alike-eq (planOf true a b) (planOf false a b) (and-right (quiet (planOf true a b)) _ (below-decimal a b p q))
+
+module _ (f g : Call) (s : Bool) where
+  quiet-inner : (l r : Node) → l .kind < Decimal → r .kind < Decimal → inner f true l r ≡ inner g s l r
+  unfolding inner settled-early
+  quiet-inner l r p q =
+      ap (pick (same l r) (Some l))
+      (quiet-run f g l r (planOf true (l .kind) (r .kind))
+      (and-left (quiet (planOf true (l .kind) (r .kind))) _ (below-decimal (l .kind) (r .kind) p q))
+      ∙ ap (λ (plan : Plan). run g plan l r) (either-flag s (l .kind) (r .kind) p q))
+
+  quiet-with : (l r : Node) → l .kind < Decimal → r .kind < Decimal → supertypeWith f true l r ≡ supertypeWith g s l r
+  unfolding supertypeWith
+  quiet-with l r p q = λ i. orElse (quiet-inner l r p q i) (quiet-inner r l q p i)
+
+-- so the inner call answers as the function does with any flag, over any inner call
+pub known-with : (call : Call) (s : Bool) (l r : Node) → l .kind < Decimal → r .kind < Decimal
+    → knownSupertype l r ≡ supertypeWith call s l r
+unfolding knownSupertype
+known-with call s l r p q = quiet-with (λ l r. Nothing) call s l r p q
 
 -- what holds of some types holds of the first of them that holds v
 abbrev all : (ℕ → Bool) → List ℕ → Bool
@@ -114,79 +140,83 @@ smallest-of p t u o dt v = go (isUnsignedInteger dt && nonNeg v)
     go true = first-of p (UInt8 ∷ UInt16 ∷ UInt32 ∷ UInt64 ∷ []) Null t o v
     go false = first-of p (Int8 ∷ Int16 ∷ Int32 ∷ Int64 ∷ UInt64 ∷ []) Null u o v
 
--- the types that an inner call meets are known
-dyn-known : (v : ℤ) → materializeDynInt v < UnknownAny
-dyn-known v = ltb→lt _ UnknownAny (dyn-int-of (λ k. ltb k UnknownAny) tt tt v)
+-- the types that an inner call meets on the right
+dyn-below : (v : ℤ) → materializeDynInt v < Decimal
+dyn-below v = ltb→lt _ Decimal (dyn-int-of (λ k. ltb k Decimal) tt tt v)
 
-smallest-known : (dt : ℕ) (v : ℤ) → smallestFitting dt v < UnknownAny
-smallest-known dt v = ltb→lt _ UnknownAny (smallest-of (λ k. ltb k UnknownAny) tt tt tt dt v)
+smallest-below : (dt : ℕ) (v : ℤ) → smallestFitting dt v < Decimal
+smallest-below dt v = ltb→lt _ Decimal (smallest-of (λ k. ltb k Decimal) tt tt tt dt v)
 
--- where a plan may be run: it makes no inner call, or makes it with a known left type, or the left type is a dyn int
--- and both are
+-- where a plan may be run: it makes no inner call, or makes it with a left kind below Decimal's, or the left type is a
+-- dyn int and both are
 unfoldable calls : Bool → ℕ → ℕ → Bool
 unfolding right-at
-calls s a b = quiet (planOf s a b) || (ltb a UnknownAny || (isUnknownInt a && alike (planOf s a b) DynNumber))
+calls s a b = quiet (planOf s a b) || (ltb a Decimal || (isUnknownInt a && alike (planOf s a b) DynNumber))
 
 calls-hold : (s : Bool) (a b : ℕ) → a ≤ UnknownIntNeg → b ≤ UnknownIntNeg → T (calls s a b)
 calls-hold s a b h g =
     of-flag (λ s. calls s a b)
     (in-area (λ a b. calls true a b && calls false a b) 0 28 0 28 (unfold calls in tt) a b (omega arith)) s
 
-module _ (l r : Node) where
-  known-left : (p : Plan) → l .kind < UnknownAny → run knownSupertype p l r ≡ run (supertype false true) p l r
+-- two calls that answer alike where dyn arms call them
+module _ (f g : Call) (l r : Node) (agree : (k : ℕ) → k < Decimal → f l (node k 0) ≡ g l (node k 0)) where
+  pub runs-same : (p : Plan) → run f p l r ≡ run g p l r
   unfolding run dynNumber
-  known-left No h = refl
-  known-left Left h = refl
-  known-left Right h = refl
-  known-left (Kind k) h = refl
-  known-left Decimals h = refl
-  known-left DecimalInteger h = refl
-  known-left DatetimeDuration h = refl
-  known-left Datetimes h = refl
-  known-left Durations h = refl
-  known-left DynNumber h =
-      rw (quiet-call l (node (smallestFitting (l .kind) (value r)) 0) h (smallest-known (l .kind) (value r)))
-  known-left DynBoolean h = quiet-call l (node (materializeDynInt (value r)) 0) h (dyn-known (value r))
-  known-left DynDecimal h = refl
+  runs-same No = refl
+  runs-same Left = refl
+  runs-same Right = refl
+  runs-same (Kind k) = refl
+  runs-same Decimals = refl
+  runs-same DecimalInteger = refl
+  runs-same DatetimeDuration = refl
+  runs-same Datetimes = refl
+  runs-same Durations = refl
+  runs-same DynNumber = rw (agree (smallestFitting (l .kind) (value r)) (smallest-below (l .kind) (value r)))
+  runs-same DynBoolean = agree (materializeDynInt (value r)) (dyn-below (value r))
+  runs-same DynDecimal = refl
 
-  dyn-left : isUnknownInt (l .kind) ≡ true → run knownSupertype DynNumber l r ≡ run (supertype false true) DynNumber l r
-  unfolding run
-  dyn-left e = rw e
-
-  runs-alike : (s : Bool) → l .kind ≤ UnknownIntNeg → r .kind ≤ UnknownIntNeg
-      → run knownSupertype (planOf s (l .kind) (r .kind)) l r
-      ≡ run (supertype false true) (planOf s (l .kind) (r .kind)) l r
+-- of a call that answers as the inner one does where dyn arms call it
+module _ (call : Call)
+    (agree : (l r : Node) → l .kind < Decimal → r .kind < Decimal → knownSupertype l r ≡ call l r) where
+  runs-alike : (s : Bool) (l r : Node) → l .kind ≤ UnknownIntNeg → r .kind ≤ UnknownIntNeg
+      → run knownSupertype (planOf s (l .kind) (r .kind)) l r ≡ run call (planOf s (l .kind) (r .kind)) l r
   unfolding calls
-  runs-alike s p q = go (decLt (l .kind) UnknownAny) (quiet plan) refl (calls-hold s (l .kind) (r .kind) p q)
+  runs-alike s l r p q = go (decLt (l .kind) Decimal) (quiet plan) refl (calls-hold s (l .kind) (r .kind) p q)
     where
       plan : Plan
       plan = planOf s (l .kind) (r .kind)
 
-      go : Dec (l .kind < UnknownAny) → (b : Bool) → quiet plan ≡ b
-          → T (b || (ltb (l .kind) UnknownAny || (isUnknownInt (l .kind) && alike plan DynNumber)))
-          → run knownSupertype plan l r ≡ run (supertype false true) plan l r
-      go (yes h) b e t = known-left plan h
-      go (no h) true e t = quiet-run knownSupertype (supertype false true) l r plan (to-T e)
+      go : Dec (l .kind < Decimal) → (b : Bool) → quiet plan ≡ b
+          → T (b || (ltb (l .kind) Decimal || (isUnknownInt (l .kind) && alike plan DynNumber)))
+          → run knownSupertype plan l r ≡ run call plan l r
+      go (yes h) b e t = runs-same knownSupertype call l r (λ k m. agree l (node k 0) h m) plan
+      go (no h) true e t = quiet-run knownSupertype call l r plan (to-T e)
       go (no h) false e t =
           let u : T (isUnknownInt (l .kind) && alike plan DynNumber) = or-right
-          (isUnknownInt (l .kind) && alike plan DynNumber) (le-ltb (l .kind) UnknownAny (omega arith)) t in
-          rw (alike-eq plan DynNumber (and-right (isUnknownInt (l .kind)) (alike plan DynNumber) u))
-          (dyn-left (is-true (isUnknownInt (l .kind)) (and-left (isUnknownInt (l .kind)) (alike plan DynNumber) u)))
+          (isUnknownInt (l .kind) && alike plan DynNumber) (le-ltb (l .kind) Decimal (omega arith)) t in
+          dyn-run knownSupertype call l r
+          (is-true (isUnknownInt (l .kind)) (and-left (isUnknownInt (l .kind)) (alike plan DynNumber) u)) plan
+          (rw e (and-right (isUnknownInt (l .kind)) (alike plan DynNumber) u))
 
-inner-alike : (s : Bool) (l r : Node) → l .kind ≤ UnknownIntNeg → r .kind ≤ UnknownIntNeg
-    → inner knownSupertype s l r ≡ inner (supertype false true) s l r
-unfolding inner
-inner-alike s l r p q = ap (pick (same l r) (Some l)) (runs-alike l r s p q)
+  inner-alike : (s : Bool) (l r : Node) → l .kind ≤ UnknownIntNeg → r .kind ≤ UnknownIntNeg
+      → inner knownSupertype s l r ≡ inner call s l r
+  unfolding inner
+  inner-alike s l r p q = ap (pick (same l r) (Some l)) (runs-alike s l r p q)
+
+  pub over-call : (i s : Bool) (l r : Node) → l .kind ≤ UnknownIntNeg → r .kind ≤ UnknownIntNeg
+      → supertype i s l r ≡ supertypeWith call s l r
+  unfolding supertype supertypeWith
+  over-call i s l r p q = λ j. orElse (inner-alike s l r p q j) (inner-alike s r l q p j)
 
 implode : (i j s : Bool) (l r : Node) → supertype i s l r ≡ supertype j s l r
 unfolding supertype
 implode i j s l r = refl
 
-recursive : (i s : Bool) (l r : Node) → fits l ≡ true → fits r ≡ true
-    → supertype i s l r ≡ supertypeWith (supertype false true) s l r
-unfolding supertype supertypeWith
-recursive i s l r p q =
-    λ j. orElse (inner-alike s l r (in-range l p) (in-range r q) j) (inner-alike s r l (in-range r q) (in-range l p) j)
+recursive : (i s j t : Bool) (l r : Node) → fits l ≡ true → fits r ≡ true
+    → supertype i s l r ≡ supertypeWith (supertype j t) s l r
+unfolding supertype
+recursive i s j t l r p q =
+    over-call (supertype j t) (λ l r. known-with knownSupertype t l r) i s l r (in-range l p) (in-range r q)
 
 dyn-ints : (i s : Bool) (l r : Node) → isUnknownInt (l .kind) ≡ true → isUnknownInt (r .kind) ≡ true
     → supertype i s l r ≡ Some l

@@ -22,11 +22,12 @@ abbrev pub byDigits : Node → ℕ → Node
 byDigits n k = decimal (cond (leb (digitsOf k) (precision n - scale n)) (precision n) dec128MaxPrec) (scale n)
 
 pub record SupertypeLaws : Type 0 where
-  -- the implode flag changes no answer: the source reads it in its nested arms alone, which the definition has not
+  -- the implode flag changes no answer: the source reads it in its nested arms alone, which take no such type
   pub implode : (i j s : Bool) (l r : Node) → supertype i s l r ≡ supertype j s l r
-  -- the source's own recursion: the calls that its arms make are calls of the function itself, with its default flags
-  pub recursive : (i s : Bool) (l r : Node) → fits l ≡ true → fits r ≡ true
-      → supertype i s l r ≡ supertypeWith (supertype false true) s l r
+  -- the source's own recursion: the calls that its arms make are calls of the function itself, and their flags don't
+  -- matter
+  pub recursive : (i s j t : Bool) (l r : Node) → fits l ≡ true → fits r ≡ true
+      → supertype i s l r ≡ supertypeWith (supertype j t) s l r
   -- corner 1: two dyn ints are equal whatever they hold, so the left one returns
   pub dyn-ints : (i s : Bool) (l r : Node) → isUnknownInt (l .kind) ≡ true → isUnknownInt (r .kind) ≡ true
       → supertype i s l r ≡ Some l

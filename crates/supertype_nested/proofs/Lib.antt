@@ -1,3 +1,5 @@
 -- The laws of the supertype of any two types.
 pub mod Found
 pub mod Smaller
+pub mod Chosen
+pub mod Recursive

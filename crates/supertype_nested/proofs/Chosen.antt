@@ -1,0 +1,104 @@
+-- What the arms tell of the plan that is chosen: a test of every arm that takes two kinds. Assumes nothing.
+use mathlib.Core.Path.{_≡_, refl}
+use mathlib.Core.Bool.{Bool, true, false, not, _&&_, _||_}
+use mathlib.Core.List.{List, [], _∷_}
+use Prim.Native.Nat.{ℕ}
+use lib.Dec.{T, eqb}
+use borrow.Author.Tests.{eqb-true}
+use Rattle.flat.proofs.Rules.{and-both, and-left, and-right}
+use Rattle.dtype.specs.Match.{among}
+use Rattle.dtype.specs.Predicate.{isUnknownInt, isPrimitiveNumeric}
+use Rattle.flat.specs.Kind.{Boolean}
+use Rattle.supertype_arms.specs.Supertype.{Arm, is, arms, unknownArms, choose}
+use Rattle.supertype_arms.specs.Supertype.{TreePlan, leftType, rightType, roots}
+use Rattle.supertype_arms.specs.Supertype.{lists, arrays, implodeLeft, implodeRight, firstField, structs, eachField}
+use Rattle.supertype_arms.specs.declared.plan.Plan.the-variants.{No, DynNumber}
+use Rattle.supertype_arms.proofs.Areas.{alike}
+use Rattle.supertype_arms.proofs.Recursive.{quiet}
+use Rattle.supertype_nested.specs.Nested.{SuperTypeOptions, treePlan}
+
+-- every arm that takes a and b has a plan of which the test holds; where the test computes to true of an arm's plan,
+-- nothing is asked of a and b
+abbrev pub all-arms : (TreePlan → Bool) → ℕ → ℕ → List Arm → Bool
+all-arms ok a b [] = true
+all-arms ok a b (x ∷ xs) = (ok (x .plan) || not (x .left a && x .right b)) && all-arms ok a b xs
+
+pub or-false : (p : Bool) → T (p || false) → T p
+or-false true u = tt
+or-false false u = u
+
+pub chosen : (ok : TreePlan → Bool) (a b : ℕ) (xs : List Arm) → T (ok (roots No)) → T (all-arms ok a b xs)
+    → T (ok (choose xs a b))
+chosen ok a b [] o t = o
+chosen ok a b (x ∷ xs) o t =
+    go (x .left a && x .right b) (and-left (ok (x .plan) || not (x .left a && x .right b)) (all-arms ok a b xs) t)
+    (chosen ok a b xs o (and-right (ok (x .plan) || not (x .left a && x .right b)) (all-arms ok a b xs) t))
+  where
+    go : (takes : Bool) → T (ok (x .plan) || not takes) → T (ok (choose xs a b))
+      → T (ok (elim takes as (λ z. TreePlan) [ true ↦ x .plan | false ↦ choose xs a b ]))
+    go true u v = or-false (ok (x .plan)) u
+    go false u v = v
+
+-- a plan that makes no inner call with two roots
+abbrev pub rootsQuiet : TreePlan → Bool
+rootsQuiet leftType = true
+rootsQuiet rightType = true
+rootsQuiet (roots p) = quiet p
+rootsQuiet lists = true
+rootsQuiet arrays = true
+rootsQuiet implodeLeft = true
+rootsQuiet implodeRight = true
+rootsQuiet firstField = true
+rootsQuiet structs = true
+rootsQuiet eachField = true
+
+off : (p q : Bool) → q ≡ false → T (not (p && q))
+off true q e = rw e tt
+off false q e = tt
+
+or-true : (p : Bool) → T (p || true)
+or-true true = tt
+or-true false = tt
+
+-- only a dyn int on the right is joined by an inner call, with a number or Boolean
+pub no-call : (o : SuperTypeOptions) (a b : ℕ) → isUnknownInt b ≡ false → T (rootsQuiet (treePlan o a b))
+unfolding treePlan arms unknownArms
+no-call o a b e = go (o .allowImplodeList) (o .allowPrimitiveToString)
+  where
+    two-arms : T (not (isPrimitiveNumeric a && isUnknownInt b) && (not (is Boolean a && isUnknownInt b) && true))
+    two-arms =
+        and-both (not (isPrimitiveNumeric a && isUnknownInt b)) (not (is Boolean a && isUnknownInt b) && true)
+        (off (isPrimitiveNumeric a) (isUnknownInt b) e)
+        (and-both (not (is Boolean a && isUnknownInt b)) true (off (is Boolean a) (isUnknownInt b) e) tt)
+
+    go : (i s : Bool) → T (rootsQuiet (choose (arms i s) a b))
+    go i true = chosen rootsQuiet a b (arms i true) tt two-arms
+    go i false = chosen rootsQuiet a b (arms i false) tt two-arms
+
+-- where the left type is a dyn int, an inner call that would be made is discarded
+abbrev pub discards : ℕ → TreePlan → Bool
+discards a leftType = true
+discards a rightType = true
+discards a (roots p) = (quiet p || alike p DynNumber) || not (isUnknownInt a)
+discards a lists = true
+discards a arrays = true
+discards a implodeLeft = true
+discards a implodeRight = true
+discards a firstField = true
+discards a structs = true
+discards a eachField = true
+
+pub dyn-discards : (o : SuperTypeOptions) (a b : ℕ) → T (discards a (treePlan o a b))
+unfolding treePlan arms unknownArms isUnknownInt among
+dyn-discards o a b = go (o .allowImplodeList) (o .allowPrimitiveToString)
+  where
+    no-boolean : (c : Bool) → eqb a Boolean ≡ c → T (not (isUnknownInt a) || not (c && isUnknownInt b))
+    no-boolean true e = rw (eqb-true a Boolean e) tt
+    no-boolean false e = or-true (not (isUnknownInt a))
+
+    one-arm : T ((not (isUnknownInt a) || not (is Boolean a && isUnknownInt b)) && true)
+    one-arm = and-both (not (isUnknownInt a) || not (is Boolean a && isUnknownInt b)) true (no-boolean (is Boolean a) refl) tt
+
+    go : (i s : Bool) → T (discards a (choose (arms i s) a b))
+    go i true = chosen (discards a) a b (arms i true) tt one-arm
+    go i false = chosen (discards a) a b (arms i false) tt one-arm
