@@ -3,3 +3,4 @@ pub mod Found
 pub mod Smaller
 pub mod Chosen
 pub mod Recursive
+pub mod Leaves

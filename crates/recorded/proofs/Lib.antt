@@ -1,0 +1,2 @@
+-- The definition gives every recorded answer.
+pub mod Agree

@@ -1,0 +1,1 @@
+// Recorded answers of the crate's own text, which the prover computes from the definitions.
