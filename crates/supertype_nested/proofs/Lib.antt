@@ -4,3 +4,5 @@ pub mod Smaller
 pub mod Chosen
 pub mod Recursive
 pub mod Leaves
+pub mod Union
+pub mod Names
