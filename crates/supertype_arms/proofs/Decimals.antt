@@ -37,6 +37,12 @@ module _ {n : Node} (w : IsDecimal n) where
   unfolding fits argumentFits argumentRule
   rule = rw (w .kind) at w .fitting
 
+  pub least : 1 ≤ precision n
+  least =
+      leb-true 1 (precision n)
+      (both-true (leb 1 (precision n)) _
+      (both-true (leb 1 (precision n) && leb (precision n) dec128MaxPrec) _ rule .0) .0)
+
   pub most : precision n ≤ dec128MaxPrec
   most =
       leb-true (precision n) dec128MaxPrec

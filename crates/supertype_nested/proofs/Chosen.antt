@@ -23,6 +23,19 @@ abbrev pub all-arms : (TreePlan → Bool) → ℕ → ℕ → List Arm → Bool
 all-arms ok a b [] = true
 all-arms ok a b (x ∷ xs) = (ok (x .plan) || not (x .left a && x .right b)) && all-arms ok a b xs
 
+-- what is left of such a test, where it computes to true of all other arms
+abbrev pub every-of : List Bool → Bool
+every-of [] = true
+every-of (x ∷ xs) = x && every-of xs
+
+abbrev pub AllTrue : List Bool → Type 0
+AllTrue [] = Unit {0}
+AllTrue (x ∷ xs) = T x × AllTrue xs
+
+pub all-true : (xs : List Bool) → AllTrue xs → T (every-of xs)
+all-true [] h = tt
+all-true (x ∷ xs) h = and-both x (every-of xs) (h .0) (all-true xs (h .1))
+
 pub or-false : (p : Bool) → T (p || false) → T p
 or-false true u = tt
 or-false false u = u
@@ -65,15 +78,16 @@ pub no-call : (o : SuperTypeOptions) (a b : ℕ) → isUnknownInt b ≡ false �
 unfolding treePlan arms unknownArms
 no-call o a b e = go (o .allowImplodeList) (o .allowPrimitiveToString)
   where
-    two-arms : T (not (isPrimitiveNumeric a && isUnknownInt b) && (not (is Boolean a && isUnknownInt b) && true))
-    two-arms =
-        and-both (not (isPrimitiveNumeric a && isUnknownInt b)) (not (is Boolean a && isUnknownInt b) && true)
-        (off (isPrimitiveNumeric a) (isUnknownInt b) e)
-        (and-both (not (is Boolean a && isUnknownInt b)) true (off (is Boolean a) (isUnknownInt b) e) tt)
+    facts : List Bool
+    facts = not (isPrimitiveNumeric a && isUnknownInt b) ∷ not (is Boolean a && isUnknownInt b) ∷ []
+
+    hold : T (every-of facts)
+    hold =
+        all-true facts (off (isPrimitiveNumeric a) (isUnknownInt b) e, (off (is Boolean a) (isUnknownInt b) e, tt))
 
     go : (i s : Bool) → T (rootsQuiet (choose (arms i s) a b))
-    go i true = chosen rootsQuiet a b (arms i true) tt two-arms
-    go i false = chosen rootsQuiet a b (arms i false) tt two-arms
+    go i true = chosen rootsQuiet a b (arms i true) tt hold
+    go i false = chosen rootsQuiet a b (arms i false) tt hold
 
 -- where the left type is a dyn int, an inner call that would be made is discarded
 abbrev pub discards : ℕ → TreePlan → Bool
@@ -96,9 +110,12 @@ dyn-discards o a b = go (o .allowImplodeList) (o .allowPrimitiveToString)
     no-boolean true e = rw (eqb-true a Boolean e) tt
     no-boolean false e = or-true (not (isUnknownInt a))
 
-    one-arm : T ((not (isUnknownInt a) || not (is Boolean a && isUnknownInt b)) && true)
-    one-arm = and-both (not (isUnknownInt a) || not (is Boolean a && isUnknownInt b)) true (no-boolean (is Boolean a) refl) tt
+    facts : List Bool
+    facts = (not (isUnknownInt a) || not (is Boolean a && isUnknownInt b)) ∷ []
+
+    hold : T (every-of facts)
+    hold = all-true facts (no-boolean (is Boolean a) refl, tt)
 
     go : (i s : Bool) → T (discards a (choose (arms i s) a b))
-    go i true = chosen (discards a) a b (arms i true) tt one-arm
-    go i false = chosen (discards a) a b (arms i false) tt one-arm
+    go i true = chosen (discards a) a b (arms i true) tt hold
+    go i false = chosen (discards a) a b (arms i false) tt hold

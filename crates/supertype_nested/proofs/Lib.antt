@@ -6,3 +6,7 @@ pub mod Recursive
 pub mod Leaves
 pub mod Union
 pub mod Names
+pub mod Keeps
+pub mod Fits
+pub mod Valid
+pub mod Hold

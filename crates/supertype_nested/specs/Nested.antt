@@ -10,7 +10,7 @@ use Rattle.flat.specs.Reader.{mapO, bindO}
 use Rattle.dtype.specs.Match.{ifLeaf, ifStruct, ifField}
 use Rattle.dtype.specs.Equality.{equal}
 use Rattle.dtype_inner.specs.Inner.{innerDtype}
-use Rattle.supertype_answer.specs.Join.{Node, Supertype, Some, Nothing, rootNode, typeOf}
+use Rattle.supertype_answer.specs.Join.{Supertype, Some, Nothing, node, rootNode, typeOf}
 use Rattle.supertype_arms.specs.Supertype.{arms, choose, Call, run}
 use Rattle.supertype_arms.specs.Supertype.{TreePlan, leftType, rightType, roots}
 use Rattle.supertype_arms.specs.Supertype.{lists, arrays, implodeLeft, implodeRight, firstField, structs, eachField}
@@ -117,9 +117,9 @@ abbrev pub treeOf : Supertype → Option DataType
 treeOf (Some n) = some (typeOf n)
 treeOf Nothing = none
 
--- the root of what was found
+-- what was found, as a root: two types that are not nested have no nested one in common
 abbrev pub rootFound : Option DataType → Supertype
-rootFound (some t) = Some (rootNode t)
+rootFound (some t) = ifLeaf Nothing (λ k a. Some (node k a)) t
 rootFound none = Nothing
 
 -- a call with two roots: the dyn arms make one with the left type and an integer type
