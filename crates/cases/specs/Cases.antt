@@ -4,7 +4,7 @@
 -- is of the corner n, `refusal n` is a call that is refused by n, `not-refused` a call that is not refused, and
 -- `requested n` is of the request n. Assumes nothing: these are definitions.
 use mathlib.Core.Path.{_≡_}
-use mathlib.Core.Bool.{Bool, true, false}
+use mathlib.Core.Bool.{Bool, true, false, cond, _&&_}
 use mathlib.Core.List.{List, [], _∷_, _++_, map}
 use mathlib.Core.Option.{none, some}
 use Prim.Native.Nat.{ℕ, _+_, _-_, _*_, _^_}
@@ -14,10 +14,11 @@ use Rattle.flat.specs.Kind
 use Rattle.flat.specs.Tree.{DataType, leaf, list, array, struct, Fields, empty, field, kindsOf, argsOf}
 use Rattle.flat.specs.Reading.{type}
 use Rattle.flat.specs.Limits.{lists, fieldsOf}
+use Rattle.supertype_nested.specs.Nested.{SuperTypeOptions, options}
 use Rattle.cases.specs.Question.{Limits, answerTo}
 use Rattle.cases.specs.Question.{FlatCall, check, check-encoded, get-supertype, materialize-unknown, merge}
-use Rattle.cases.specs.Question.{Asked, supertype, lossless, smallest-dyn-int, can-cast, materialize, merge-all}
-use Rattle.cases.specs.Question.{number-of, root, encoded, decoded, codes}
+use Rattle.cases.specs.Question.{Asked, supertype, nested-supertype, lossless, smallest-dyn-int, can-cast}
+use Rattle.cases.specs.Question.{materialize, merge-all, number-of, root, encoded, decoded, codes}
 use Rattle.cases.specs.Question.{Answered, joined, kind, verdict, result, merged, number, numbers}
 
 -- a place in document 01: the corner of that number, "Why a call is turned down", or "Flat types and stored sheets"; or
@@ -351,6 +352,74 @@ in-both-orders i s (r ∷ rows) =
     ∷ requested 2 (supertype i s (lone (r .2)) (decimalLeaf (r .0) (r .1))) (joins (decimalLeaf (r .3) (r .1)))
     ∷ in-both-orders i s rows
 
+-- a Struct of two fields with these names, and of three
+abbrev pub pair : ℕ → DataType → ℕ → DataType → DataType
+pair m t n u = struct (field m t (field n u empty))
+
+abbrev pub triple : ℕ → DataType → ℕ → DataType → ℕ → DataType → DataType
+triple k s m t n u = struct (field k s (field m t (field n u empty)))
+
+-- Three: two types in this order, and what joins them with the flags o of the call and i of its inner calls
+abbrev pub ordered-joins : SuperTypeOptions → SuperTypeOptions → List (DataType × DataType × Answered)
+ordered-joins o i =
+    -- List(Int8) with String gives String
+    (list (lone Kind.Int8), lone Kind.String, joins (lone Kind.String))
+    -- String with List(Int8) under the outer implode flag tries the list first; where inner calls make no strings, that
+    -- finds none, and the second order answers
+    ∷ (lone Kind.String, list (lone Kind.Int8), joins (cond (o .allowImplodeList && i .allowPrimitiveToString)
+    (list (lone Kind.String)) (lone Kind.String)))
+    -- as many fields, and a name that differs: the union, in which the left counts as the longer
+    ∷ (pair 1 (lone Kind.Int8) 2 (lone Kind.Int8), pair 1 (lone Kind.Int16) 3 (lone Kind.Boolean),
+    joins (triple 1 (lone Kind.Int16) 2 (lone Kind.Int8) 3 (lone Kind.Boolean)))
+    ∷ (pair 1 (lone Kind.Int16) 3 (lone Kind.Boolean), pair 1 (lone Kind.Int8) 2 (lone Kind.Int8),
+    joins (triple 1 (lone Kind.Int16) 3 (lone Kind.Boolean) 2 (lone Kind.Int8)))
+    ∷ []
+
+-- Three: two types in either order
+abbrev pub unordered-joins : SuperTypeOptions → SuperTypeOptions → List (DataType × DataType × Answered)
+unordered-joins o i =
+    -- a name repeated in the longer Struct keeps its first place and its last type
+    (triple 1 (lone Kind.Int8) 2 (lone Kind.String) 1 (lone Kind.Int32),
+    pair 1 (lone Kind.Int16) 3 (lone Kind.Date),
+    joins (triple 1 (lone Kind.Int32) 2 (lone Kind.String) 3 (lone Kind.Date)))
+    -- a new name repeated in the shorter one keeps its first place too, and its types are joined
+    ∷ (triple 1 (lone Kind.Int8) 2 (lone Kind.String) 3 (lone Kind.Date), pair 4 (lone Kind.Int32) 4 (lone Kind.Int16),
+    joins (struct (field 1 (lone Kind.Int8) (field 2 (lone Kind.String) (field 3 (lone Kind.Date)
+    (field 4 (lone Kind.Int32) empty))))))
+    -- as many fields of the same names: field by field, and repeated names stay twice
+    ∷ (pair 1 (lone Kind.Int8) 1 (lone Kind.Boolean), pair 1 (lone Kind.Int16) 1 (lone Kind.Boolean),
+    joins (pair 1 (lone Kind.Int16) 1 (lone Kind.Boolean)))
+    -- a field without a supertype before the first name that differs: None, though the union has an answer
+    ∷ (pair 1 (lone Kind.Date) 1 (lone Kind.Boolean), pair 1 (lone Kind.Boolean) 2 (lone Kind.Int8), no-type)
+    -- a dyn number is joined with the first field alone, a number with each
+    ∷ (two 1 (lone Kind.Int8) (lone Kind.Date), dyn (pos 300), joins (lone Kind.Int16))
+    ∷ (struct empty, dyn (pos 300), no-type)
+    ∷ (two 1 (lone Kind.Int8) (lone Kind.UInt8), lone Kind.Int16, joins (two 1 (lone Kind.Int16) (lone Kind.Int16)))
+    -- an Array where both have its width, else a List
+    ∷ (array 2 (lone Kind.Int8), array 2 (lone Kind.Int16), joins (array 2 (lone Kind.Int16)))
+    ∷ (array 2 (lone Kind.Int8), array 3 (lone Kind.Int16), joins (list (lone Kind.Int16)))
+    ∷ (list (lone Kind.Int8), array 2 (lone Kind.Int16), joins (list (lone Kind.Int16)))
+    -- the flags of inner calls are not those of the call
+    ∷ (list (lone Kind.Int8), list (lone Kind.String),
+    cond (i .allowPrimitiveToString) (joins (list (lone Kind.String))) no-type)
+    ∷ (list (list (lone Kind.Int8)), list (lone Kind.Int16),
+    cond (i .allowImplodeList) (joins (list (list (lone Kind.Int16)))) no-type)
+    ∷ []
+
+-- as they stand, and the other way round
+abbrev pub as-ordered : SuperTypeOptions → SuperTypeOptions → List (DataType × DataType × Answered) → List Case
+as-ordered o i [] = []
+as-ordered o i (r ∷ rows) = requested 3 (nested-supertype o i (r .0) (r .1)) (r .2) ∷ as-ordered o i rows
+
+abbrev pub turned-round : SuperTypeOptions → SuperTypeOptions → List (DataType × DataType × Answered) → List Case
+turned-round o i [] = []
+turned-round o i (r ∷ rows) = requested 3 (nested-supertype o i (r .1) (r .0)) (r .2) ∷ turned-round o i rows
+
+-- Three: what nested joins work out
+abbrev pub nested-joins : SuperTypeOptions → SuperTypeOptions → List Case
+nested-joins o i =
+    as-ordered o i (ordered-joins o i) ++ (as-ordered o i (unordered-joins o i) ++ turned-round o i (unordered-joins o i))
+
 -- what the requests work out
 abbrev pub requests : Bool → Bool → List Case
 requests i s =
@@ -376,9 +445,12 @@ requests i s =
 abbrev pub table : Bool → Bool → Fields → List Case
 table i s fs = corners i s fs ++ (causes i s ++ (order i s ++ (bounds ++ (sheets ++ requests i s))))
 
--- The claim: at these limits, every row's answer is what the definitions answer.
+-- every row's answer is what the definitions answer
+unfoldable pub Hold : Limits → List Case → Type 0
+Hold l rows = map (λ (c : Case). answerTo l (c .asked)) rows ≡ map (λ (c : Case). c .answered) rows
+
+-- The claim: at these limits the table holds, and so do the nested joins, with any flags j and t of inner calls.
 abbrev pub CasesHold : (nodes deep channels width : ℕ) → Type 0
 CasesHold nodes deep channels width =
     let l : Limits = record { nodes = nodes; deep = deep; channels = channels; width = width } in
-    (i s : Bool) (fs : Fields)
-    → map (λ (c : Case). answerTo l (c .asked)) (table i s fs) ≡ map (λ (c : Case). c .answered) (table i s fs)
+    (i s j t : Bool) (fs : Fields) → Hold l (table i s fs) × Hold l (nested-joins (options i s) (options j t))

@@ -6,6 +6,7 @@ use Prim.Native.Nat.{ℕ}
 use lib.IntN.{ℤ}
 use lib.ListN.{getD, replicate}
 use Rattle.flat.specs.Tree.{DataType, kindsOf, argsOf}
+use Rattle.flat.specs.Reader.{mapO}
 use Rattle.flat.specs.Reading.{Reading, refused, type, reading, checkedOf, checkedNumber}
 use Rattle.flat.specs.Reading.{rootOf, rootNumber, rootKind, rootArg}
 use Rattle.flat.specs.Refusals.{numberGiven}
@@ -17,6 +18,7 @@ use Rattle.dtype_build.specs.Build.{materialized}
 use Rattle.supertype_answer.specs.Join.{joining}
 use Rattle.supertype_lossless.specs.Lossless.{losslessOf}
 use Rattle.supertype.specs.Pair.{supertypeOf}
+use Rattle.supertype_nested.specs.Nested.{SuperTypeOptions, supertypeTree}
 use Rattle.channels.specs.Merge.{mergedOf, mergedNumber, mergedValue, codesAfter}
 
 -- The limits that the code sets: the most nodes, the most nodes above a node, the number of channels, and the bytes of
@@ -61,6 +63,8 @@ callNumber l (merge held channel t) =
 pub data Asked : Type 0 where
   -- of the rules, of types that are valid
   supertype : (implode toString : Bool) → DataType → DataType → Asked
+  -- of any two types, with the flags of the call and of its inner calls
+  nested-supertype : (outer inner : SuperTypeOptions) → DataType → DataType → Asked
   lossless : DataType → DataType → Asked
   smallest-dyn-int : ℤ → Asked
   can-cast : DataType → DataType → Asked
@@ -111,6 +115,7 @@ mergeAll l cs (t ∷ ts) =
 -- what the definitions answer
 abbrev pub answerTo : Limits → Asked → Answered
 answerTo l (supertype implode toString t u) = joined (supertypeOf implode toString t u)
+answerTo l (nested-supertype o i t u) = joined (mapO type (supertypeTree o i t u))
 answerTo l (lossless t u) = joined (losslessOf t u)
 answerTo l (smallest-dyn-int v) = kind (materializeSmallestDynInt v)
 answerTo l (can-cast from to) = verdict (canCastTo from to)

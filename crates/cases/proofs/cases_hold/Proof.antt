@@ -27,6 +27,8 @@ use Rattle.supertype_arms.specs.Supertype.{unknownArms, arms, planOf, smallestF
 use Rattle.supertype_arms.specs.Supertype.{fitsOrigPrecScale, besideInteger, supertypeWith, knownSupertype, supertype}
 use Rattle.supertype.specs.Pair.{pairChecked, rootSupertype, supertypeOf}
 use Rattle.channels.specs.Merge.{mergedWith, mergedOf}
+use Rattle.cases.specs.Cases.{Hold}
+use Rattle.cases.proofs.Nested.{nested-hold}
 use Rattle.cases.proofs.cases_hold.Statement.{statement}
 use Rattle.cases.proofs.cases_hold.Tie as tie
 
@@ -39,10 +41,10 @@ unfolding lists fieldsOf bothOf argumentFits argumentRule count headKind headArg
     physicalLeaf physicalKind materialized upcastBy floats signed unsigned mixed upcastWhere upcastOf lossless
     losslessOf unknownArms arms planOf smallestFitting dynNumber run inner supertypeWith knownSupertype supertype
     fitsDec128 fitsOrigPrecScale besideInteger isListed pairChecked rootSupertype supertypeOf mergedWith mergedOf
-returns c i true empty = refl
-returns c i false empty = refl
-returns c i true (field name t fs) = refl
-returns c i false (field name t fs) = refl
+returns c i true j t empty = (unfold Hold in refl, nested-hold _ i true j t)
+returns c i false j t empty = (unfold Hold in refl, nested-hold _ i false j t)
+returns c i true j t (field name u fs) = (unfold Hold in refl, nested-hold _ i true j t)
+returns c i false j t (field name u fs) = (unfold Hold in refl, nested-hold _ i false j t)
 
 pub cases-hold-spec : {M : Type 1} → statement M
 cases-hold-spec = tie.close (tie.spec returns)
