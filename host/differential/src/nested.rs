@@ -5,6 +5,8 @@
 mod drawn;
 mod fields;
 mod leaves;
+#[cfg(test)]
+mod sorts;
 mod tree;
 mod worked;
 
@@ -28,6 +30,10 @@ const ROWS: usize = 100;
 
 /// The most columns of a line.
 const COLUMNS: usize = 120;
+
+/// How many rows crates/recorded was asked for.
+#[cfg(test)]
+const COUNT: usize = 2100;
 
 /// What each line of a list begins with.
 const INDENT: &str = "    ";
@@ -161,4 +167,37 @@ fn fields_of(mut argument: &str) -> Vec<&str> {
 
 fn columns(text: &str) -> usize {
     text.chars().count()
+}
+
+#[cfg(test)]
+mod tests {
+    use super::*;
+
+    #[test]
+    #[cfg_attr(not(polars_src), ignore = "no text of polars-core 0.55.2")]
+    fn the_computed_rows_are_the_recorded_ones() {
+        let file = include_str!("../../../crates/recorded/specs/Rows.antt");
+        let again = format!("record again: --nested {COUNT} > crates/recorded/specs/Rows.antt");
+        assert!(recorded(COUNT).iter().eq(file.lines()), "{again}");
+    }
+
+    #[test]
+    #[cfg_attr(not(polars_src), ignore = "no text of polars-core 0.55.2")]
+    fn lines_are_at_most_120_columns_wide_and_lists_have_100_rows() {
+        let lines = recorded(COUNT + 7);
+        assert!(lines.iter().all(|line| columns(line) <= COLUMNS));
+        let lists: Vec<&[String]> = lines.split(|line| line.is_empty()).skip(1).collect();
+        let rows = lists.iter().map(|list| list.iter().filter(|line| line.contains("asked ")).count());
+        assert!(rows.eq([ROWS; COUNT / ROWS].into_iter().chain([7])));
+    }
+
+    #[test]
+    fn a_long_row_goes_on_before_an_argument() {
+        let short = format!("({})", "x ".repeat(40));
+        let row = format!("asked true {short} {short} none");
+        assert_eq!(broken(&row), [format!("    asked true {short}"), format!("    {short} none")]);
+        let [field, rest] = ["0", "1"].map(|name| format!("(field {name} (leaf Int8 {})", "0".repeat(50)));
+        let row = format!("asked (struct {field} {rest} empty))) none");
+        assert_eq!(broken(&row), [format!("    asked (struct {field}"), format!("    {rest} empty))) none")]);
+    }
 }

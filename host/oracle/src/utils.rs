@@ -18,6 +18,7 @@ macro_rules! supertype {
             include!(concat!(env!("OUT_DIR"), "/", $file));
 
             impl From<[bool; 2]> for SuperTypeOptions {
+                #[inline]
                 fn from([implode, string]: [bool; 2]) -> SuperTypeOptions {
                     let none = SuperTypeFlags::from_bits_truncate(0);
                     let implode = if implode { SuperTypeFlags::ALLOW_IMPLODE_LIST } else { none };

@@ -61,7 +61,7 @@ fn worth(Row { asked, answer }: &Row) -> usize {
     match answer {
         _ if asked.left == asked.right => 10,
         None if asked.inner == DEFAULT || asked.answer_with(DEFAULT).is_none() => 25,
-        Some(_) if asked.inner != DEFAULT && asked.answer_with(DEFAULT) == *answer => 60,
+        Some(_) if asked.inner != DEFAULT && asked.answer_with(DEFAULT) == *answer => 40,
         _ => 100,
     }
 }
@@ -74,7 +74,7 @@ fn asked(random: &mut Random) -> Asked {
 }
 
 fn inner_flags(random: &mut Random) -> Flags {
-    if random.chance(24) {
+    if random.chance(20) {
         DEFAULT
     } else {
         random.pick(&[OFF, IMPLODE, BOTH])
@@ -116,18 +116,13 @@ fn wraps(random: &mut Random, room: usize) -> (Tree, Tree) {
 
 fn list_and_other(random: &mut Random, room: usize) -> (Tree, Tree) {
     let (left, right) = inside(random, room);
-    (left.list(), right)
-}
-
-/// The types of the fields of two Structs, field by field.
-fn field_types(random: &mut Random, room: usize) -> Vec<(Tree, Tree)> {
-    let count = random.pick(&[1, 2, 2, 2, 3]);
-    (0..count).map(|_| inside(random, room)).collect()
+    (left.list(), if random.chance(25) { Tree::Leaf(STRING, 0) } else { right })
 }
 
 /// The fields of two Structs with the same names.
 fn zipped(random: &mut Random, room: usize) -> (Vec<Field>, Vec<Field>) {
-    let (left, right): (Vec<_>, Vec<_>) = field_types(random, room).into_iter().unzip();
+    let count = random.pick(&[1, 2, 2, 2, 3]);
+    let (left, right): (Vec<Tree>, Vec<Tree>) = (0..count).map(|_| inside(random, room)).unzip();
     let left = fields::named(random, left);
     let right = left.iter().zip(right).map(|((name, _), dtype)| (*name, dtype)).collect();
     (left, right)
@@ -153,20 +148,19 @@ fn other_lengths(random: &mut Random, room: usize) -> (Tree, Tree) {
 }
 
 fn struct_and_dyn(random: &mut Random, room: usize) -> (Tree, Tree) {
-    let mut types: Vec<Tree> = field_types(random, room).into_iter().map(|(dtype, _)| dtype).collect();
-    if random.chance(5) {
-        types.clear();
-    } else if random.chance(50) {
-        types[0] = leaves::number(random);
-    }
-    (Tree::Struct(fields::named(random, types)), leaves::dyn_number(random))
+    (structure(random, room), leaves::dyn_number(random))
 }
 
 fn struct_and_number(random: &mut Random, room: usize) -> (Tree, Tree) {
-    let types: Vec<Tree> = field_types(random, room).into_iter().map(|(dtype, _)| dtype).collect();
-    let types = types.into_iter().map(|dtype| if random.chance(60) { leaves::number(random) } else { dtype });
-    let types: Vec<Tree> = types.collect();
-    (Tree::Struct(fields::named(random, types)), leaves::primitive_number(random))
+    (structure(random, room), leaves::primitive_number(random))
+}
+
+/// A Struct whose fields are numbers in most cases.
+fn structure(random: &mut Random, room: usize) -> Tree {
+    let count = random.pick(&[1, 2, 2, 2, 3]);
+    let dtype = |_| if random.chance(60) { leaves::number(random) } else { inside(random, room).0 };
+    let types: Vec<Tree> = (0..count).map(dtype).collect();
+    Tree::Struct(fields::named(random, types))
 }
 
 fn nested_and_leaf(random: &mut Random, room: usize) -> (Tree, Tree) {

@@ -11,7 +11,8 @@ pub const NAMES: usize = 3;
 pub type Change = fn(&mut Vec<Field>, &mut Random);
 
 /// Every way to change fields.
-pub const CHANGES: [Change; 4] = [rename, repeat, drop, swap];
+pub const CHANGES: [Change; 4] =
+    [|fields, random| rename(fields, random), |fields, random| swap(fields, random), repeat, leave_out];
 
 /// Some fields, of which those of one name have one of its two types in most cases.
 pub fn fields(random: &mut Random, count: usize, types: &[(Tree, Tree); NAMES]) -> Vec<Field> {
@@ -38,7 +39,7 @@ fn name(random: &mut Random) -> u64 {
 }
 
 /// Gives a field another name.
-pub fn rename(fields: &mut Vec<Field>, random: &mut Random) {
+pub fn rename(fields: &mut [Field], random: &mut Random) {
     let at = random.below(fields.len());
     fields[at].0 = (fields[at].0 + random.between(1, NAMES - 1) as u64) % NAMES as u64;
 }
@@ -50,12 +51,12 @@ fn repeat(fields: &mut Vec<Field>, random: &mut Random) {
     fields.insert(random.below(fields.len() + 1), (name, dtype));
 }
 
-fn drop(fields: &mut Vec<Field>, random: &mut Random) {
+fn leave_out(fields: &mut Vec<Field>, random: &mut Random) {
     fields.remove(random.below(fields.len()));
 }
 
 /// Exchanges the first field with some other.
-pub fn swap(fields: &mut Vec<Field>, random: &mut Random) {
+pub fn swap(fields: &mut [Field], random: &mut Random) {
     let other = random.below(fields.len());
     fields.swap(0, other);
 }

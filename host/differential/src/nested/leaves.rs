@@ -70,6 +70,10 @@ pub fn dyn_number(random: &mut Random) -> Tree {
     leaf_of(random.pick(&[UNKNOWN_FLOAT, UNKNOWN_INT_POS, UNKNOWN_INT_POS, UNKNOWN_INT_NEG]), random)
 }
 
+fn dyn_int(random: &mut Random) -> Tree {
+    leaf_of(random.pick(&[UNKNOWN_INT_POS, UNKNOWN_INT_NEG]), random)
+}
+
 /// The argument of a dyn int: a small one, or one around a bound of an integer type.
 fn value(random: &mut Random) -> u64 {
     let bits = random.pick(&INTEGERS).1;
@@ -88,7 +92,7 @@ fn around(bits: u32, random: &mut Random) -> u64 {
 
 /// Two leaves, in most cases of related kinds.
 pub fn pair(random: &mut Random) -> (Tree, Tree) {
-    let (left, right) = match random.below(12) {
+    let (left, right) = match random.below(13) {
         0..=2 => (number(random), number(random)),
         3 => integer_and_dyn(random),
         4 => (leaf_of(DECIMAL, random), leaf_of(random.pick(&BESIDE_DECIMALS), random)),
@@ -96,6 +100,7 @@ pub fn pair(random: &mut Random) -> (Tree, Tree) {
         7 | 8 => (Tree::Leaf(STRING, 0), leaf(random)),
         9 => (leaf_of(random.pick(&TEXTS), random), leaf(random)),
         10 => (leaf(random), Tree::Leaf(random.pick(&[NULL, NULL, BOOLEAN]), 0)),
+        11 => (dyn_int(random), dyn_int(random)),
         _ => (leaf(random), leaf(random)),
     };
     if random.chance(50) {

@@ -160,6 +160,6 @@ mod tests {
     #[cfg_attr(not(polars_src), ignore = "no text of polars-core 0.55.2")]
     fn a_type_comes_back_from_the_crate() {
         assert_eq!(Tree::from(&nested().dtype()), nested());
-        assert_eq!(nested().nodes(), 10);
+        assert_eq!(nested().nodes(), 11);
     }
 }

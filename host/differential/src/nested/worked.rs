@@ -20,7 +20,7 @@ pub fn all() -> Vec<Asked> {
     let mut worked = Worked::default();
     worked.lists();
     worked.arrays();
-    worked.repeated_names();
+    worked.other_lengths();
     worked.as_many_fields();
     worked.first_fields();
     worked.each_field();
@@ -54,11 +54,10 @@ impl Worked {
         self.ask(leaf(INT8).array(2), leaf(INT16).array(2), DEFAULTS);
         self.ask(leaf(INT8).array(2), leaf(INT16).array(1), DEFAULTS);
         self.ask(leaf(INT8).array(0), leaf(INT16).list(), DEFAULTS);
-        self.ask(leaf(INT8).array(1), leaf(STRING).array(1), STRINGS);
     }
 
-    /// In the longer Struct, and in the shorter.
-    fn repeated_names(&mut self) {
+    /// A name that is repeated in the longer Struct, and in the shorter; and joins that tell which of them is the left.
+    fn other_lengths(&mut self) {
         let longer = fields(&[(0, INT8), (1, INT8), (0, INT16)]);
         self.ask(longer.clone(), fields(&[(1, INT32)]), DEFAULTS);
         self.ask(longer.clone(), fields(&[(2, DATE), (0, INT8)]), DEFAULTS);
@@ -67,6 +66,8 @@ impl Worked {
         let shorter = fields(&[(1, INT16), (1, UINT16)]);
         self.ask(fields(&[(0, DATE), (1, INT8), (2, DATE)]), shorter.clone(), DEFAULTS);
         self.ask(fields(&[(0, DATE), (2, DATE), (0, TIME)]), shorter, DEFAULTS);
+        self.ask(fields(&[(0, UNKNOWN_ANY), (1, INT8)]), fields(&[(0, STRING)]), DEFAULTS);
+        self.ask(fields(&[(0, STRING), (1, INT8)]), fields(&[(0, UNKNOWN_ANY)]), DEFAULTS);
     }
 
     /// Joined field by field, and united from the first differing name on.
