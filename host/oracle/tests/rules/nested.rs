@@ -29,7 +29,7 @@ fn supertypes(inner: Flags, cases: &[(Nodes, Nodes, Option<Nodes>)]) {
     }
 }
 
-/// The same in either order of the pair.
+/// The supertype of each pair is the type beside it in either order, whatever the outer flags, with these inner ones.
 fn in_either_order(inner: Flags, cases: &[(Nodes, Nodes, Option<Nodes>)]) {
     let turned = |(left, right, expected): &(Nodes, Nodes, Option<Nodes>)| {
         [(left.clone(), right.clone(), expected.clone()), (right.clone(), left.clone(), expected.clone())]
@@ -183,7 +183,7 @@ fn the_shorter_struct_is_on_the_left_of_a_join() {
     EVERY.into_iter().for_each(|inner| in_either_order(inner, &cases));
 }
 
-/// The same of a List.
+/// Whichever side it stands on. String with any is any, and any with String is String.
 #[test]
 #[cfg_attr(not(polars_src), ignore = "no text of polars-core 0.55.2")]
 fn a_list_that_implodes_is_on_the_left_of_a_join() {
