@@ -6,7 +6,7 @@
 #[path = "build/sources.rs"]
 mod sources;
 
-use sources::{Folder, Source, SOURCES, VARIABLE};
+use sources::{Folder, Source, INNER_FLAGS, SOURCES, VARIABLE};
 use std::path::Path;
 use std::process::exit;
 use std::{env, fs};
@@ -68,14 +68,20 @@ fn compile(folder: Option<Folder>) -> Result<(), String> {
     Ok(())
 }
 
-/// Writes a checked text to OUT_DIR, where the library includes it.
+/// Writes a checked text to OUT_DIR, where the library includes it, and beside it the edited one of supertype.rs.
 fn write_out(source: &Source, folder: &Folder) -> Result<(), String> {
     let path = folder.find(source.path)?;
     println!("cargo::rerun-if-changed={}", path.display());
     let text = source.read(&path)?;
+    if source.name == INNER_FLAGS.source {
+        write(INNER_FLAGS.name, &INNER_FLAGS.of(&text)?)?;
+    }
+    write(source.name, &text)
+}
+
+fn write(name: &str, text: &str) -> Result<(), String> {
     let out = env::var("OUT_DIR").map_err(|error| format!("OUT_DIR: {error}"))?;
-    fs::write(Path::new(&out).join(source.name), text)
-        .map_err(|error| format!("cannot write {} to {out}: {error}", source.name))
+    fs::write(Path::new(&out).join(name), text).map_err(|error| format!("cannot write {name} to {out}: {error}"))
 }
 
 fn set_features() {

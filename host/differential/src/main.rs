@@ -8,10 +8,14 @@
 //!
 //! `differential --record N`: prints N or somewhat more of the oracle's answers, then those to some merges and damaged ones,
 //! see [`answers`]: the input of crates/replay. `differential --expect N` prints what crates/replay must say of them.
+//!
+//! `differential --nested N`: prints N or somewhat more of the oracle's answers to nested joins, as definitions, see
+//! [`nested`]: crates/recorded/specs/Rows.antt.
 
 #![forbid(unsafe_code)]
 
 mod answers;
+mod nested;
 mod options;
 mod record;
 
@@ -28,7 +32,7 @@ const STEP: u64 = 1_000_000;
 
 fn main() -> ExitCode {
     let Some(Options { task, seed }) = Options::read(std::env::args().skip(1)) else {
-        eprintln!("usage: differential [--seed S] [--count N | --joins N] | --record N | --expect N");
+        eprintln!("usage: differential [--seed S] [--count N | --joins N] | --record N | --expect N | --nested N");
         return ExitCode::from(2);
     };
     if !oracle::AVAILABLE {
@@ -40,6 +44,7 @@ fn main() -> ExitCode {
         Task::Join { pairs } => reported(seed, |differential| join(differential, seed, pairs)),
         Task::Record { count } => print(&record::recorded(count)),
         Task::Expect { count } => print(&record::expected(count)),
+        Task::Nested { count } => print(&nested::recorded(count)),
     }
 }
 

@@ -21,6 +21,8 @@ pub enum Task {
     Record { count: usize },
     /// What the replay must say of these.
     Expect { count: usize },
+    /// So many answers to nested joins.
+    Nested { count: usize },
 }
 
 impl Options {
@@ -35,6 +37,7 @@ impl Options {
                 "--joins" => options.task = Task::Join { pairs: number },
                 "--record" => options.task = Task::Record { count: number as usize },
                 "--expect" => options.task = Task::Expect { count: number as usize },
+                "--nested" => options.task = Task::Nested { count: number as usize },
                 _ => return None,
             }
         }
@@ -57,6 +60,7 @@ mod tests {
         assert_eq!(read("--joins 9 --seed 7"), Some(Options { task: Task::Join { pairs: 9 }, seed: 7 }));
         assert_eq!(read("--record 50"), Some(Options { task: Task::Record { count: 50 }, seed: 1 }));
         assert_eq!(read("--expect 50"), Some(Options { task: Task::Expect { count: 50 }, seed: 1 }));
+        assert_eq!(read("--nested 50"), Some(Options { task: Task::Nested { count: 50 }, seed: 1 }));
         assert_eq!(["--seed", "--seed x", "--help", "--more 1"].map(read), [None, None, None, None]);
     }
 }

@@ -14,7 +14,7 @@ fn run(words: &str) -> (Option<i32>, String, String) {
 
 #[test]
 fn other_words_end_it() {
-    let usage = "usage: differential [--seed S] [--count N | --joins N] | --record N | --expect N\n";
+    let usage = "usage: differential [--seed S] [--count N | --joins N] | --record N | --expect N | --nested N\n";
     assert_eq!(run("--help"), (Some(2), String::new(), usage.to_owned()));
 }
 

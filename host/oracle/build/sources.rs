@@ -73,6 +73,27 @@ const fn whole(path: &'static str, name: &'static str, hash: u64) -> Source {
     Source { path, name, cut: None, hash }
 }
 
+/// A text of which one line is another.
+pub struct Edit {
+    /// The name of the text.
+    pub source: &'static str,
+    /// The name under which the library includes the edited text.
+    pub name: &'static str,
+    /// The line, which the text must have exactly once.
+    pub line: &'static str,
+    /// What stands in its place.
+    pub other: &'static str,
+}
+
+/// supertype.rs with inner flags that can be set: every call that an arm makes has the default flags, so the body of that
+/// default asks for those that are set.
+pub const INNER_FLAGS: Edit = Edit {
+    source: "supertype.rs",
+    name: "supertype_inner_flags.rs",
+    line: "        SuperTypeFlags::from_bits_truncate(0) | SuperTypeFlags::ALLOW_PRIMITIVE_TO_STRING",
+    other: "        super::inner_flags()",
+};
+
 impl Source {
     /// The text to compile, from the file at `path`.
     pub fn read(&self, path: &Path) -> Result<String, String> {
@@ -111,6 +132,18 @@ impl Cut {
             }
         }
         Ok(lines.join("\n") + "\n" + self.close)
+    }
+}
+
+impl Edit {
+    /// The edited text.
+    pub fn of(&self, text: &str) -> Result<String, String> {
+        let times = text.lines().filter(|line| *line == self.line).count();
+        if times != 1 {
+            return Err(format!("{} has the line {:?} {times} times and not once", self.source, self.line));
+        }
+        let lines = text.lines().map(|line| if line == self.line { self.other } else { line });
+        Ok(lines.flat_map(|line| [line, "\n"]).collect())
     }
 }
 

@@ -3,7 +3,8 @@
 //! The build script finds that text, where POLARS_SRC says or beside the repository, and checks that it is unedited;
 //! none of it is kept here. `datatypes` and `utils` include it, `shim` stands for what it leans on, and [`Type`] gives
 //! each rule as one call, on types that come and go as document 01 keeps them. Where there is no text, [`AVAILABLE`] is
-//! false, and there is no [`Type`].
+//! false, and there is no [`Type`]. One call has a text with one line edited,
+//! [`Type::get_supertype_with_inner_options`].
 
 #![deny(missing_docs, unsafe_code)]
 // Without the text no call comes to use what it is given.
@@ -26,8 +27,6 @@ use shim::polars_core::{config, prelude};
 
 #[cfg(polars_src)]
 use datatypes::DataType;
-#[cfg(polars_src)]
-use utils::SuperTypeFlags;
 
 /// Whether the crate's text was found when this was built.
 pub const AVAILABLE: bool = cfg!(polars_src);
@@ -185,11 +184,16 @@ impl Type {
         allow_primitive_to_string: bool,
     ) -> Option<Type> {
         ask!(self, {
-            let none = SuperTypeFlags::from_bits_truncate(0);
-            let implode = if allow_implode_list { SuperTypeFlags::ALLOW_IMPLODE_LIST } else { none };
-            let string = if allow_primitive_to_string { SuperTypeFlags::ALLOW_PRIMITIVE_TO_STRING } else { none };
-            utils::get_supertype_with_options(&self.0, &right.0, (implode | string).into()).map(Type)
+            let options = [allow_implode_list, allow_primitive_to_string].into();
+            utils::get_supertype_with_options(&self.0, &right.0, options).map(Type)
         })
+    }
+
+    /// The crate's `get_supertype_with_options`, where all calls that it makes of itself have the flags `inner` and not the
+    /// crate's default, `[false, true]`. Both pairs are allow_implode_list and allow_primitive_to_string.
+    #[inline]
+    pub fn get_supertype_with_inner_options(&self, right: &Type, outer: [bool; 2], inner: [bool; 2]) -> Option<Type> {
+        ask!(self, utils::get_supertype_with_inner_options(&self.0, &right.0, outer, inner).map(Type))
     }
 
     /// The crate's `get_numeric_upcast_supertype_lossless`, of this type on the left and `right`.

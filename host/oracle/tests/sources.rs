@@ -3,7 +3,7 @@
 #[path = "../build/sources.rs"]
 mod sources;
 
-use sources::{hash, Cut, Folder, Source, DEFAULT, SOURCES, VARIABLE};
+use sources::{hash, Cut, Edit, Folder, Source, DEFAULT, INNER_FLAGS, SOURCES, VARIABLE};
 use std::path::{Path, PathBuf};
 use std::{env, fs};
 
@@ -94,6 +94,30 @@ fn the_published_layout_is_found() {
         fs::write(&path, &file).unwrap();
         assert_eq!(published.find(source.path), Ok(path.clone()));
         assert!(source.read(&path).is_ok());
+    }
+}
+
+/// Of the texts that the library includes: all bytes before and behind the body of the flags' default are the crate's.
+#[test]
+#[cfg_attr(not(polars_src), ignore = "no text of polars-core 0.55.2")]
+fn the_text_with_inner_flags_differs_in_one_line() {
+    let included = |name: &str| fs::read_to_string(Path::new(env!("OUT_DIR")).join(name)).unwrap();
+    let (source, file) = texts(&folder()).into_iter().find(|(source, _)| source.name == INNER_FLAGS.source).unwrap();
+    let text = included(source.name);
+    assert_eq!(source.check(&file).as_ref(), Ok(&text));
+    let (before, after) = text.split_once(INNER_FLAGS.line).unwrap();
+    assert!(before.ends_with("impl Default for SuperTypeFlags {\n    fn default() -> Self {\n"));
+    assert!(after.starts_with("\n    }\n}\n"));
+    assert!(!INNER_FLAGS.other.contains('\n'));
+    assert_eq!(included(INNER_FLAGS.name), format!("{before}{}{after}", INNER_FLAGS.other));
+}
+
+#[test]
+fn an_edit_is_of_a_line_that_stands_there_once() {
+    let edit = Edit { source: "text.rs", name: "edited.rs", line: "  two", other: "2" };
+    assert_eq!(edit.of("one\n  two\nthree\n"), Ok("one\n2\nthree\n".to_owned()));
+    for (text, times) in [("one\n", 0), ("two\n", 0), ("  two, three\n", 0), ("  two\n  two\n", 2)] {
+        assert_eq!(edit.of(text), Err(format!("text.rs has the line \"  two\" {times} times and not once")));
     }
 }
 

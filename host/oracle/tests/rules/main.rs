@@ -1,7 +1,8 @@
 //! Types come and go unchanged, and every corner of document 01 is what the crate's text answers, and so are change
-//! request Two's rows.
+//! request Two's rows and request Three's sentences.
 
 mod dtype;
+mod nested;
 mod round_trip;
 mod supertype;
 mod types;
