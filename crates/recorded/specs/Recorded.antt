@@ -8,7 +8,7 @@ use lib.Dec.{eqb}
 use Rattle.flat.specs.Tree.{DataType, kindsOf, argsOf}
 use Rattle.supertype_nested.specs.Nested.{SuperTypeOptions, options, supertypeTree}
 
--- what was asked, the flags of the call and of its inner calls first, and what was answered
+-- what was asked, with the flags of the call and of its inner calls, and what was answered
 pub record Recorded : Type 0 where
   pub outer : SuperTypeOptions
   pub inner : SuperTypeOptions
@@ -16,10 +16,9 @@ pub record Recorded : Type 0 where
   pub right : DataType
   pub answer : Option DataType
 
--- each pair of flags is allow_implode_list and allow_primitive_to_string
-abbrev pub asked : Bool → Bool → Bool → Bool → DataType → DataType → Option DataType → Recorded
-asked oi os ii is l r t =
-    record { outer = options oi os; inner = options ii is; left = l; right = r; answer = t }
+-- i and j are allow_implode_list, s and t allow_primitive_to_string
+abbrev pub asked : (i s j t : Bool) → DataType → DataType → Option DataType → Recorded
+asked i s j t l r a = record { outer = options i s; inner = options j t; left = l; right = r; answer = a }
 
 -- the same numbers in the same order
 unfoldable pub sameNumbers : List ℕ → List ℕ → Bool
@@ -28,20 +27,24 @@ sameNumbers [] (y ∷ ys) = false
 sameNumbers (x ∷ xs) [] = false
 sameNumbers (x ∷ xs) (y ∷ ys) = eqb x y && sameNumbers xs ys
 
--- the same type, dyn values included: the same flat form
-unfoldable pub sameType : DataType → DataType → Bool
-sameType t u = sameNumbers (kindsOf t) (kindsOf u) && sameNumbers (argsOf t) (argsOf u)
+-- the same nodes: not the crate's `==`, by which all dyn ints are equal
+unfoldable pub sameNodes : DataType → DataType → Bool
+sameNodes t u = sameNumbers (kindsOf t) (kindsOf u) && sameNumbers (argsOf t) (argsOf u)
 
 abbrev pub sameAnswer : Option DataType → Option DataType → Bool
 sameAnswer none none = true
 sameAnswer none (some u) = false
 sameAnswer (some t) none = false
-sameAnswer (some t) (some u) = sameType t u
+sameAnswer (some t) (some u) = sameNodes t u
 
--- the definition answers so
+-- the definition gives the answer
 unfoldable pub agrees : Recorded → Bool
 agrees a = sameAnswer (supertypeTree (a .outer) (a .inner) (a .left) (a .right)) (a .answer)
 
 unfoldable pub allAgree : List Recorded → Bool
 allAgree [] = true
-allAgree (a ∷ as′) = agrees a && allAgree as′
+allAgree (a ∷ rows) = agrees a && allAgree rows
+
+unfoldable pub allListsAgree : List (List Recorded) → Bool
+allListsAgree [] = true
+allListsAgree (rows ∷ lists) = allAgree rows && allListsAgree lists

@@ -4964,3 +4964,9 @@ rows20 =
     (some (struct (field 0 (leaf Decimal 517) empty)))
     ∷ asked true false true true (array 1 (leaf Int64 0)) (array 0 (leaf Int16 0)) (some (list (leaf Int64 0)))
     ∷ []
+
+-- all of them
+abbrev pub rows : List (List Recorded)
+rows =
+    rows0 ∷ rows1 ∷ rows2 ∷ rows3 ∷ rows4 ∷ rows5 ∷ rows6 ∷ rows7 ∷ rows8 ∷ rows9 ∷ rows10 ∷ rows11 ∷ rows12 ∷ rows13 ∷
+    rows14 ∷ rows15 ∷ rows16 ∷ rows17 ∷ rows18 ∷ rows19 ∷ rows20 ∷ []

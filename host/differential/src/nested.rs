@@ -108,14 +108,25 @@ fn rows(count: usize) -> Vec<Row> {
 /// The lines of the file.
 pub fn recorded(count: usize) -> Vec<String> {
     let mut lines: Vec<String> = comment(count).lines().chain(USES.lines()).map(String::from).collect();
-    for (at, rows) in rows(count).chunks(ROWS).enumerate() {
+    let rows = rows(count);
+    let lists = rows.chunks(ROWS);
+    let all = all_lists(lists.len());
+    for (at, rows) in lists.enumerate() {
         lines.extend([String::new(), format!("unfoldable pub rows{at} : List Recorded"), format!("rows{at} =")]);
         let rows: Vec<String> = rows.iter().map(Row::to_string).collect();
         lines.extend(broken(&rows[0]));
         lines.extend(rows[1..].iter().flat_map(|row| broken(&format!("∷ {row}"))));
         lines.extend(broken("∷ []"));
     }
+    lines.extend(all);
     lines
+}
+
+/// The list of so many lists.
+fn all_lists(count: usize) -> Vec<String> {
+    let head = ["", "-- all of them", "abbrev pub rows : List (List Recorded)", "rows ="].map(String::from);
+    let lists: String = (0..count).map(|at| format!("rows{at} ∷ ")).collect();
+    head.into_iter().chain(broken(&format!("{lists}[]"))).collect()
 }
 
 fn comment(count: usize) -> String {
@@ -188,7 +199,8 @@ mod tests {
         assert!(lines.iter().all(|line| columns(line) <= COLUMNS));
         let lists: Vec<&[String]> = lines.split(|line| line.is_empty()).skip(1).collect();
         let rows = lists.iter().map(|list| list.iter().filter(|line| line.contains("asked ")).count());
-        assert!(rows.eq([ROWS; COUNT / ROWS].into_iter().chain([7])));
+        // The last is the list of lists.
+        assert!(rows.eq([ROWS; COUNT / ROWS].into_iter().chain([7, 0])));
     }
 
     #[test]
