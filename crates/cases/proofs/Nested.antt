@@ -1,6 +1,7 @@
 -- The nested joins that request Three works out hold: by computation, in every setting of the flags. Assumes nothing.
 use mathlib.Core.Path.{refl}
 use mathlib.Core.Bool.{Bool, true, false}
+use mathlib.Core.List.{flatten}
 use Rattle.flat.specs.Tree.{count, size, headKind, headArg}
 use Rattle.dtype.specs.Match.{among}
 use Rattle.dtype.specs.Predicate.{isFloat, isUnknownInt, isSignedInteger, isUnsignedInteger, isInteger}
@@ -17,7 +18,7 @@ use Rattle.cases.specs.Question.{Limits}
 use Rattle.cases.specs.Cases.{nested-joins, Hold}
 
 pub nested-hold : (l : Limits) (i s j t : Bool) → Hold l (nested-joins (options i s) (options j t))
-unfolding Hold count size headKind headArg among isFloat isUnknownInt isSignedInteger isUnsignedInteger isInteger
+unfolding Hold flatten count size headKind headArg among isFloat isUnknownInt isSignedInteger isUnsignedInteger isInteger
     isPrimitiveNumeric isPrimitive isString isUnknown equalNode equal physicalLeaf physicalKind innerDtype valueOf
     materializeDynIntPos materializeSmallestDynInt unknownArms arms smallestFitting dynNumber run insert fromIter enter
     enterAll unionFields unionStructFields zipFields superTypeStructs joinEach runTree treePlan innerTree

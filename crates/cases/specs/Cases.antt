@@ -5,7 +5,7 @@
 -- `requested n` is of the request n. Assumes nothing: these are definitions.
 use mathlib.Core.Path.{_≡_}
 use mathlib.Core.Bool.{Bool, true, false, cond, _&&_}
-use mathlib.Core.List.{List, [], _∷_, _++_, map}
+use mathlib.Core.List.{List, [], _∷_, _++_, map, flatten}
 use mathlib.Core.Option.{none, some}
 use Prim.Native.Nat.{ℕ, _+_, _-_, _*_, _^_}
 use lib.IntN.{ℤ, pos, negsuc, negℤ}
@@ -359,66 +359,58 @@ pair m t n u = struct (field m t (field n u empty))
 abbrev pub triple : ℕ → DataType → ℕ → DataType → ℕ → DataType → DataType
 triple k s m t n u = struct (field k s (field m t (field n u empty)))
 
--- Three: two types in this order, and what joins them with the flags o of the call and i of its inner calls
-abbrev pub ordered-joins : SuperTypeOptions → SuperTypeOptions → List (DataType × DataType × Answered)
-ordered-joins o i =
-    -- List(Int8) with String gives String
-    (list (lone Kind.Int8), lone Kind.String, joins (lone Kind.String))
-    -- String with List(Int8) under the outer implode flag tries the list first; where inner calls make no strings, that
-    -- finds none, and the second order answers
-    ∷ (lone Kind.String, list (lone Kind.Int8), joins (cond (o .allowImplodeList && i .allowPrimitiveToString)
-    (list (lone Kind.String)) (lone Kind.String)))
-    -- as many fields, and a name that differs: the union, in which the left counts as the longer
-    ∷ (pair 1 (lone Kind.Int8) 2 (lone Kind.Int8), pair 1 (lone Kind.Int16) 3 (lone Kind.Boolean),
-    joins (triple 1 (lone Kind.Int16) 2 (lone Kind.Int8) 3 (lone Kind.Boolean)))
-    ∷ (pair 1 (lone Kind.Int16) 3 (lone Kind.Boolean), pair 1 (lone Kind.Int8) 2 (lone Kind.Int8),
-    joins (triple 1 (lone Kind.Int16) 3 (lone Kind.Boolean) 2 (lone Kind.Int8)))
-    ∷ []
+-- Three: with the flags o of the call and i of its inner calls, two types in one order, and in both
+abbrev pub one-way : SuperTypeOptions → SuperTypeOptions → DataType → DataType → Answered → List Case
+one-way o i t u a = requested 3 (nested-supertype o i t u) a ∷ []
 
--- Three: two types in either order
-abbrev pub unordered-joins : SuperTypeOptions → SuperTypeOptions → List (DataType × DataType × Answered)
-unordered-joins o i =
-    -- a name repeated in the longer Struct keeps its first place and its last type
-    (triple 1 (lone Kind.Int8) 2 (lone Kind.String) 1 (lone Kind.Int32),
-    pair 1 (lone Kind.Int16) 3 (lone Kind.Date),
-    joins (triple 1 (lone Kind.Int32) 2 (lone Kind.String) 3 (lone Kind.Date)))
-    -- a new name repeated in the shorter one keeps its first place too, and its types are joined
-    ∷ (triple 1 (lone Kind.Int8) 2 (lone Kind.String) 3 (lone Kind.Date), pair 4 (lone Kind.Int32) 4 (lone Kind.Int16),
-    joins (struct (field 1 (lone Kind.Int8) (field 2 (lone Kind.String) (field 3 (lone Kind.Date)
-    (field 4 (lone Kind.Int32) empty))))))
-    -- as many fields of the same names: field by field, and repeated names stay twice
-    ∷ (pair 1 (lone Kind.Int8) 1 (lone Kind.Boolean), pair 1 (lone Kind.Int16) 1 (lone Kind.Boolean),
-    joins (pair 1 (lone Kind.Int16) 1 (lone Kind.Boolean)))
-    -- a field without a supertype before the first name that differs: None, though the union has an answer
-    ∷ (pair 1 (lone Kind.Date) 1 (lone Kind.Boolean), pair 1 (lone Kind.Boolean) 2 (lone Kind.Int8), no-type)
-    -- a dyn number is joined with the first field alone, a number with each
-    ∷ (two 1 (lone Kind.Int8) (lone Kind.Date), dyn (pos 300), joins (lone Kind.Int16))
-    ∷ (struct empty, dyn (pos 300), no-type)
-    ∷ (two 1 (lone Kind.Int8) (lone Kind.UInt8), lone Kind.Int16, joins (two 1 (lone Kind.Int16) (lone Kind.Int16)))
-    -- an Array where both have its width, else a List
-    ∷ (array 2 (lone Kind.Int8), array 2 (lone Kind.Int16), joins (array 2 (lone Kind.Int16)))
-    ∷ (array 2 (lone Kind.Int8), array 3 (lone Kind.Int16), joins (list (lone Kind.Int16)))
-    ∷ (list (lone Kind.Int8), array 2 (lone Kind.Int16), joins (list (lone Kind.Int16)))
-    -- the flags of inner calls are not those of the call
-    ∷ (list (lone Kind.Int8), list (lone Kind.String),
-    cond (i .allowPrimitiveToString) (joins (list (lone Kind.String))) no-type)
-    ∷ (list (list (lone Kind.Int8)), list (lone Kind.Int16),
-    cond (i .allowImplodeList) (joins (list (list (lone Kind.Int16)))) no-type)
-    ∷ []
-
--- as they stand, and the other way round
-abbrev pub as-ordered : SuperTypeOptions → SuperTypeOptions → List (DataType × DataType × Answered) → List Case
-as-ordered o i [] = []
-as-ordered o i (r ∷ rows) = requested 3 (nested-supertype o i (r .0) (r .1)) (r .2) ∷ as-ordered o i rows
-
-abbrev pub turned-round : SuperTypeOptions → SuperTypeOptions → List (DataType × DataType × Answered) → List Case
-turned-round o i [] = []
-turned-round o i (r ∷ rows) = requested 3 (nested-supertype o i (r .1) (r .0)) (r .2) ∷ turned-round o i rows
+abbrev pub both-ways : SuperTypeOptions → SuperTypeOptions → DataType → DataType → Answered → List Case
+both-ways o i t u a = one-way o i t u a ++ one-way o i u t a
 
 -- Three: what nested joins work out
 abbrev pub nested-joins : SuperTypeOptions → SuperTypeOptions → List Case
 nested-joins o i =
-    as-ordered o i (ordered-joins o i) ++ (as-ordered o i (unordered-joins o i) ++ turned-round o i (unordered-joins o i))
+    flatten
+    -- List(Int8) with String gives String
+    (one-way o i (list (lone Kind.Int8)) (lone Kind.String) (joins (lone Kind.String))
+    -- String with List(Int8) under the outer implode flag tries the list first; where inner calls make no strings, that
+    -- finds none, and the second order answers
+    ∷ one-way o i (lone Kind.String) (list (lone Kind.Int8))
+    (joins (cond (o .allowImplodeList && i .allowPrimitiveToString) (list (lone Kind.String)) (lone Kind.String)))
+    -- a name repeated in the longer Struct keeps its first place and its last type
+    ∷ both-ways o i (triple 1 (lone Kind.Int8) 2 (lone Kind.String) 1 (lone Kind.Int32))
+    (pair 1 (lone Kind.Int16) 3 (lone Kind.Date))
+    (joins (triple 1 (lone Kind.Int32) 2 (lone Kind.String) 3 (lone Kind.Date)))
+    -- a new name repeated in the shorter one keeps its first place, and its types are joined
+    ∷ both-ways o i (triple 1 (lone Kind.Int8) 2 (lone Kind.String) 1 (lone Kind.Int8))
+    (pair 3 (lone Kind.Int32) 3 (lone Kind.Int16))
+    (joins (triple 1 (lone Kind.Int8) 2 (lone Kind.String) 3 (lone Kind.Int32)))
+    -- as many fields of the same names: field by field, and repeated names stay twice
+    ∷ both-ways o i (pair 1 (lone Kind.Int8) 1 (lone Kind.Boolean)) (pair 1 (lone Kind.Int16) 1 (lone Kind.Boolean))
+    (joins (pair 1 (lone Kind.Int16) 1 (lone Kind.Boolean)))
+    -- as many fields, and a name that differs: the union, in which the left counts as the longer
+    ∷ one-way o i (pair 1 (lone Kind.Int8) 2 (lone Kind.Int8)) (pair 1 (lone Kind.Int16) 3 (lone Kind.Boolean))
+    (joins (triple 1 (lone Kind.Int16) 2 (lone Kind.Int8) 3 (lone Kind.Boolean)))
+    ∷ one-way o i (pair 1 (lone Kind.Int16) 3 (lone Kind.Boolean)) (pair 1 (lone Kind.Int8) 2 (lone Kind.Int8))
+    (joins (triple 1 (lone Kind.Int16) 3 (lone Kind.Boolean) 2 (lone Kind.Int8)))
+    -- a field without a supertype before the first name that differs: None, though the union has an answer
+    ∷ both-ways o i (pair 1 (lone Kind.Date) 1 (lone Kind.Boolean)) (pair 1 (lone Kind.Boolean) 2 (lone Kind.Int8))
+    no-type
+    -- a dyn number is joined with the first field alone, a number with each
+    ∷ both-ways o i (two 1 (lone Kind.Int8) (lone Kind.Date)) (dyn (pos 300)) (joins (lone Kind.Int16))
+    ∷ both-ways o i (struct empty) (dyn (pos 300)) no-type
+    ∷ both-ways o i (two 1 (lone Kind.Int8) (lone Kind.UInt8)) (lone Kind.Int16)
+    (joins (two 1 (lone Kind.Int16) (lone Kind.Int16)))
+    ∷ both-ways o i (struct empty) (lone Kind.Int16) (joins (struct empty))
+    -- an Array where both have its width, else a List
+    ∷ both-ways o i (array 2 (lone Kind.Int8)) (array 2 (lone Kind.Int16)) (joins (array 2 (lone Kind.Int16)))
+    ∷ both-ways o i (array 2 (lone Kind.Int8)) (array 3 (lone Kind.Int16)) (joins (list (lone Kind.Int16)))
+    ∷ both-ways o i (list (lone Kind.Int8)) (array 2 (lone Kind.Int16)) (joins (list (lone Kind.Int16)))
+    -- the flags of inner calls are not those of the call
+    ∷ both-ways o i (list (lone Kind.Int8)) (list (lone Kind.String))
+    (cond (i .allowPrimitiveToString) (joins (list (lone Kind.String))) no-type)
+    ∷ both-ways o i (list (list (lone Kind.Int8))) (list (lone Kind.Int16))
+    (cond (i .allowImplodeList) (joins (list (list (lone Kind.Int16)))) no-type)
+    ∷ [])
 
 -- what the requests work out
 abbrev pub requests : Bool → Bool → List Case

@@ -13,7 +13,7 @@ use lib.Signed.{leZ, nonNeg, _≤ℤ_}
 use borrow.Author.Tests.{le-ltb}
 use Rattle.flat.specs.Kind.{Null, UInt8, UInt16, UInt32, UInt64, Int8, Int16, Int32, Int64, Int128, Decimal}
 use Rattle.flat.specs.Kind.{UnknownIntNeg}
-use Rattle.flat.proofs.Rules.{area, in-area, and-left, and-right, or-right}
+use Rattle.flat.proofs.Rules.{in-area, and-left, and-right, or-right}
 use Rattle.flat.proofs.Truths.{is-true, to-T}
 use Rattle.dtype.specs.Predicate.{isUnknownInt, isUnsignedInteger}
 use Rattle.supertype_numbers.specs.Integer.{holds, firstThatHolds}

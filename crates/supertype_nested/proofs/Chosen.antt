@@ -48,7 +48,7 @@ chosen ok a b (x ∷ xs) o t =
     (chosen ok a b xs o (and-right (ok (x .plan) || not (x .left a && x .right b)) (all-arms ok a b xs) t))
   where
     go : (takes : Bool) → T (ok (x .plan) || not takes) → T (ok (choose xs a b))
-      → T (ok (elim takes as (λ z. TreePlan) [ true ↦ x .plan | false ↦ choose xs a b ]))
+        → T (ok (elim takes as (λ z. TreePlan) [ true ↦ x .plan | false ↦ choose xs a b ]))
     go true u v = or-false (ok (x .plan)) u
     go false u v = v
 

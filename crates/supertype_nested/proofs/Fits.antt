@@ -1,15 +1,14 @@
 -- The arms that answer by the two roots answer with types that follow their argument's rule. Assumes nothing.
-use mathlib.Core.Path.{_≡_, refl, sym, ap, subst, _∙_}
-use mathlib.Core.Bool.{Bool, true, false, not, cond, _&&_, _||_}
-use mathlib.Core.Option.{Option, none, some}
+use mathlib.Core.Path.{_≡_, refl}
+use mathlib.Core.Bool.{Bool, true, false, cond, _&&_}
 use Prim.Native.Nat.{ℕ, _+_, _*_, _^_, _/_, _%_, _≤_, _<_, max}
 use native.Mathlib.Omega.{arith}
-use lib.Dec.{T, leb, ltb, eqb}
+use lib.Dec.{T, ltb}
 use lib.IntN.{ℤ, pos, negsuc}
-use borrow.Author.Tests.{le-leb, lt-ltb, eqb-true, eq-eqb, ltb-true}
+use borrow.Author.Tests.{le-leb, lt-ltb, eq-eqb, ltb-true}
 use Rattle.flat.specs.Kind as kind
 use Rattle.flat.specs.Argument.{timeUnits, dec128MaxPrec, argumentFits, argumentRule, datetimeFits, leafFits}
-use Rattle.flat.proofs.Truths.{is-true, to-T, both-true}
+use Rattle.flat.proofs.Truths.{is-true, both-true}
 use Rattle.dtype.specs.Predicate.{isUnknownInt, isSignedInteger}
 use Rattle.dtype.specs.TimeUnit.{unitNumber}
 use Rattle.dtype.specs.TimeUnits.{getTimeUnits}

@@ -2,13 +2,13 @@
 use Rattle.flat.specs.Tree.{size}
 use Prim.Native.Nat.{_+_}
 use Rattle.supertype_nested.specs.Nested.{supertypeTree}
-use Rattle.supertype_nested.specs.Laws.{UnionLaws, NestedLaws}
+use Rattle.supertype_nested.specs.Laws.{NestedLaws}
 use Rattle.supertype_nested.proofs.Found.{if-told}
 use Rattle.supertype_nested.proofs.Smaller.{Below, tree-smaller}
 use Rattle.supertype_nested.proofs.Recursive.{recursive, none-symmetric}
 use Rattle.supertype_nested.proofs.Leaves.{leaf-law}
 use Rattle.supertype_nested.proofs.Union.{alone}
-use Rattle.supertype_nested.proofs.Names.{by-names}
+use Rattle.supertype_nested.proofs.Names.{left-longest, right-longest, by-names}
 use Rattle.supertype_nested.proofs.Valid.{leaves-fit, valid}
 
 pub nested-laws : NestedLaws
@@ -20,5 +20,11 @@ nested-laws =
       leaves = leaf-law;
       fits = leaves-fit;
       valid = valid;
-      union = record { by-names = by-names; alone = alone };
+      union =
+          record {
+            left-longest = left-longest;
+            right-longest = right-longest;
+            by-names = by-names;
+            alone = alone;
+          };
     }

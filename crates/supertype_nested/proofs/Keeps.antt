@@ -6,7 +6,6 @@ use Prim.Native.Nat.{ℕ, zero, suc, _+_}
 use lib.Dec.{leb, eqb}
 use Rattle.flat.specs.Tree.{DataType, leaf, list, array, struct, Fields, empty, field, count, size, headKind, headArg}
 use Rattle.flat.specs.Reader.{mapO, bindO}
-use Rattle.dtype.specs.Match.{ifLeaf, ifStruct, ifField}
 use Rattle.dtype.specs.Equality.{equal}
 use Rattle.dtype_inner.specs.Inner.{innerDtype}
 use Rattle.supertype_answer.specs.Join.{rootNode}
@@ -20,7 +19,7 @@ use Rattle.supertype_nested.specs.Nested.{zipFields, zipEnd, superTypeSt
 use Rattle.supertype_nested.specs.Nested.{runTree, treePlan, innerTree, supertypeTreeWith, getSupertypeIn}
 use Rattle.supertype_nested.specs.Nested.{supertypeTree}
 use Rattle.supertype_nested.specs.Laws.{Each, Eachs}
-use Rattle.supertype_nested.proofs.Found.{If, if-cond, if-weaken, if-map, if-bind, if-or}
+use Rattle.supertype_nested.proofs.Found.{If, if-cond, if-map, if-bind, if-or}
 
 module _ (P : ℕ → ℕ → Type 0) (Q : ℕ → Type 0) where
   abbrev One : DataType → Type 0
@@ -112,7 +111,7 @@ module _ (P : ℕ → ℕ → Type 0) (Q : ℕ → Type 0) where
         (zip-on name (call t u) (zipFields call fs gs) (h .0) (s t u (h .1) (g .1)) (zip-keeps fs gs (h .2) (g .2)))
       where
         go : (b : Bool) → ZipKeeps (zipOn name (call t u) (zipFields call fs gs))
-          → ZipKeeps (cond b (zipOn name (call t u) (zipFields call fs gs)) namesDiffer)
+            → ZipKeeps (cond b (zipOn name (call t u) (zipFields call fs gs)) namesDiffer)
         go true e = e
         go false e = tt
 

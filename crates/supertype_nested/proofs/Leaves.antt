@@ -2,18 +2,17 @@
 use mathlib.Core.Path.{_≡_, refl, sym, ap, ap₂, _∙_}
 use mathlib.Core.Bool.{Bool, true, false, not, cond, _&&_, _||_}
 use mathlib.Core.List.{List, [], _∷_}
-use mathlib.Core.Option.{Option, none, some}
+use mathlib.Core.Option.{some}
 use Prim.Native.Nat.{ℕ, suc, _≤_, _<_}
 use native.Mathlib.Omega.{arith}
-use lib.Dec.{T, eqb}
+use lib.Dec.{T}
 use borrow.Author.Tests.{ne-eqb}
 use Rattle.flat.specs.Kind as kind
-use Rattle.flat.specs.Tree.{DataType, leaf, size, headKind, headArg}
-use Rattle.flat.proofs.Rules.{and-both, and-left, and-right}
+use Rattle.flat.specs.Tree.{leaf, size, headKind, headArg}
+use Rattle.flat.proofs.Rules.{and-left, and-right}
 use Rattle.dtype.specs.Equality.{equalNode, equal}
 use Rattle.dtype_inner.specs.Inner.{innerDtype}
-use Rattle.supertype_answer.specs.Join.{Node, node, Supertype, Some, Nothing, rootNode}
-use Rattle.supertype_arms.specs.Node.{same}
+use Rattle.supertype_answer.specs.Join.{Node, node, Supertype, Some, Nothing}
 use Rattle.supertype_arms.specs.Supertype.{Arm, is, arms, unknownArms, choose, planOf, pick, orElse, run, inner, supertypeWith}
 use Rattle.supertype_arms.specs.Supertype.{leafPlan, knownSupertype, supertype}
 use Rattle.supertype_arms.specs.Supertype.{TreePlan, leftType, rightType, roots}
@@ -55,9 +54,9 @@ module _ (a b : ℕ) where
       stays takes = elim takes as (λ z. TreePlan) [ true ↦ x .plan | false ↦ choose (kept xs) a b ]
 
       go : (k takes : Bool) → T (k || not takes) → choose xs a b ≡ choose (kept xs) a b
-        → (x .left a && x .right b) ≡ takes
-        → elim takes as (λ z. TreePlan) [ true ↦ x .plan | false ↦ choose xs a b ]
-        ≡ choose (cond k (x ∷ kept xs) (kept xs)) a b
+          → (x .left a && x .right b) ≡ takes
+          → elim takes as (λ z. TreePlan) [ true ↦ x .plan | false ↦ choose xs a b ]
+          ≡ choose (cond k (x ∷ kept xs) (kept xs)) a b
       go true true u h e = sym (ap stays e)
       go true false u h e = h ∙ sym (ap stays e)
       go false true u h e = absurd u

@@ -3,14 +3,27 @@ use mathlib.Core.Path.{_≡_, refl, sym, ap, ap₂, _∙_}
 use mathlib.Core.Bool.{Bool, true, false, cond, _||_}
 use mathlib.Core.List.{List, [], _∷_}
 use mathlib.Core.Option.{Option, none, some}
-use Prim.Native.Nat.{ℕ}
+use Prim.Native.Nat.{ℕ, _≤_, _<_}
 use lib.Dec.{eqb}
-use borrow.Author.Tests.{eqb-true}
-use Rattle.flat.specs.Tree.{DataType, Fields, empty, field, append}
+use borrow.Author.Tests.{eqb-true, le-leb, lt-leb}
+use Rattle.flat.specs.Tree.{DataType, struct, Fields, empty, field, count, append}
 use Rattle.flat.specs.Reader.{mapO, bindO}
 use Rattle.flat.proofs.Truths.{never}
 use Rattle.supertype_nested.specs.Nested.{TreeCall, insert, fromIter, joinHeld, enter, enterAll, unionFields}
+use Rattle.supertype_nested.specs.Nested.{unionStructFields}
 use Rattle.supertype_nested.specs.Union.{lastOr, joinNamed, seen, withNames, oldNames, newNames, byNames}
+
+-- ---- the longest
+
+pub left-longest : (c : TreeCall) (fs gs : Fields) → count gs ≤ count fs
+    → unionStructFields c fs gs ≡ mapO struct (unionFields c fs gs)
+unfolding unionStructFields
+left-longest c fs gs h = rw (le-leb (count gs) (count fs) h) refl
+
+pub right-longest : (c : TreeCall) (fs gs : Fields) → count fs < count gs
+    → unionStructFields c fs gs ≡ mapO struct (unionFields c gs fs)
+unfolding unionStructFields
+right-longest c fs gs h = rw (lt-leb (count gs) (count fs) h) refl
 
 -- ---- the first name
 
@@ -29,12 +42,12 @@ from-first name t map (field other u fs) =
     go (eqb name other) (from-first name u map fs) (from-first name t (insert other u map) fs)
   where
     go : (b : Bool)
-      → fromIter (field name u map) fs ≡ field name (lastOr name u fs) (fromIter map (without name fs))
-      → fromIter (field name t (insert other u map)) fs
+        → fromIter (field name u map) fs ≡ field name (lastOr name u fs) (fromIter map (without name fs))
+        → fromIter (field name t (insert other u map)) fs
         ≡ field name (lastOr name t fs) (fromIter (insert other u map) (without name fs))
-      → fromIter (cond b (field name u map) (field name t (insert other u map))) fs
+        → fromIter (cond b (field name u map) (field name t (insert other u map))) fs
         ≡ field name (cond b (lastOr name u fs) (lastOr name t fs))
-          (fromIter map (cond b (without name fs) (field other u (without name fs))))
+        (fromIter map (cond b (without name fs) (field other u (without name fs))))
     go true h g = h
     go false h g = g
 
@@ -56,21 +69,21 @@ module _ (c : TreeCall) where
       go (eqb name other) (λ v. enter-first name v map fs) (λ m. enter-first name u m fs)
     where
       on-held : (q : Option DataType) → ((v : DataType) → Split name v map fs)
-        → bindO (mapO (λ st. field name st map) q) (λ m. enterAll c m fs)
-        ≡ bindO (bindO q (λ st. joinNamed c name st fs)) (λ v. mapO (field name v) (enterAll c map (without name fs)))
+          → bindO (mapO (λ st. field name st map) q) (λ m. enterAll c m fs)
+          ≡ bindO (bindO q (λ st. joinNamed c name st fs)) (λ v. mapO (field name v) (enterAll c map (without name fs)))
       on-held none h = refl
       on-held (some v) h = h v
 
       on-other : (q : Option Fields) → ((m : Fields) → Split name u m fs)
-        → bindO (mapO (field name u) q) (λ m. enterAll c m fs)
-        ≡ bindO (joinNamed c name u fs) (λ v. mapO (field name v) (bindO q (λ m. enterAll c m (without name fs))))
+          → bindO (mapO (field name u) q) (λ m. enterAll c m fs)
+          ≡ bindO (joinNamed c name u fs) (λ v. mapO (field name v) (bindO q (λ m. enterAll c m (without name fs))))
       on-other none g = sym (nothing-after (joinNamed c name u fs))
       on-other (some m) g = g m
 
       go : (b : Bool) → ((v : DataType) → Split name v map fs) → ((m : Fields) → Split name u m fs)
-        → bindO (cond b (mapO (λ st. field name st map) (joinHeld c t u)) (mapO (field name u) (enter c other t map)))
+          → bindO (cond b (mapO (λ st. field name st map) (joinHeld c t u)) (mapO (field name u) (enter c other t map)))
           (λ m. enterAll c m fs)
-        ≡ bindO (cond b (bindO (joinHeld c t u) (λ st. joinNamed c name st fs)) (joinNamed c name u fs))
+          ≡ bindO (cond b (bindO (joinHeld c t u) (λ st. joinNamed c name st fs)) (joinNamed c name u fs))
           (λ v. mapO (field name v) (enterAll c map (cond b (without name fs) (field other t (without name fs)))))
       go true h g = on-held (joinHeld c t u) h
       go false h g = on-other (enter c other t map) g
@@ -80,7 +93,7 @@ module _ (c : TreeCall) where
   old-name : (name : ℕ) (t : DataType) (fs gs : Fields)
       → enterAll c (fromIter empty (field name t fs)) gs
       ≡ bindO (joinNamed c name (lastOr name t fs) gs)
-        (λ v. mapO (field name v) (enterAll c (fromIter empty (without name fs)) (without name gs)))
+      (λ v. mapO (field name v) (enterAll c (fromIter empty (without name fs)) (without name gs)))
   unfolding fromIter insert
   old-name name t fs gs =
       ap (λ (m : Fields). enterAll c m gs) (from-first name t empty fs)
@@ -114,8 +127,8 @@ out-cons n ns (field m t fs) = go (eqb n m) (seen ns m) refl (out-cons n ns fs)
     kept b = cond b (without n (outside ns fs)) (field m t (without n (outside ns fs)))
 
     go : (a b : Bool) → eqb n m ≡ a → outside (n ∷ ns) fs ≡ without n (outside ns fs)
-      → cond (a || b) (outside (n ∷ ns) fs) (field m t (outside (n ∷ ns) fs))
-      ≡ without n (cond b (outside ns fs) (field m t (outside ns fs)))
+        → cond (a || b) (outside (n ∷ ns) fs) (field m t (outside (n ∷ ns) fs))
+        ≡ without n (cond b (outside ns fs) (field m t (outside ns fs)))
     go true true q h = h
     go true false q h = h ∙ sym (ap kept q)
     go false true q h = h
@@ -128,8 +141,8 @@ out-same n ns empty e = refl
 out-same n ns (field m t fs) e = go (eqb n m) (seen ns m) refl refl (out-same n ns fs e)
   where
     go : (a b : Bool) → eqb n m ≡ a → seen ns m ≡ b → outside (n ∷ ns) fs ≡ outside ns fs
-      → cond (a || b) (outside (n ∷ ns) fs) (field m t (outside (n ∷ ns) fs))
-      ≡ cond b (outside ns fs) (field m t (outside ns fs))
+        → cond (a || b) (outside (n ∷ ns) fs) (field m t (outside (n ∷ ns) fs))
+        ≡ cond b (outside ns fs) (field m t (outside ns fs))
     go true true q r h = h
     go true false q r h = never (sym r ∙ sym (one-seen ns n m q) ∙ e)
     go false true q r h = h
@@ -146,8 +159,8 @@ last-out n ns t (field m u fs) e = go (eqb n m) (seen ns m) refl refl (last-out 
     last b = cond b (lastOr n u (outside ns fs)) (lastOr n t (outside ns fs))
 
     go : (a b : Bool) → eqb n m ≡ a → seen ns m ≡ b → lastOr n t (outside ns fs) ≡ lastOr n t fs
-      → lastOr n u (outside ns fs) ≡ lastOr n u fs
-      → lastOr n t (cond b (outside ns fs) (field m u (outside ns fs))) ≡ cond a (lastOr n u fs) (lastOr n t fs)
+        → lastOr n u (outside ns fs) ≡ lastOr n u fs
+        → lastOr n t (cond b (outside ns fs) (field m u (outside ns fs))) ≡ cond a (lastOr n u fs) (lastOr n t fs)
     go true true q r h g = never (sym e ∙ one-seen ns n m q ∙ r)
     go true false q r h g = ap last q ∙ g
     go false true q r h g = h
@@ -164,14 +177,14 @@ module _ (c : TreeCall) where
       step b = cond b (bindO (joinHeld c t u) (λ st. joinNamed c n st (outside ns fs))) (joinNamed c n u (outside ns fs))
 
       on-held : (q : Option DataType) → ((v : DataType) → joinNamed c n v (outside ns fs) ≡ joinNamed c n v fs)
-        → bindO q (λ st. joinNamed c n st (outside ns fs)) ≡ bindO q (λ st. joinNamed c n st fs)
+          → bindO q (λ st. joinNamed c n st (outside ns fs)) ≡ bindO q (λ st. joinNamed c n st fs)
       on-held none h = refl
       on-held (some v) h = h v
 
       go : (a b : Bool) → eqb n m ≡ a → seen ns m ≡ b
-        → ((v : DataType) → joinNamed c n v (outside ns fs) ≡ joinNamed c n v fs)
-        → joinNamed c n u (cond b (outside ns fs) (field m t (outside ns fs)))
-        ≡ cond a (bindO (joinHeld c t u) (λ st. joinNamed c n st fs)) (joinNamed c n u fs)
+          → ((v : DataType) → joinNamed c n v (outside ns fs) ≡ joinNamed c n v fs)
+          → joinNamed c n u (cond b (outside ns fs) (field m t (outside ns fs)))
+          ≡ cond a (bindO (joinHeld c t u) (λ st. joinNamed c n st fs)) (joinNamed c n u fs)
       go true true q r h = never (sym e ∙ one-seen ns n m q ∙ r)
       go true false q r h = ap step q ∙ on-held (joinHeld c t u) h
       go false true q r h = h u
@@ -189,8 +202,8 @@ module _ (c : TreeCall) where
   new-names ns (field n t gs) = go (seen ns n) refl (new-names (n ∷ ns) gs)
     where
       go : (b : Bool) → seen ns n ≡ b → enterAll c empty (outside (n ∷ ns) gs) ≡ newNames c (n ∷ ns) gs
-        → enterAll c empty (cond b (outside ns gs) (field n t (outside ns gs)))
-        ≡ cond b (newNames c (n ∷ ns) gs) (before n (joinNamed c n t gs) (newNames c (n ∷ ns) gs))
+          → enterAll c empty (cond b (outside ns gs) (field n t (outside ns gs)))
+          ≡ cond b (newNames c (n ∷ ns) gs) (before n (joinNamed c n t gs) (newNames c (n ∷ ns) gs))
       go true e h = ap (enterAll c empty) (sym (out-same n ns gs e)) ∙ h
       go false e h =
           new-name c n t (outside ns gs)
@@ -229,9 +242,9 @@ module _ (c : TreeCall) where
       new = newNames c (withNames fs (n ∷ ns)) gs
 
       go : (b : Bool) → seen ns n ≡ b
-        → loop (outside (n ∷ ns) fs) (outside (n ∷ ns) gs) ≡ followed (oldNames c gs (n ∷ ns) fs) new
-        → loop (cond b (outside ns fs) (field n t (outside ns fs))) (outside ns gs)
-        ≡ followed (cond b (oldNames c gs (n ∷ ns) fs) (before n joins (oldNames c gs (n ∷ ns) fs))) new
+          → loop (outside (n ∷ ns) fs) (outside (n ∷ ns) gs) ≡ followed (oldNames c gs (n ∷ ns) fs) new
+          → loop (cond b (outside ns fs) (field n t (outside ns fs))) (outside ns gs)
+          ≡ followed (cond b (oldNames c gs (n ∷ ns) fs) (before n joins (oldNames c gs (n ∷ ns) fs))) new
       go true e h = ap₂ loop (sym (out-same n ns fs e)) (sym (out-same n ns gs e)) ∙ h
       go false e h =
           old-name c n t (outside ns fs) (outside ns gs)

@@ -4,19 +4,19 @@ use mathlib.Core.Bool.{Bool, true, false, not, cond, _||_}
 use mathlib.Core.Option.{Option, none, some}
 use Prim.Native.Nat.{ℕ, zero, suc, _+_, _≤_, _<_}
 use native.Mathlib.Omega.{arith}
-use lib.Dec.{T, leb, eqb, ltb}
+use lib.Dec.{T, leb, eqb}
 use Rattle.flat.specs.Kind.{Decimal}
 use Rattle.flat.specs.Tree.{DataType, leaf, list, array, struct, Fields, empty, field, count, size, sizes}
 use Rattle.flat.specs.Tree.{headKind, headArg}
 use Rattle.flat.specs.Reader.{mapO, bindO}
 use Rattle.flat.proofs.Sizes.{size-pos}
 use Rattle.flat.proofs.Truths.{impossible}
-use Rattle.dtype.specs.Match.{among, ifLeaf, ifStruct, ifField}
+use Rattle.dtype.specs.Match.{ifLeaf, ifStruct, ifField}
 use Rattle.dtype.specs.Predicate.{isUnknownInt}
 use Rattle.dtype.specs.Equality.{equal}
 use Rattle.dtype.proofs.Runs.{says, of-run}
 use Rattle.dtype_inner.specs.Inner.{innerDtype}
-use Rattle.supertype_answer.specs.Join.{Node, node, rootNode, typeOf}
+use Rattle.supertype_answer.specs.Join.{Node, rootNode}
 use Rattle.supertype_arms.specs.Supertype.{run}
 use Rattle.supertype_arms.specs.Supertype.{TreePlan, leftType, rightType, roots}
 use Rattle.supertype_arms.specs.Supertype.{lists, arrays, implodeLeft, implodeRight, firstField, structs, eachField}
@@ -24,12 +24,12 @@ use Rattle.supertype_arms.specs.declared.plan.Plan.{Plan}
 use Rattle.supertype_arms.specs.declared.plan.Plan.the-variants.{DynNumber}
 use Rattle.supertype_arms.proofs.Areas.{alike}
 use Rattle.supertype_arms.proofs.Recursive.{quiet, quiet-run, dyn-run, runs-same}
-use Rattle.supertype_nested.specs.Nested.{SuperTypeOptions, TreeCall, fromIter, joinHeld, enter, enterAll}
+use Rattle.supertype_nested.specs.Nested.{SuperTypeOptions, TreeCall, fromIter, enter, enterAll}
 use Rattle.supertype_nested.specs.Nested.{unionFields, unionStructFields, zipOn, zipFields, zipEnd}
 use Rattle.supertype_nested.specs.Nested.{superTypeStructs, joinEach, ofWidths, treeOf, rootFound, atRoots, runTree}
 use Rattle.supertype_nested.specs.Nested.{treePlan, innerTree, orElseTree, supertypeTreeWith, getSupertypeIn}
 use Rattle.supertype_nested.specs.Nested.{supertypeTree}
-use Rattle.supertype_nested.proofs.Found.{If, if-weaken, bind-same, cond-same}
+use Rattle.supertype_nested.proofs.Found.{if-weaken, bind-same, cond-same}
 use Rattle.supertype_nested.proofs.Smaller.{Below, AtMost, Smaller, from-sizes, enter-sizes, inner-size, in-smaller}
 use Rattle.supertype_nested.proofs.Chosen.{or-false, rootsQuiet, no-call, discards, dyn-discards}
 
@@ -165,7 +165,7 @@ module _ (c d : TreeCall) (s : Smaller c) (n : ℕ) (g : Agree n c d) where
   roots-same l r p t = go (isUnknownInt (l .kind)) refl t
     where
       go : (b : Bool) → isUnknownInt (l .kind) ≡ b → T ((quiet p || alike p DynNumber) || not b)
-        → run (atRoots c) p l r ≡ run (atRoots d) p l r
+          → run (atRoots c) p l r ≡ run (atRoots d) p l r
       go true e u = dyn-run (atRoots c) (atRoots d) l r e p (or-false (quiet p || alike p DynNumber) u)
       go false e u =
           runs-same (atRoots c) (atRoots d) l r
@@ -202,7 +202,8 @@ module _ (c d : TreeCall) (s : Smaller c) (n : ℕ) (g : Agree n c d) where
 -- ---- the bound
 
 -- two calls with bounds that are at least 1 agree on two leaves that are no dyn ints
-bounded : (n m : ℕ) (i : SuperTypeOptions) (k a u b : ℕ) → 1 ≤ n → 1 ≤ m → isUnknownInt k ≡ false → isUnknownInt u ≡ false
+bounded : (n m : ℕ) (i : SuperTypeOptions) (k a u b : ℕ) → 1 ≤ n → 1 ≤ m → isUnknownInt k ≡ false
+    → isUnknownInt u ≡ false
     → getSupertypeIn n i (leaf k a) (leaf u b) ≡ getSupertypeIn m i (leaf k a) (leaf u b)
 unfolding getSupertypeIn
 bounded zero m i k a u b p q e f = absurd (omega arith)
@@ -234,7 +235,9 @@ recursive o i l r =
     with-same (getSupertypeIn (size l + size r) i) (supertypeTree i i) (in-smaller (size l + size r) i) (size l + size r)
     (record {
       fewer = λ x y e. in-same (size l + size r) (suc (size x + size y)) i x y (omega arith) (omega arith);
-      leaves = λ k a u b e f. bounded (size l + size r) (suc (size (leaf k a) + size (leaf u b))) i k a u b (omega arith) (omega arith) e f;
+      leaves =
+        λ k a u b e f. bounded (size l + size r) (suc (size (leaf k a) + size (leaf u b))) i k a u b
+        (omega arith) (omega arith) e f;
     })
     o l r (omega arith)
 

@@ -1,5 +1,4 @@
 -- An answer has fewer nodes than both types together. Assumes nothing.
-use mathlib.Core.Path.{_≡_}
 use mathlib.Core.Bool.{Bool, true, false, cond}
 use mathlib.Core.Option.{Option, none, some}
 use Prim.Native.Nat.{ℕ, zero, suc, _+_, _≤_, _<_}
@@ -40,7 +39,7 @@ insert-sizes name t empty = omega arith
 insert-sizes name t (field other u map) = go (eqb other name) (insert-sizes name t map)
   where
     go : (b : Bool) → AtMost (suc (size t + sizes map)) (insert name t map)
-      → AtMost (suc (size t + suc (size u + sizes map))) (cond b (field other t map) (field other u (insert name t map)))
+        → AtMost (suc (size t + suc (size u + sizes map))) (cond b (field other t map) (field other u (insert name t map)))
     go true h = omega arith
     go false h = omega arith
 
@@ -86,8 +85,8 @@ module _ (call : TreeCall) (s : Smaller call) where
       if-bind (AtMost (suc (size t + sizes map))) (AtMost (sizes map + suc (size t + sizes fs)))
       (λ m. enterAll call m fs)
       (λ m h.
-        if-weaken (AtMost (sizes m + sizes fs)) (AtMost (sizes map + suc (size t + sizes fs))) (λ gs g. omega arith)
-        (enterAll call m fs) (all-sizes m fs))
+      if-weaken (AtMost (sizes m + sizes fs)) (AtMost (sizes map + suc (size t + sizes fs))) (λ gs g. omega arith)
+      (enterAll call m fs) (all-sizes m fs))
       (enter call name t map) (enter-sizes name t map)
 
   fields-sizes : (fs gs : Fields) → If (AtMost (sizes fs + sizes gs)) (unionFields call fs gs)
@@ -144,7 +143,7 @@ module _ (call : TreeCall) (s : Smaller call) where
       (ended (zipFields call fs gs) (zip-sizes fs gs)) (union-sizes fs gs)
     where
       ended : (z : Zip) → ZipAtMost (sizes fs + sizes gs) z
-        → If (Below (suc (suc (sizes fs + sizes gs)))) (zipEnd (unionStructFields call fs gs) z)
+          → If (Below (suc (suc (sizes fs + sizes gs)))) (zipEnd (unionStructFields call fs gs) z)
       ended namesDiffer h = union-sizes fs gs
       ended noJoin h = tt
       ended (joined hs) h = omega arith
@@ -156,8 +155,8 @@ module _ (call : TreeCall) (s : Smaller call) where
       if-bind (Below (size t + 1)) (AtMost (suc (size t + sizes fs)))
       (λ st. mapO (field name st) (joinEach call fs (leaf k a)))
       (λ v h.
-        if-map (AtMost (sizes fs)) (AtMost (suc (size t + sizes fs))) (field name v) (λ gs g. omega arith)
-        (joinEach call fs (leaf k a)) (each-sizes k a fs))
+      if-map (AtMost (sizes fs)) (AtMost (suc (size t + sizes fs))) (field name v) (λ gs g. omega arith)
+      (joinEach call fs (leaf k a)) (each-sizes k a fs))
       (call t (leaf k a)) (s t (leaf k a))
 
   -- ---- the arms
@@ -208,7 +207,7 @@ module _ (call : TreeCall) (s : Smaller call) where
 
   with-leaf-sizes : (l r : DataType)
       → If (Below (size l + size r))
-        (ifStruct none (λ fs. ifLeaf none (λ k a. mapO struct (joinEach call fs (leaf k a))) r) l)
+      (ifStruct none (λ fs. ifLeaf none (λ k a. mapO struct (joinEach call fs (leaf k a))) r) l)
   unfolding size
   with-leaf-sizes (leaf k a) r = tt
   with-leaf-sizes (list t) r = tt

@@ -1,23 +1,23 @@
 -- An answer's leaves and names follow their rules, so an answer within the limits is a valid type. Assumes nothing.
-use mathlib.Core.Path.{_≡_, refl, sym, ap, subst, _∙_}
+use mathlib.Core.Path.{_≡_, refl, sym, subst, _∙_}
 use mathlib.Core.Bool.{Bool, true, false, not, cond, _&&_, _||_}
 use mathlib.Core.List.{List, [], _∷_}
 use mathlib.Core.Option.{Option, none, some}
-use Prim.Native.Nat.{ℕ, suc, _+_, _*_, _^_, _≤_, _<_}
+use Prim.Native.Nat.{ℕ, _+_, _*_, _^_, _≤_, _<_}
 use native.Mathlib.Omega.{arith}
-use lib.Dec.{T, leb, eqb}
+use lib.Dec.{T, leb}
 use borrow.Author.Tests.{eqb-true, le-leb, leb-true}
 use Rattle.flat.specs.Kind as kind
 use Rattle.flat.specs.Argument.{argumentFits, argumentRule, leafFits}
 use Rattle.flat.specs.Tree.{DataType, leaf, list, array, struct, Fields, empty, field, count, size, sizes, depth}
 use Rattle.flat.specs.Tree.{headKind, headArg}
 use Rattle.flat.specs.Reading.{Ruled, RuledFields, IsType}
-use Rattle.flat.proofs.Rules.{and-both, and-left, and-right}
+use Rattle.flat.proofs.Rules.{and-left, and-right}
 use Rattle.flat.proofs.Sizes.{size-pos}
 use Rattle.flat.proofs.Truths.{never, is-true, both-true}
 use Rattle.dtype.specs.Match.{among}
 use Rattle.dtype.specs.Predicate.{isFloat, isUnknownInt, isSignedInteger, isUnsignedInteger, isInteger, isPrimitiveNumeric}
-use Rattle.supertype_answer.specs.Join.{Node, node, Supertype, Some, Nothing, rootNode, typeOf}
+use Rattle.supertype_answer.specs.Join.{Node, Supertype, Some, Nothing, rootNode, typeOf}
 use Rattle.supertype_arms.specs.Node.{zone, fits}
 use Rattle.supertype_arms.specs.Supertype.{is, arms, unknownArms, choose, run}
 use Rattle.supertype_arms.specs.Supertype.{TreePlan, leftType, rightType, roots}
@@ -27,12 +27,12 @@ use Rattle.supertype_arms.specs.declared.plan.Plan.the-variants.{No, Left, Righ
 use Rattle.supertype_arms.specs.declared.plan.Plan.the-variants.{DatetimeDuration, Datetimes, Durations}
 use Rattle.supertype_arms.specs.declared.plan.Plan.the-variants.{DynNumber, DynBoolean, DynDecimal}
 use Rattle.supertype_arms.proofs.Decimals.{IsDecimal}
-use Rattle.supertype_nested.specs.Nested.{SuperTypeOptions, TreeCall, treeOf, rootFound, atRoots, treePlan}
+use Rattle.supertype_nested.specs.Nested.{SuperTypeOptions, treeOf, rootFound, atRoots, treePlan}
 use Rattle.supertype_nested.specs.Nested.{supertypeTree}
 use Rattle.supertype_nested.specs.Laws.{Each, Eachs, LeavesFit}
 use Rattle.supertype_nested.proofs.Found.{If, if-told}
 use Rattle.supertype_nested.proofs.Chosen.{every-of, all-true, or-false, chosen}
-use Rattle.supertype_nested.proofs.Keeps.{Keeps, RootsKeep, tree-keeps}
+use Rattle.supertype_nested.proofs.Keeps.{RootsKeep, tree-keeps}
 use Rattle.supertype_nested.proofs.Fits.{Fitting, Suits, zone-below, run-fits}
 
 -- ---- what the arms tell of two kinds
@@ -113,15 +113,28 @@ arms-suit o a b = go (o .allowImplodeList) (o .allowPrimitiveToString)
 
     hold : T (every-of facts)
     hold =
-        all-true facts
-        (asks-first first second,
-        (asks-second first second,
-        (asks-that datetimes,
-        (asks-that decimals,
-        (asks (is kind.Decimal a) (isSignedInteger b || isUnsignedInteger b),
-        (asks (isPrimitiveNumeric a) (isUnknownInt b),
-        (asks (is kind.Boolean a) (isUnknownInt b),
-        (asks (is kind.Decimal a) (isUnknownInt b), tt))))))))
+        all-true facts (
+          asks-first first second,
+          (
+            asks-second first second,
+            (
+              asks-that datetimes,
+              (
+                asks-that decimals,
+                (
+                  asks (is kind.Decimal a) (isSignedInteger b || isUnsignedInteger b),
+                  (
+                    asks (isPrimitiveNumeric a) (isUnknownInt b),
+                    (
+                      asks (is kind.Boolean a) (isUnknownInt b),
+                      (asks (is kind.Decimal a) (isUnknownInt b), tt),
+                    ),
+                  ),
+                ),
+              ),
+            ),
+          ),
+        )
 
     go : (i s : Bool) → T (suitsTree a b (choose (arms i s) a b))
     go i true = chosen (suitsTree a b) a b (arms i true) tt hold
@@ -166,15 +179,16 @@ roots-suit l r h g No t = tt
 roots-suit l r h g Left t = absurd t
 roots-suit l r h g Right t = absurd t
 roots-suit l r h g (Kind k) t = is-true (leafFits k 0) t
-roots-suit l r h g Decimals t =
-    (decimal-root l h (is-true _ (and-left (is kind.Decimal (headKind l)) (is kind.Decimal (headKind r)) t)),
-    decimal-root r g (is-true _ (and-right (is kind.Decimal (headKind l)) (is kind.Decimal (headKind r)) t)))
+roots-suit l r h g Decimals t = (
+  decimal-root l h (is-true _ (and-left (is kind.Decimal (headKind l)) (is kind.Decimal (headKind r)) t)),
+  decimal-root r g (is-true _ (and-right (is kind.Decimal (headKind l)) (is kind.Decimal (headKind r)) t)),
+)
 roots-suit l r h g DecimalInteger t = decimal-root l h (is-true _ t)
 roots-suit l r h g DatetimeDuration t = go (is kind.Datetime (headKind l)) refl t
   where
     go : (b : Bool) → is kind.Datetime (headKind l) ≡ b
-      → T ((is kind.Duration (headKind l) && is kind.Datetime (headKind r)) || (b && is kind.Duration (headKind r)))
-      → cond b (zone (rootNode l)) (zone (rootNode r)) < 2 ^ 32
+        → T ((is kind.Duration (headKind l) && is kind.Datetime (headKind r)) || (b && is kind.Duration (headKind r)))
+        → cond b (zone (rootNode l)) (zone (rootNode r)) < 2 ^ 32
     go true e u = datetime-root l h e
     go false e u =
         datetime-root r g (is-true _ (and-right (is kind.Duration (headKind l)) (is kind.Datetime (headKind r))
@@ -215,7 +229,8 @@ as-root (some (struct fs)) h = tt
 roots-keep : RootsKeep LeafFits NameFits
 roots-keep call s o l r h g p e =
     as-tree (run (atRoots call) p (rootNode l) (rootNode r))
-    (run-fits (atRoots call) (λ n m a b. as-root (call (typeOf n) (typeOf m)) (s (typeOf n) (typeOf m) (of-node n a) (of-node m b)))
+    (run-fits (atRoots call)
+    (λ n m a b. as-root (call (typeOf n) (typeOf m)) (s (typeOf n) (typeOf m) (of-node n a) (of-node m b)))
     (rootNode l) (rootNode r) p
     (roots-suit l r h g p
     (subst (λ (q : TreePlan). T (suitsTree (headKind l) (headKind r) q)) e (arms-suit o (headKind l) (headKind r)))))

@@ -6,6 +6,7 @@ use Prim.Native.Nat.{ℕ, _+_, _*_, _≤_, _<_}
 use Rattle.flat.specs.Kind.{UnknownIntNeg, Struct, Field}
 use Rattle.flat.specs.Argument.{argumentFits, leafFits}
 use Rattle.flat.specs.Tree.{DataType, leaf, list, array, struct, Fields, empty, field, count, size, depth}
+use Rattle.flat.specs.Reader.{mapO}
 use Rattle.flat.specs.Reading.{Ruled, IsType}
 use Rattle.supertype_answer.specs.Join.{node}
 use Rattle.supertype_arms.specs.Supertype.{supertype}
@@ -31,7 +32,12 @@ LeavesFit = Each (λ k a. leafFits k a ≡ true) (λ name. argumentFits Field na
 
 -- the union of fields, whatever the inner calls answer
 pub record UnionLaws : Type 0 where
-  -- it is the longest's names, each at its first place with its last type, then the new names of the shortest
+  -- the longest is the one with more fields, and of two with as many the left
+  pub left-longest : (c : TreeCall) (fs gs : Fields) → count gs ≤ count fs
+      → unionStructFields c fs gs ≡ mapO struct (unionFields c fs gs)
+  pub right-longest : (c : TreeCall) (fs gs : Fields) → count fs < count gs
+      → unionStructFields c fs gs ≡ mapO struct (unionFields c gs fs)
+  -- the union is the longest's names, each at its first place with its last type, then the new names of the shortest
   pub by-names : (c : TreeCall) (longest shortest : Fields)
       → unionFields c longest shortest ≡ byNames c longest shortest
   -- what stands under a name rests on the fields of that name alone
