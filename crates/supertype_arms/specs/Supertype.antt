@@ -199,7 +199,7 @@ arms implode toString =
     ∷ arm (is kind.List) (is kind.List) lists
     ∷ arm (is kind.List) (is kind.Array) lists
     ∷ arm (is kind.Array) (is kind.List) lists
-    -- its guard, equal widths, is read with its answer, and so is the later arm of two Arrays: no arm between takes them
+    -- its guard, equal widths, is read with its answer, and so is the later arm of two Arrays: none between takes them
     ∷ arm (is kind.Array) (is kind.Array) arrays
     ∷ arm (λ dt. is kind.List dt && implode) every implodeLeft
     ∷ arm every (λ dt. is kind.List dt && implode) implodeRight

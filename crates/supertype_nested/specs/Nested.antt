@@ -43,8 +43,8 @@ fromIter map (field name t fs) = fromIter (insert name t map) fs
 abbrev pub joinHeld : TreeCall → DataType → DataType → Option DataType
 joinHeld getSupertype t held = cond (equal t held) (some held) (getSupertype t held)
 
--- one turn of the loop over the shortest: `entry(&field.name).or_insert_with(..)`, where a new name's type is held as it
--- is, then the join with what was held
+-- one turn of the loop over the shortest: `entry(&field.name).or_insert_with(..)`, where a new name's type is held as
+-- it is, then the join with what was held
 unfoldable pub enter : TreeCall → ℕ → DataType → Fields → Option Fields
 enter getSupertype name t empty = some (field name t empty)
 enter getSupertype name t (field other u map) =
