@@ -6,12 +6,12 @@ use mathlib.Core.Option.{Option, none, some}
 use Prim.Native.Nat.{ℕ, _+_, _*_, _^_, _≤_, _<_}
 use native.Mathlib.Omega.{arith}
 use lib.Dec.{T, leb}
-use borrow.Author.Tests.{eqb-true, le-leb, leb-true}
+use borrow.Author.Tests.{eqb-true, le-leb, lt-ltb, leb-true}
 use Rattle.flat.specs.Kind as kind
 use Rattle.flat.specs.Argument.{argumentFits, argumentRule, leafFits}
 use Rattle.flat.specs.Tree.{DataType, leaf, list, array, struct, Fields, empty, field, count, size, sizes, depth}
 use Rattle.flat.specs.Tree.{headKind, headArg}
-use Rattle.flat.specs.Reading.{Ruled, RuledFields, IsType}
+use Rattle.flat.specs.Reading.{Ruled, RuledFields}
 use Rattle.flat.proofs.Rules.{and-left, and-right}
 use Rattle.flat.proofs.Sizes.{size-pos}
 use Rattle.flat.proofs.Truths.{never, is-true, both-true}
@@ -29,7 +29,7 @@ use Rattle.supertype_arms.specs.declared.plan.Plan.the-variants.{DynNumber, Dyn
 use Rattle.supertype_arms.proofs.Decimals.{IsDecimal}
 use Rattle.supertype_nested.specs.Nested.{SuperTypeOptions, treeOf, rootFound, atRoots, treePlan}
 use Rattle.supertype_nested.specs.Nested.{supertypeTree}
-use Rattle.supertype_nested.specs.Laws.{Each, Eachs, LeavesFit}
+use Rattle.supertype_nested.specs.Laws.{Each, Eachs, LeavesFit, AnswersValid}
 use Rattle.supertype_nested.proofs.Found.{If, if-told}
 use Rattle.supertype_nested.proofs.Chosen.{every-of, all-true, or-false, chosen}
 use Rattle.supertype_nested.proofs.Keeps.{RootsKeep, tree-keeps}
@@ -280,11 +280,15 @@ module _ (nodes : ℕ) (few : (n : ℕ) → 1 + 2 * n ≤ nodes → argumentFits
         (h .0, to-ruled t (h .1) (omega arith), to-ruled-fields fs (h .2) (omega arith))
 
 pub valid : (nodes deep : ℕ) → ((n : ℕ) → 1 + 2 * n ≤ nodes → argumentFits kind.Struct n ≡ true)
-    → (o i : SuperTypeOptions) (l r t : DataType) → Ruled l → Ruled r → supertypeTree o i l r ≡ some t
-    → size t ≤ nodes → depth t ≤ deep → IsType nodes deep t
+    → AnswersValid nodes deep
 valid nodes deep few o i l r t h g e w d =
     record {
       ruled = to-ruled nodes few t (leaves-fit o i l r t (of-ruled l h) (of-ruled r g) e) w;
       within = w;
       shallow = d;
     }
+
+-- so many nodes let no Struct have too many fields
+pub few-fields : {nodes : ℕ} → nodes ≤ 2 * 256 → (n : ℕ) → 1 + 2 * n ≤ nodes → argumentFits kind.Struct n ≡ true
+unfolding argumentFits argumentRule
+few-fields h n g = lt-ltb n 256 (omega arith)

@@ -30,6 +30,12 @@ unfoldable mutual
 abbrev pub LeavesFit : DataType → Type 0
 LeavesFit = Each (λ k a. leafFits k a ≡ true) (λ name. argumentFits Field name ≡ true)
 
+-- an answer to valid types that is within the limits is a valid type
+abbrev pub AnswersValid : (nodes deep : ℕ) → Type 0
+AnswersValid nodes deep =
+    (o i : SuperTypeOptions) (l r t : DataType) → Ruled l → Ruled r → supertypeTree o i l r ≡ some t
+    → size t ≤ nodes → depth t ≤ deep → IsType nodes deep t
+
 -- the union of fields, whatever the inner calls answer
 pub record UnionLaws : Type 0 where
   -- the longest is the one with more fields, and of two with as many the left
@@ -62,9 +68,8 @@ pub record NestedLaws : Type 0 where
   -- the leaves and the names of an answer follow their rules where those of both types do
   pub fits : (o i : SuperTypeOptions) (l r t : DataType) → LeavesFit l → LeavesFit r → supertypeTree o i l r ≡ some t
       → LeavesFit t
-  -- so an answer to valid types that is within the limits is a valid type, where the limit of nodes lets no Struct have
-  -- more fields than its rule does
+  -- so an answer within the limits is a valid type, where the limit of nodes lets no Struct have more fields than its
+  -- rule does; the code's does not (src/limits.rt)
   pub valid : (nodes deep : ℕ) → ((n : ℕ) → 1 + 2 * n ≤ nodes → argumentFits Struct n ≡ true)
-      → (o i : SuperTypeOptions) (l r t : DataType) → Ruled l → Ruled r → supertypeTree o i l r ≡ some t
-      → size t ≤ nodes → depth t ≤ deep → IsType nodes deep t
+      → AnswersValid nodes deep
   pub union : UnionLaws
