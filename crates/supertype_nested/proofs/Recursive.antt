@@ -236,8 +236,8 @@ recursive o i l r =
     (record {
       fewer = λ x y e. in-same (size l + size r) (suc (size x + size y)) i x y (omega arith) (omega arith);
       leaves =
-        λ k a u b e f. bounded (size l + size r) (suc (size (leaf k a) + size (leaf u b))) i k a u b
-        (omega arith) (omega arith) e f;
+          λ k a u b e f. bounded (size l + size r) (suc (size (leaf k a) + size (leaf u b))) i k a u b
+          (omega arith) (omega arith) e f;
     })
     o l r (omega arith)
 
