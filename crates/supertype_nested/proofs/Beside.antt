@@ -145,10 +145,10 @@ not-equal k a is-struct = (refl, refl)
 
 module _ (c : TreeCall) (o : SuperTypeOptions) (k a : ℕ) (h : k ≤ kind.UnknownIntNeg) where
   -- what the arms answer with the nested type on the left, and with it on the right
-  abbrev beside : DataType → Option DataType
+  abbrev pub beside : DataType → Option DataType
   beside n = runTree c (planBeside (o .allowImplodeList) (headKind n) k) n (leaf k a)
 
-  abbrev before : DataType → Option DataType
+  abbrev pub before : DataType → Option DataType
   before n = runTree c (planBefore (o .allowImplodeList) (headKind n)) (leaf k a) n
 
   -- None on the left is None on the right: only a List has a plan there, and it makes the same call
@@ -218,7 +218,7 @@ module _ (c : TreeCall) (o : SuperTypeOptions) (k a : ℕ) (h : k ≤ kind.Unkno
             no-some (sym (fair .null t a) ∙ ap (λ (k : ℕ). c t (leaf k a)) (sym (eqb-true k kind.Null n)) ∙ e)
         go false n none e = ap (mapO list) e
 
--- String on the left of a List that takes it in: the one case in which both tries count.
+-- String on the left of a List that takes it in: of a leaf, the one case in which both tries count.
 pub string-list : (c : TreeCall) (o : SuperTypeOptions) (a : ℕ) → o .allowImplodeList ≡ true → (t : DataType)
     → supertypeTreeWith c o (leaf kind.String a) (list t)
     ≡ orElseTree (mapO list (c t (leaf kind.String a))) (some (leaf kind.String 0))
@@ -249,7 +249,7 @@ null-nested c fair o a {n} v = leaf-nested c o kind.Null a (omega arith) v ∙ g
 
 module _ (c : TreeCall) (o : SuperTypeOptions) where
   -- what a List comes to that takes in another type, where Lists do
-  abbrev taken-in : Bool → DataType → DataType → Option DataType
+  abbrev pub taken-in : Bool → DataType → DataType → Option DataType
   taken-in i t u = cond i (mapO list (c t u)) none
 
   left-in : (i : Bool) (t u : DataType) → runTree c (takes i implodeLeft (roots No)) (list t) u ≡ taken-in i t u

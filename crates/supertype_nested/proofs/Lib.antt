@@ -11,4 +11,5 @@ pub mod Fits
 pub mod Valid
 pub mod Steps
 pub mod Beside
+pub mod Plain
 pub mod Hold

@@ -13,6 +13,7 @@ use Rattle.supertype_arms.specs.Supertype.{Arm, arm, is, every, choose, TreePla
 use Rattle.supertype_arms.specs.Supertype.{implodeLeft, implodeRight, firstField, eachField}
 use Rattle.supertype_arms.specs.declared.plan.Plan.the-variants.{No, Kind}
 use Rattle.supertype_nested.specs.Nested.{Zip, namesDiffer, noJoin, joined}
+use Rattle.supertype_nested.specs.Union.{seen}
 
 -- ---- a nested type with a leaf
 
@@ -63,3 +64,8 @@ Missing name (field other t fs) = (eqb name other ≡ false) × Missing name fs
 abbrev pub Distinct : Fields → Type 0
 Distinct empty = Unit {0}
 Distinct (field name t fs) = Missing name fs × Distinct fs
+
+-- a field has a name that is among ns, or among the names of the fields before it
+unfoldable pub repeats : List ℕ → Fields → Bool
+repeats ns empty = false
+repeats ns (field name t fs) = seen ns name || repeats (name ∷ ns) fs
