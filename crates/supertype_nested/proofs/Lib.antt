@@ -11,5 +11,6 @@ pub mod Fits
 pub mod Valid
 pub mod Steps
 pub mod Beside
+pub mod Ranges
 pub mod Plain
 pub mod Hold
