@@ -96,7 +96,8 @@ module _ (k : ℕ) (h : k ≤ kind.UnknownIntNeg) (s : k ≡ kind.String → ⊥
       no-number : isPrimitiveNumeric k ≡ false
       no-number = sym (of-run isPrimitiveNumeric false kind.UnknownAny 2 (unfold says in tt) k (omega arith))
 
-  pub struct-none : (i : Bool) → k < kind.UnknownAny → isPrimitiveNumeric k ≡ false → planBeside i kind.Struct k ≡ roots No
+  pub struct-none : (i : Bool) → k < kind.UnknownAny → isPrimitiveNumeric k ≡ false
+      → planBeside i kind.Struct k ≡ roots No
   struct-none i l p = by-tests i kind.Struct ∙ (λ j. tested false (no-dyn (omega arith) j) (p j) (known l j))
 
 -- ---- the answer by the plan
