@@ -33,6 +33,7 @@ pub data IsNested : DataType → Type 0 where
 -- ---- the plans
 
 module _ (k : ℕ) (h : k ≤ kind.UnknownIntNeg) where
+  -- a leaf's kind is no nested one
   no-list : eqb k kind.List ≡ false
   no-list = ne-eqb k kind.List (λ e. omega arith)
 
@@ -53,6 +54,7 @@ module _ (k : ℕ) (h : k ≤ kind.UnknownIntNeg) where
       (takes (x && i) implodeRight
       (takes (isUnknown k) (roots (Kind kind.UnknownAny)) (roots No)))))))
 
+  -- an Array, by the same
   abbrev of-array : Bool → Bool → Bool → TreePlan
   of-array i x y =
       takes (is kind.String k) (roots (Kind kind.String))
@@ -62,6 +64,7 @@ module _ (k : ℕ) (h : k ≤ kind.UnknownIntNeg) where
       (takes (x && i) implodeRight
       (takes (isUnknown k) (roots (Kind kind.UnknownAny)) (roots No))))))
 
+  -- a Struct, by whether the right kind is a List or a Struct
   abbrev of-struct : Bool → Bool → Bool → TreePlan
   of-struct i x y =
       takes (is kind.String k) (roots (Kind kind.String))
@@ -72,6 +75,7 @@ module _ (k : ℕ) (h : k ≤ kind.UnknownIntNeg) where
       (takes (isPrimitiveNumeric k) eachField
       (takes (isUnknown k) (roots (Kind kind.UnknownAny)) (roots No)))))))
 
+  -- of a leaf on the right they leave those of `besideArms`
   list-beside : (i s : Bool) → choose (arms i s) kind.List k ≡ planBeside i kind.List k
   unfolding plan-at planBeside besideArms
   list-beside i true = ap₂ (of-list i) no-list no-array
@@ -121,6 +125,7 @@ module _ (k : ℕ) (h : k ≤ kind.UnknownIntNeg) where
       no-list no-struct
 
   module _ (o : SuperTypeOptions) where
+    -- The two plans of a nested type with a leaf.
     pub plan-beside : {n : DataType} → IsNested n
         → treePlan o (headKind n) k ≡ planBeside (o .allowImplodeList) (headKind n) k
     unfolding treePlan headKind
@@ -170,7 +175,7 @@ module _ (c : TreeCall) (o : SuperTypeOptions) (k a : ℕ) (h : k ≤ kind.Unkno
   none-before is-array e = refl
   none-before is-struct e = refl
 
-  -- The nested type on the left: the first try decides.
+  -- The nested type on the left: the first try decides, so that the code makes one.
   pub nested-leaf : {n : DataType} → IsNested n → supertypeTreeWith c o n (leaf k a) ≡ beside n
   unfolding headKind
   nested-leaf {n} v =

@@ -14,13 +14,23 @@ use Rattle.dtype.specs.Equality.{equal}
 use Rattle.supertype_nested.specs.Nested.{SuperTypeOptions, TreeCall, fromIter, joinHeld, enterAll, unionFields}
 use Rattle.supertype_nested.specs.Nested.{Zip, namesDiffer, noJoin, joined, zipOn, zipFields, supertypeTreeWith}
 use Rattle.supertype_nested.specs.Union.{lastOr, joinNamed, seen}
-use Rattle.supertype_nested.specs.Step.{orElseFields, zipEither, inPlace, Missing, Distinct, repeats}
+use Rattle.supertype_nested.specs.Step.{orElseFields, zipEither, inPlace, repeats}
 use Rattle.supertype_nested.proofs.Found.{no-some, map-none}
 use Rattle.supertype_nested.proofs.Union.{turned-false}
 use Rattle.supertype_nested.proofs.Names.{without, nothing-after, old-name, new-name, one-seen}
 use Rattle.supertype_nested.proofs.Steps.{Fair, same-count}
 
 -- ---- names
+
+-- no field has the name
+abbrev pub Missing : ℕ → Fields → Type 0
+Missing name empty = Unit {0}
+Missing name (field other t fs) = (eqb name other ≡ false) × Missing name fs
+
+-- no name is repeated
+abbrev pub Distinct : Fields → Type 0
+Distinct empty = Unit {0}
+Distinct (field name t fs) = Missing name fs × Distinct fs
 
 none-of : (a b : Bool) → (a || b) ≡ false → (a ≡ false) × (b ≡ false)
 none-of true b e = never (sym e)
@@ -49,7 +59,7 @@ distinct-of ns (field n t fs) e =
     let rest = none-of (seen ns n) (repeats (n ∷ ns) fs) e .1 in
     (unseen n (n ∷ ns) fs (ap (λ (b : Bool). b || seen ns n) (eq-eqb n n refl)) rest, distinct-of (n ∷ ns) fs rest)
 
--- The test tells that no name is repeated.
+-- The test by the names before, which a loop over the fields makes, tells that no name is repeated.
 pub distinct : (fs : Fields) → repeats [] fs ≡ false → Distinct fs
 distinct = distinct-of []
 
@@ -307,8 +317,8 @@ module _ (c : TreeCall) (fair : Fair c) where
       go true p e r = on (c t u) (zipFields c fs gs) refl e (r p)
       go false p e r = never p
 
-  -- So where a name is out of place and none is repeated, the left one's union decides, and neither the loop nor the
-  -- other order needs a look.
+  -- So where a name is out of place and none is repeated, the left one's union decides: neither the loop over both nor
+  -- the other order needs a look, and the joins of each field are made once.
   pub plain-union : (fs gs : Fields) → Distinct fs → Distinct gs → inPlace fs gs ≡ false
       → zipEither (unionFields c fs gs) (unionFields c gs fs) (zipFields c fs gs) ≡ unionFields c fs gs
   plain-union fs gs d e p = go (zipFields c fs gs) refl

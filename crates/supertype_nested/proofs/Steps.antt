@@ -36,6 +36,7 @@ pub record Fair (c : TreeCall) : Type 0 where
   -- of a type with Null on the right it is the type
   pub null : (t : DataType) (a : ℕ) → c t (leaf kind.Null a) ≡ some t
 
+-- equal types: the left one
 with-equal : (c : TreeCall) (o : SuperTypeOptions) (l r : DataType) → equal l r ≡ true
     → supertypeTreeWith c o l r ≡ some l
 unfolding supertypeTreeWith innerTree
@@ -44,11 +45,12 @@ with-equal c o l r e =
     (λ (b : Bool).
     orElseTree (cond b (some l) (runTree c (treePlan o (headKind l) (headKind r)) l r)) (innerTree c o r l)) e
 
+-- only one arm takes Null on the right
 plan-null : (o : SuperTypeOptions) (k : ℕ) → treePlan o k kind.Null ≡ leftType
 unfolding plan-at
 plan-null o k = at-plan o k kind.Null
 
--- Null on the right: the left type, whatever the inner calls answer
+-- Null on the right: the left type, whatever the inner calls answer.
 pub with-null : (c : TreeCall) (o : SuperTypeOptions) (t : DataType) (a : ℕ)
     → supertypeTreeWith c o t (leaf kind.Null a) ≡ some t
 unfolding supertypeTreeWith innerTree headKind runTree
@@ -64,6 +66,7 @@ with-null c o t a =
     go true = refl
     go false = refl
 
+-- The function itself is such a call, so that the laws hold of its own recursion.
 pub tree-fair : (o i : SuperTypeOptions) → Fair (supertypeTree o i)
 tree-fair o i =
     record {
@@ -74,8 +77,9 @@ tree-fair o i =
 
 -- ---- one try
 
--- The first try decides, by its plan p, where the second, by its plan q, is None with it, and equal types have from
--- their arms the answer that they have without.
+-- When the second try is needless: p is the plan of the first and q that of the second, their answers for equal types
+-- are those of the test of equality, and the second is None where the first is. The code then runs p alone and makes no
+-- such test.
 pub settle : (c : TreeCall) (o : SuperTypeOptions) (l r : DataType) (p q : TreePlan)
     → treePlan o (headKind l) (headKind r) ≡ p → treePlan o (headKind r) (headKind l) ≡ q
     → (equal l r ≡ true → runTree c p l r ≡ some l) → (equal r l ≡ true → runTree c q r l ≡ some r)
@@ -125,9 +129,11 @@ module _ (o : SuperTypeOptions) where
 module _ (c : TreeCall) (fair : Fair c) (o : SuperTypeOptions) where
   -- ---- Lists and Arrays: one call on the inner types
 
+  -- the call the other way round is None where this one is
   turned : (f g : DataType → DataType) (t u : DataType) → mapO f (c t u) ≡ none → mapO g (c u t) ≡ none
   turned f g t u e = ap (mapO g) (fair .turn t u (map-none f (c t u) e))
 
+  -- a List of what the inner types come to
   pub two-lists : (t u : DataType) → supertypeTreeWith c o (list t) (list u) ≡ mapO list (c t u)
   unfolding headKind equal runTree innerDtype
   two-lists t u =
@@ -156,6 +162,7 @@ module _ (c : TreeCall) (fair : Fair c) (o : SuperTypeOptions) where
       go true e = ap (mapO (array w)) (fair .same t u e)
       go false e = never e
 
+  -- an Array of it where the widths are one, else a List
   pub two-arrays : (w v : ℕ) (t u : DataType)
       → supertypeTreeWith c o (array w t) (array v u) ≡ mapO (ofWidths w v) (c t u)
   unfolding headKind headArg runTree innerDtype
@@ -171,6 +178,7 @@ module _ (c : TreeCall) (fair : Fair c) (o : SuperTypeOptions) where
   came noJoin = 1
   came (joined fs) = 2
 
+  -- a join that was found leaves it what it is
   on-some : (n : ℕ) (t : DataType) (z : Zip) → came (zipOn n (some t) z) ≡ came z
   on-some n t namesDiffer = refl
   on-some n t noJoin = refl
@@ -218,6 +226,7 @@ module _ (c : TreeCall) (fair : Fair c) (o : SuperTypeOptions) where
       go true false q e h = never e
       go false b q e h = never e
 
+  -- and equal fields are as many
   equal-counts : (fs gs : Fields) → equalFields fs gs ≡ true → count fs ≡ count gs
   unfolding equal count
   equal-counts empty empty e = refl
@@ -230,6 +239,7 @@ module _ (c : TreeCall) (fair : Fair c) (o : SuperTypeOptions) where
   struct-or none q = refl
   struct-or (some fs) q = refl
 
+  -- both tries, by what the loop comes to in each
   two-zips : (fs gs : Fields) (p q : Option Fields) (x y : Bool) (z w : Zip) → came z ≡ came w
       → (x ≡ true → z ≡ joined fs) → (y ≡ true → w ≡ joined gs)
       → orElseTree (cond x (some (struct fs)) (zipEnd (mapO struct p) z))
@@ -246,7 +256,7 @@ module _ (c : TreeCall) (fair : Fair c) (o : SuperTypeOptions) where
   two-zips fs gs p q false false noJoin noJoin e h g = refl
   two-zips fs gs p q false false noJoin (joined js) e h g = absurd (omega (arith, e))
 
-  -- Structs with as many fields: the two orders count where names differ at a place.
+  -- Structs with as many fields: the unions of both orders count where names differ at a place, and there alone.
   pub same-count : (fs gs : Fields) → count fs ≡ count gs
       → supertypeTreeWith c o (struct fs) (struct gs)
       ≡ mapO struct (zipEither (unionFields c fs gs) (unionFields c gs fs) (zipFields c fs gs))
@@ -277,6 +287,7 @@ module _ (c : TreeCall) (fair : Fair c) (o : SuperTypeOptions) where
   unfolding superTypeStructs
   shorter fs gs h = rw (ne-eqb (count fs) (count gs) (λ e. omega arith)) (right-longest c fs gs h)
 
+  -- The left is the longer one, and the right.
   pub left-longer : (fs gs : Fields) → count gs < count fs
       → supertypeTreeWith c o (struct fs) (struct gs) ≡ mapO struct (unionFields c fs gs)
   unfolding headKind runTree equal

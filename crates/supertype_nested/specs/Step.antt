@@ -3,7 +3,6 @@
 use mathlib.Core.Bool.{Bool, true, false, cond, _&&_, _||_}
 use mathlib.Core.List.{List, [], _∷_}
 use mathlib.Core.Option.{Option, none, some}
-use mathlib.Core.Path.{_≡_}
 use Prim.Native.Nat.{ℕ}
 use lib.Dec.{eqb}
 use Rattle.flat.specs.Kind as kind
@@ -54,16 +53,6 @@ unfoldable pub inPlace : Fields → Fields → Bool
 inPlace empty gs = true
 inPlace (field name t fs) empty = true
 inPlace (field name t fs) (field other u gs) = eqb name other && inPlace fs gs
-
--- no field has the name
-abbrev pub Missing : ℕ → Fields → Type 0
-Missing name empty = Unit {0}
-Missing name (field other t fs) = (eqb name other ≡ false) × Missing name fs
-
--- no name is repeated
-abbrev pub Distinct : Fields → Type 0
-Distinct empty = Unit {0}
-Distinct (field name t fs) = Missing name fs × Distinct fs
 
 -- a field has a name that is among ns, or among the names of the fields before it
 unfoldable pub repeats : List ℕ → Fields → Bool
