@@ -7,8 +7,11 @@ use lib.Dec.{T, eqb}
 use borrow.Author.Tests.{eqb-true}
 use Rattle.flat.proofs.Rules.{and-both, and-left, and-right}
 use Rattle.dtype.specs.Match.{among}
-use Rattle.dtype.specs.Predicate.{isUnknownInt, isPrimitiveNumeric}
+use Rattle.dtype.specs.Predicate.{isFloat, isUnknownInt, isSignedInteger, isUnsignedInteger, isInteger}
+use Rattle.dtype.specs.Predicate.{isPrimitiveNumeric, isPrimitive, isString, isUnknown}
+use Rattle.dtype.specs.Physical.{physicalLeaf, physicalKind}
 use Rattle.flat.specs.Kind.{Boolean}
+use Rattle.flat.specs.Tree.{headKind}
 use Rattle.supertype_arms.specs.Supertype.{Arm, is, arms, unknownArms, choose}
 use Rattle.supertype_arms.specs.Supertype.{TreePlan, leftType, rightType, roots}
 use Rattle.supertype_arms.specs.Supertype.{lists, arrays, implodeLeft, implodeRight, firstField, structs, eachField}
@@ -51,6 +54,35 @@ chosen ok a b (x ∷ xs) o t =
         → T (ok (elim takes as (λ z. TreePlan) [ true ↦ x .plan | false ↦ choose xs a b ]))
     go true u v = or-false (ok (x .plan)) u
     go false u v = v
+
+-- one step of `choose`: an arm's plan where it takes the kinds, else that of the others
+abbrev pub takes : Bool → TreePlan → TreePlan → TreePlan
+takes b p others = elim b [ true ↦ p | false ↦ others ]
+
+-- the arms' right tests before their left ones: the same plan, and it computes where the right kind alone is known
+abbrev pub choose-right : List Arm → ℕ → ℕ → TreePlan
+choose-right [] a b = roots No
+choose-right (x ∷ xs) a b = takes (x .right b && x .left a) (x .plan) (choose-right xs a b)
+
+pub right-first : (xs : List Arm) (a b : ℕ) → choose xs a b ≡ choose-right xs a b
+right-first [] a b = refl
+right-first (x ∷ xs) a b = go (x .left a) (x .right b) (right-first xs a b)
+  where
+    go : (p q : Bool) → choose xs a b ≡ choose-right xs a b
+        → takes (p && q) (x .plan) (choose xs a b) ≡ takes (q && p) (x .plan) (choose-right xs a b)
+    go true true h = refl
+    go true false h = h
+    go false true h = h
+    go false false h = h
+
+-- the plan of two kinds by it: `unfolding plan-at` computes it at a known right kind, whichever the flags
+unfoldable pub plan-at : SuperTypeOptions → ℕ → ℕ → TreePlan
+unfolding arms unknownArms among isFloat isUnknownInt isSignedInteger isUnsignedInteger isInteger isPrimitiveNumeric isPrimitive isString isUnknown physicalLeaf physicalKind headKind
+plan-at o a b = choose-right (arms (o .allowImplodeList) (o .allowPrimitiveToString)) a b
+
+pub at-plan : (o : SuperTypeOptions) (a b : ℕ) → treePlan o a b ≡ plan-at o a b
+unfolding treePlan plan-at
+at-plan o a b = right-first (arms (o .allowImplodeList) (o .allowPrimitiveToString)) a b
 
 -- a plan that makes no inner call with two roots
 abbrev pub rootsQuiet : TreePlan → Bool

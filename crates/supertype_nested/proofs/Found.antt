@@ -4,6 +4,7 @@ use mathlib.Core.Bool.{Bool, true, false, cond}
 use mathlib.Core.Option.{Option, none, some}
 use Rattle.flat.specs.Tree.{DataType}
 use Rattle.flat.specs.Reader.{mapO, bindO}
+use Rattle.flat.proofs.Truths.{impossible}
 use Rattle.supertype_nested.specs.Nested.{orElseTree}
 
 abbrev pub If : {A : Type 0} → (A → Type 0) → Option A → Type 0
@@ -43,3 +44,12 @@ bind-same f g (some a) h = h
 pub cond-same : {A : Type 0} (b : Bool) {p p′ q q′ : A} → p ≡ p′ → q ≡ q′ → cond b p q ≡ cond b p′ q′
 cond-same true h g = h
 cond-same false h g = g
+
+-- ---- nothing was found
+
+pub no-some : {A B : Type 0} {a : A} → some a ≡ none → B
+no-some e = impossible cc
+
+pub map-none : {A B : Type 0} (f : A → B) (q : Option A) → mapO f q ≡ none → q ≡ none
+map-none f none e = refl
+map-none f (some a) e = no-some e

@@ -9,4 +9,8 @@ pub mod Names
 pub mod Keeps
 pub mod Fits
 pub mod Valid
+pub mod Steps
+pub mod Beside
+pub mod Ranges
+pub mod Plain
 pub mod Hold

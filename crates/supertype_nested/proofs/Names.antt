@@ -52,7 +52,7 @@ from-first name t map (field other u fs) =
     go false h g = g
 
 module _ (c : TreeCall) where
-  nothing-after : {A B : Type 0} (q : Option A) → bindO {A = A} {B = B} q (λ a. none) ≡ none
+  pub nothing-after : {A B : Type 0} (q : Option A) → bindO {A = A} {B = B} q (λ a. none) ≡ none
   nothing-after none = refl
   nothing-after (some a) = refl
 
@@ -90,7 +90,7 @@ module _ (c : TreeCall) where
 
   -- The longest's first name: its last type there, with the fields of its name in the shortest; then the other names of
   -- both.
-  old-name : (name : ℕ) (t : DataType) (fs gs : Fields)
+  pub old-name : (name : ℕ) (t : DataType) (fs gs : Fields)
       → enterAll c (fromIter empty (field name t fs)) gs
       ≡ bindO (joinNamed c name (lastOr name t fs) gs)
       (λ v. mapO (field name v) (enterAll c (fromIter empty (without name fs)) (without name gs)))
@@ -100,7 +100,7 @@ module _ (c : TreeCall) where
       ∙ enter-first name (lastOr name t fs) (fromIter empty (without name fs)) gs
 
   -- No name of the longest is left: the shortest's first name, with its first type; then the others.
-  new-name : (name : ℕ) (t : DataType) (gs : Fields)
+  pub new-name : (name : ℕ) (t : DataType) (gs : Fields)
       → enterAll c empty (field name t gs)
       ≡ bindO (joinNamed c name t gs) (λ v. mapO (field name v) (enterAll c empty (without name gs)))
   unfolding enterAll enter
@@ -114,7 +114,7 @@ outside ns empty = empty
 outside ns (field name t fs) = cond (seen ns name) (outside ns fs) (field name t (outside ns fs))
 
 -- a name that is one with another is seen where that is
-one-seen : (ns : List ℕ) (n m : ℕ) → eqb n m ≡ true → seen ns n ≡ seen ns m
+pub one-seen : (ns : List ℕ) (n m : ℕ) → eqb n m ≡ true → seen ns n ≡ seen ns m
 one-seen ns n m e = ap (seen ns) (eqb-true n m e)
 
 -- one name more to leave out

@@ -13,10 +13,10 @@ use Rattle.supertype_nested.proofs.Found.{If, if-told}
 
 -- ---- two names
 
-turned-true : (n m : ℕ) → eqb n m ≡ true → eqb m n ≡ true
+pub turned-true : (n m : ℕ) → eqb n m ≡ true → eqb m n ≡ true
 turned-true n m e = eq-eqb m n (sym (eqb-true n m e))
 
-turned-false : (n m : ℕ) → eqb n m ≡ false → eqb m n ≡ false
+pub turned-false : (n m : ℕ) → eqb n m ≡ false → eqb m n ≡ false
 turned-false n m e = ne-eqb m n (λ h. eqb-false n m e (sym h))
 
 -- ---- the map's fields of one name

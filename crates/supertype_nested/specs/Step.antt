@@ -1,0 +1,60 @@
+-- What the two tries of the source come to together: of a nested type with a leaf, and of two Structs with as many
+-- fields. Assumes nothing: these are definitions.
+use mathlib.Core.Bool.{Bool, true, false, cond, _&&_, _||_}
+use mathlib.Core.List.{List, [], _∷_}
+use mathlib.Core.Option.{Option, none, some}
+use Prim.Native.Nat.{ℕ}
+use lib.Dec.{eqb}
+use Rattle.flat.specs.Kind as kind
+use Rattle.flat.specs.Tree.{Fields, empty, field}
+use Rattle.dtype.specs.Predicate.{isUnknownInt, isPrimitiveNumeric, isUnknown}
+use Rattle.supertype_arms.specs.Supertype.{Arm, arm, is, every, choose, TreePlan, leftType, roots}
+use Rattle.supertype_arms.specs.Supertype.{implodeLeft, implodeRight, firstField, eachField}
+use Rattle.supertype_arms.specs.declared.plan.Plan.the-variants.{No, Kind}
+use Rattle.supertype_nested.specs.Nested.{Zip, namesDiffer, noJoin, joined}
+use Rattle.supertype_nested.specs.Union.{seen}
+
+-- ---- a nested type with a leaf
+
+-- the arms that are left for a nested type with a leaf on its right, in the source's order
+unfoldable pub besideArms : Bool → List Arm
+besideArms implode =
+    arm every (is kind.String) (roots (Kind kind.String))
+    ∷ arm every (is kind.Null) leftType
+    ∷ arm (λ dt. is kind.List dt && implode) every implodeLeft
+    ∷ arm (is kind.Struct) (λ dt. is kind.UnknownFloat dt || isUnknownInt dt) firstField
+    ∷ arm (is kind.Struct) isPrimitiveNumeric eachField
+    ∷ arm every isUnknown (roots (Kind kind.UnknownAny))
+    ∷ []
+
+-- the plan of a nested type's kind n with the leaf's kind k on its right
+unfoldable pub planBeside : Bool → ℕ → ℕ → TreePlan
+planBeside implode n k = choose (besideArms implode) n k
+
+-- and with a leaf on its left, whichever that is
+unfoldable pub planBefore : Bool → ℕ → TreePlan
+planBefore implode n = cond (is kind.List n && implode) implodeRight (roots No)
+
+-- ---- two Structs with as many fields
+
+-- the fields of one order, else those of the other
+abbrev pub orElseFields : Option Fields → Option Fields → Option Fields
+orElseFields (some fs) other = some fs
+orElseFields none other = other
+
+-- what the loop over the fields of both comes to in both tries, by the unions of either order
+abbrev pub zipEither : Option Fields → Option Fields → Zip → Option Fields
+zipEither p q namesDiffer = orElseFields p q
+zipEither p q noJoin = none
+zipEither p q (joined fs) = some fs
+
+-- the names of both are the same at each place
+unfoldable pub inPlace : Fields → Fields → Bool
+inPlace empty gs = true
+inPlace (field name t fs) empty = true
+inPlace (field name t fs) (field other u gs) = eqb name other && inPlace fs gs
+
+-- a field has a name that is among ns, or among the names of the fields before it
+unfoldable pub repeats : List ℕ → Fields → Bool
+repeats ns empty = false
+repeats ns (field name t fs) = seen ns name || repeats (name ∷ ns) fs
