@@ -15,6 +15,7 @@ use Rattle.flat.specs.Tree.{headKind}
 use Rattle.supertype_arms.specs.Supertype.{Arm, is, arms, unknownArms, choose}
 use Rattle.supertype_arms.specs.Supertype.{TreePlan, leftType, rightType, roots}
 use Rattle.supertype_arms.specs.Supertype.{lists, arrays, implodeLeft, implodeRight, firstField, structs, eachField}
+use Rattle.supertype_arms.specs.declared.plan.Plan.{Plan}
 use Rattle.supertype_arms.specs.declared.plan.Plan.the-variants.{No, DynNumber}
 use Rattle.supertype_arms.proofs.Areas.{alike}
 use Rattle.supertype_arms.proofs.Recursive.{quiet}
@@ -84,18 +85,18 @@ pub at-plan : (o : SuperTypeOptions) (a b : ℕ) → treePlan o a b ≡ plan-at 
 unfolding treePlan plan-at
 at-plan o a b = right-first (arms (o .allowImplodeList) (o .allowPrimitiveToString)) a b
 
--- a plan that makes no inner call with two roots
-abbrev pub rootsQuiet : TreePlan → Bool
-rootsQuiet leftType = true
-rootsQuiet rightType = true
-rootsQuiet (roots p) = quiet p
-rootsQuiet lists = true
-rootsQuiet arrays = true
-rootsQuiet implodeLeft = true
-rootsQuiet implodeRight = true
-rootsQuiet firstField = true
-rootsQuiet structs = true
-rootsQuiet eachField = true
+-- a test of a plan that answers by the two roots, which holds of all others
+abbrev pub onRoots : (Plan → Bool) → TreePlan → Bool
+onRoots ok leftType = true
+onRoots ok rightType = true
+onRoots ok (roots p) = ok p
+onRoots ok lists = true
+onRoots ok arrays = true
+onRoots ok implodeLeft = true
+onRoots ok implodeRight = true
+onRoots ok firstField = true
+onRoots ok structs = true
+onRoots ok eachField = true
 
 off : (p q : Bool) → q ≡ false → T (not (p && q))
 off true q e = rw e tt
@@ -106,7 +107,7 @@ or-true true = tt
 or-true false = tt
 
 -- only a dyn int on the right is joined by an inner call, with a number or Boolean
-pub no-call : (o : SuperTypeOptions) (a b : ℕ) → isUnknownInt b ≡ false → T (rootsQuiet (treePlan o a b))
+pub no-call : (o : SuperTypeOptions) (a b : ℕ) → isUnknownInt b ≡ false → T (onRoots quiet (treePlan o a b))
 unfolding treePlan arms unknownArms
 no-call o a b e = go (o .allowImplodeList) (o .allowPrimitiveToString)
   where
@@ -117,24 +118,15 @@ no-call o a b e = go (o .allowImplodeList) (o .allowPrimitiveToString)
     hold =
         all-true facts (off (isPrimitiveNumeric a) (isUnknownInt b) e, (off (is Boolean a) (isUnknownInt b) e, tt))
 
-    go : (i s : Bool) → T (rootsQuiet (choose (arms i s) a b))
-    go i true = chosen rootsQuiet a b (arms i true) tt hold
-    go i false = chosen rootsQuiet a b (arms i false) tt hold
+    go : (i s : Bool) → T (onRoots quiet (choose (arms i s) a b))
+    go i true = chosen (onRoots quiet) a b (arms i true) tt hold
+    go i false = chosen (onRoots quiet) a b (arms i false) tt hold
 
 -- where the left type is a dyn int, an inner call that would be made is discarded
-abbrev pub discards : ℕ → TreePlan → Bool
-discards a leftType = true
-discards a rightType = true
-discards a (roots p) = (quiet p || alike p DynNumber) || not (isUnknownInt a)
-discards a lists = true
-discards a arrays = true
-discards a implodeLeft = true
-discards a implodeRight = true
-discards a firstField = true
-discards a structs = true
-discards a eachField = true
+abbrev pub discards : ℕ → Plan → Bool
+discards a p = (quiet p || alike p DynNumber) || not (isUnknownInt a)
 
-pub dyn-discards : (o : SuperTypeOptions) (a b : ℕ) → T (discards a (treePlan o a b))
+pub dyn-discards : (o : SuperTypeOptions) (a b : ℕ) → T (onRoots (discards a) (treePlan o a b))
 unfolding treePlan arms unknownArms isUnknownInt among
 dyn-discards o a b = go (o .allowImplodeList) (o .allowPrimitiveToString)
   where
@@ -148,6 +140,6 @@ dyn-discards o a b = go (o .allowImplodeList) (o .allowPrimitiveToString)
     hold : T (every-of facts)
     hold = all-true facts (no-boolean (is Boolean a) refl, tt)
 
-    go : (i s : Bool) → T (discards a (choose (arms i s) a b))
-    go i true = chosen (discards a) a b (arms i true) tt hold
-    go i false = chosen (discards a) a b (arms i false) tt hold
+    go : (i s : Bool) → T (onRoots (discards a) (choose (arms i s) a b))
+    go i true = chosen (onRoots (discards a)) a b (arms i true) tt hold
+    go i false = chosen (onRoots (discards a)) a b (arms i false) tt hold

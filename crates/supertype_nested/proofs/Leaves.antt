@@ -111,7 +111,7 @@ module _ (c : TreeCall) (o : SuperTypeOptions) where
       ∙ tree-pick (equalNode k a m b) (Some (node k a))
       (run (atRoots c) (planOf (o .allowPrimitiveToString) k m) (node k a) (node m b))
 
-  leaf-with : (k a m b : ℕ) → k ≤ kind.UnknownIntNeg → m ≤ kind.UnknownIntNeg
+  pub leaf-with : (k a m b : ℕ) → k ≤ kind.UnknownIntNeg → m ≤ kind.UnknownIntNeg
       → supertypeTreeWith c o (leaf k a) (leaf m b)
       ≡ treeOf (supertypeWith (atRoots c) (o .allowPrimitiveToString) (node k a) (node m b))
   unfolding supertypeTreeWith supertypeWith

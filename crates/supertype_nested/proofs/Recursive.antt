@@ -31,13 +31,13 @@ use Rattle.supertype_nested.specs.Nested.{treePlan, innerTree, orElseTre
 use Rattle.supertype_nested.specs.Nested.{supertypeTree}
 use Rattle.supertype_nested.proofs.Found.{if-weaken, bind-same, cond-same}
 use Rattle.supertype_nested.proofs.Smaller.{Below, AtMost, Smaller, from-sizes, enter-sizes, inner-size, in-smaller}
-use Rattle.supertype_nested.proofs.Chosen.{or-false, rootsQuiet, no-call, discards, dyn-discards}
+use Rattle.supertype_nested.proofs.Chosen.{or-false, onRoots, no-call, discards, dyn-discards}
 
 -- ---- two roots that are no dyn ints
 
 -- their plan makes no inner call: nothing is nested in them
 module _ (c d : TreeCall) (k a m b : ℕ) where
-  leaves-run : (p : TreePlan) → T (rootsQuiet p) → runTree c p (leaf k a) (leaf m b) ≡ runTree d p (leaf k a) (leaf m b)
+  leaves-run : (p : TreePlan) → T (onRoots quiet p) → runTree c p (leaf k a) (leaf m b) ≡ runTree d p (leaf k a) (leaf m b)
   unfolding runTree innerDtype
   leaves-run leftType t = refl
   leaves-run rightType t = refl
@@ -160,7 +160,7 @@ module _ (c d : TreeCall) (s : Smaller c) (n : ℕ) (g : Agree n c d) where
   with-leaf-same (struct fs) (struct gs) h = refl
 
   -- the inner call of a dyn arm meets two leaves that are no dyn ints, or is discarded
-  roots-same : (l r : Node) (p : Plan) → T ((quiet p || alike p DynNumber) || not (isUnknownInt (l .kind)))
+  roots-same : (l r : Node) (p : Plan) → T (discards (l .kind) p)
       → run (atRoots c) p l r ≡ run (atRoots d) p l r
   roots-same l r p t = go (isUnknownInt (l .kind)) refl t
     where
@@ -171,7 +171,7 @@ module _ (c d : TreeCall) (s : Smaller c) (n : ℕ) (g : Agree n c d) where
           runs-same (atRoots c) (atRoots d) l r
           (λ k h. ap rootFound (g .leaves (l .kind) (l .arg) k 0 e (below-known k h))) p
 
-  run-same : (l r : DataType) → size l + size r ≤ n → (p : TreePlan) → T (discards (headKind l) p)
+  run-same : (l r : DataType) → size l + size r ≤ n → (p : TreePlan) → T (onRoots (discards (headKind l)) p)
       → runTree c p l r ≡ runTree d p l r
   unfolding runTree
   run-same l r h leftType t = refl

@@ -9,7 +9,7 @@ use lib.Dec.{T, leb}
 use borrow.Author.Tests.{eqb-true, le-leb, lt-ltb, leb-true}
 use Rattle.flat.specs.Kind as kind
 use Rattle.flat.specs.Argument.{argumentFits, argumentRule, leafFits}
-use Rattle.flat.specs.Tree.{DataType, leaf, list, array, struct, Fields, empty, field, count, size, sizes, depth}
+use Rattle.flat.specs.Tree.{DataType, leaf, list, array, struct, Fields, empty, field, count, size, sizes}
 use Rattle.flat.specs.Tree.{headKind, headArg}
 use Rattle.flat.specs.Reading.{Ruled, RuledFields}
 use Rattle.flat.proofs.Rules.{and-left, and-right}
@@ -20,8 +20,7 @@ use Rattle.dtype.specs.Predicate.{isFloat, isUnknownInt, isSignedInteger, isUns
 use Rattle.supertype_answer.specs.Join.{Node, Supertype, Some, Nothing, rootNode, typeOf}
 use Rattle.supertype_arms.specs.Node.{zone, fits}
 use Rattle.supertype_arms.specs.Supertype.{is, arms, unknownArms, choose, run}
-use Rattle.supertype_arms.specs.Supertype.{TreePlan, leftType, rightType, roots}
-use Rattle.supertype_arms.specs.Supertype.{lists, arrays, implodeLeft, implodeRight, firstField, structs, eachField}
+use Rattle.supertype_arms.specs.Supertype.{TreePlan}
 use Rattle.supertype_arms.specs.declared.plan.Plan.{Plan}
 use Rattle.supertype_arms.specs.declared.plan.Plan.the-variants.{No, Left, Right, Kind, Decimals, DecimalInteger}
 use Rattle.supertype_arms.specs.declared.plan.Plan.the-variants.{DatetimeDuration, Datetimes, Durations}
@@ -31,7 +30,7 @@ use Rattle.supertype_nested.specs.Nested.{SuperTypeOptions, treeOf, root
 use Rattle.supertype_nested.specs.Nested.{supertypeTree}
 use Rattle.supertype_nested.specs.Laws.{Each, Eachs, LeavesFit, AnswersValid}
 use Rattle.supertype_nested.proofs.Found.{If, if-told}
-use Rattle.supertype_nested.proofs.Chosen.{every-of, all-true, or-false, chosen}
+use Rattle.supertype_nested.proofs.Chosen.{every-of, all-true, or-false, chosen, onRoots}
 use Rattle.supertype_nested.proofs.Keeps.{RootsKeep, tree-keeps}
 use Rattle.supertype_nested.proofs.Fits.{Fitting, Suits, zone-below, run-fits}
 
@@ -52,18 +51,6 @@ suits a b DynNumber = isPrimitiveNumeric a
 suits a b DynBoolean = is kind.Boolean a
 suits a b DynDecimal = is kind.Decimal a
 
-abbrev suitsTree : ℕ → ℕ → TreePlan → Bool
-suitsTree a b leftType = true
-suitsTree a b rightType = true
-suitsTree a b (roots p) = suits a b p
-suitsTree a b lists = true
-suitsTree a b arrays = true
-suitsTree a b implodeLeft = true
-suitsTree a b implodeRight = true
-suitsTree a b firstField = true
-suitsTree a b structs = true
-suitsTree a b eachField = true
-
 -- an arm that asks for what its plan needs, and for more
 asks : (p q : Bool) → T (p || not (p && q))
 asks true q = tt
@@ -83,7 +70,7 @@ asks-second true q = tt
 asks-second false true = tt
 asks-second false false = tt
 
-arms-suit : (o : SuperTypeOptions) (a b : ℕ) → T (suitsTree a b (treePlan o a b))
+arms-suit : (o : SuperTypeOptions) (a b : ℕ) → T (onRoots (suits a b) (treePlan o a b))
 unfolding treePlan arms unknownArms argumentFits argumentRule
 arms-suit o a b = go (o .allowImplodeList) (o .allowPrimitiveToString)
   where
@@ -136,9 +123,9 @@ arms-suit o a b = go (o .allowImplodeList) (o .allowPrimitiveToString)
           ),
         )
 
-    go : (i s : Bool) → T (suitsTree a b (choose (arms i s) a b))
-    go i true = chosen (suitsTree a b) a b (arms i true) tt hold
-    go i false = chosen (suitsTree a b) a b (arms i false) tt hold
+    go : (i s : Bool) → T (onRoots (suits a b) (choose (arms i s) a b))
+    go i true = chosen (onRoots (suits a b)) a b (arms i true) tt hold
+    go i false = chosen (onRoots (suits a b)) a b (arms i false) tt hold
 
 -- ---- the roots of two trees
 
@@ -233,7 +220,7 @@ roots-keep call s o l r h g p e =
     (λ n m a b. as-root (call (typeOf n) (typeOf m)) (s (typeOf n) (typeOf m) (of-node n a) (of-node m b)))
     (rootNode l) (rootNode r) p
     (roots-suit l r h g p
-    (subst (λ (q : TreePlan). T (suitsTree (headKind l) (headKind r) q)) e (arms-suit o (headKind l) (headKind r)))))
+    (subst (λ (q : TreePlan). T (onRoots (suits (headKind l) (headKind r)) q)) e (arms-suit o (headKind l) (headKind r)))))
 
 pub leaves-fit : (o i : SuperTypeOptions) (l r t : DataType) → LeavesFit l → LeavesFit r → supertypeTree o i l r ≡ some t
     → LeavesFit t
