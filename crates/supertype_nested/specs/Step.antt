@@ -31,7 +31,7 @@ besideArms implode =
 unfoldable pub planBeside : Bool → ℕ → ℕ → TreePlan
 planBeside implode n k = choose (besideArms implode) n k
 
--- and with a leaf on its left, whichever that is
+-- the plan of a nested type's kind n with a leaf on its left, whichever leaf that is
 unfoldable pub planBefore : Bool → ℕ → TreePlan
 planBefore implode n = cond (is kind.List n && implode) implodeRight (roots No)
 
