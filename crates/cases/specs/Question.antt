@@ -96,13 +96,13 @@ pub data Answered : Type 0 where
   numbers : List ℕ → Answered
 
 -- the type, where there is one
-abbrev pub typeIn : Reading → Option DataType
-typeIn (refused e) = none
-typeIn (type t) = some t
+abbrev pub typeRead : Reading → Option DataType
+typeRead (refused e) = none
+typeRead (type t) = some t
 
 -- what a call comes to that writes a type
 abbrev pub writtenResult : Reading → Answered
-writtenResult r = result (writtenNumber (writtenOf r)) (typeIn r)
+writtenResult r = result (writtenNumber (writtenOf r)) (typeRead r)
 
 -- what `merge-all` answers, from these codes
 abbrev pub mergeAll : Limits → List ℕ → List DataType → List (ℕ × ℕ) × ℕ

@@ -1,5 +1,5 @@
 // `get_supertype_with_options` of supertype.rs, on flat types.
-mod node;
+pub mod node;
 
 ghost use mathlib.Core.Path.{_≡_};
 ghost use mathlib.Core.Bool.{false};

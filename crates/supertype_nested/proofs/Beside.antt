@@ -19,10 +19,10 @@ use Rattle.supertype_arms.specs.Supertype.{lists, arrays, implodeLeft, implodeR
 use Rattle.supertype_arms.specs.declared.plan.Plan.the-variants.{No, Kind}
 use Rattle.supertype_nested.specs.Nested.{SuperTypeOptions, TreeCall, runTree, treePlan, innerTree, orElseTree}
 use Rattle.supertype_nested.specs.Nested.{supertypeTreeWith}
-use Rattle.supertype_nested.specs.Step.{besideArms, planBeside, planBefore}
+use Rattle.supertype_nested.specs.Step.{Fair, besideArms, planBeside, planBefore}
 use Rattle.supertype_nested.proofs.Found.{no-some}
 use Rattle.supertype_nested.proofs.Chosen.{takes, plan-at, at-plan}
-use Rattle.supertype_nested.proofs.Steps.{Fair, settle}
+use Rattle.supertype_nested.proofs.Steps.{settle}
 
 -- a type that is nested
 pub data IsNested : DataType → Type 0 where

@@ -3,7 +3,7 @@ use mathlib.Core.Path.{_≡_, refl, sym, ap, ap₂, _∙_}
 use mathlib.Core.Bool.{Bool, true, false, not, cond, _&&_, _||_}
 use mathlib.Core.List.{List, [], _∷_}
 use mathlib.Core.Option.{some}
-use Prim.Native.Nat.{ℕ, suc, _≤_, _<_}
+use Prim.Native.Nat.{ℕ, _≤_, _<_}
 use native.Mathlib.Omega.{arith}
 use lib.Dec.{T}
 use borrow.Author.Tests.{ne-eqb}
@@ -127,21 +127,27 @@ unfolding headKind headArg
 root-back (Some n) = refl
 root-back Nothing = refl
 
--- with any flags they answer as those of the non-nested call do
-agree : (n : ℕ) (i : SuperTypeOptions) (l r : Node) → l .kind < kind.Decimal → r .kind < kind.Decimal
-    → knownSupertype l r ≡ atRoots (getSupertypeIn (suc n) i) l r
-unfolding getSupertypeIn
-agree n i l r h g =
-    known-with (atRoots (getSupertypeIn n i)) (i .allowPrimitiveToString) l r h g
-    ∙ root-back (supertypeWith (atRoots (getSupertypeIn n i)) (i .allowPrimitiveToString) l r)
-    ∙ sym (ap rootFound (leaf-with (getSupertypeIn n i) i (l .kind) (l .arg) (r .kind) (r .arg) (omega arith) (omega arith)))
+-- with any flags, and over any calls of its own, one answers as those of the non-nested call do
+pub known-roots : (c : TreeCall) (i : SuperTypeOptions) (l r : Node) → l .kind < kind.Decimal → r .kind < kind.Decimal
+    → knownSupertype l r ≡ atRoots (supertypeTreeWith c i) l r
+known-roots c i l r h g =
+    known-with (atRoots c) (i .allowPrimitiveToString) l r h g
+    ∙ root-back (supertypeWith (atRoots c) (i .allowPrimitiveToString) l r)
+    ∙ sym (ap rootFound (leaf-with c i (l .kind) (l .arg) (r .kind) (r .arg) (omega arith) (omega arith)))
+
+-- so over calls that do so, the answer is that of the non-nested call
+pub leaf-known : (c : TreeCall) (o : SuperTypeOptions)
+    → ((l r : Node) → l .kind < kind.Decimal → r .kind < kind.Decimal → knownSupertype l r ≡ atRoots c l r)
+    → (k a m b : ℕ) → k ≤ kind.UnknownIntNeg → m ≤ kind.UnknownIntNeg
+    → supertypeTreeWith c o (leaf k a) (leaf m b)
+    ≡ treeOf (supertype (o .allowImplodeList) (o .allowPrimitiveToString) (node k a) (node m b))
+leaf-known c o known k a m b h g =
+    leaf-with c o k a m b h g
+    ∙ ap treeOf
+    (sym (over-call (atRoots c) known (o .allowImplodeList) (o .allowPrimitiveToString) (node k a) (node m b) h g))
 
 pub leaf-law : (o i : SuperTypeOptions) (k a m b : ℕ) → k ≤ kind.UnknownIntNeg → m ≤ kind.UnknownIntNeg
     → supertypeTree o i (leaf k a) (leaf m b)
     ≡ treeOf (supertype (o .allowImplodeList) (o .allowPrimitiveToString) (node k a) (node m b))
-unfolding supertypeTree size
-leaf-law o i k a m b h g =
-    leaf-with (getSupertypeIn 2 i) o k a m b h g
-    ∙ ap treeOf
-    (sym (over-call (atRoots (getSupertypeIn 2 i)) (agree 1 i) (o .allowImplodeList) (o .allowPrimitiveToString)
-    (node k a) (node m b) h g))
+unfolding supertypeTree size getSupertypeIn
+leaf-law o i k a m b h g = leaf-known (getSupertypeIn 2 i) o (known-roots (getSupertypeIn 1 i) i) k a m b h g

@@ -11,7 +11,8 @@ use Rattle.flat.specs.Reader.{mapO, bindO}
 use Rattle.flat.proofs.Truths.{never}
 use Rattle.supertype_nested.specs.Nested.{TreeCall, insert, fromIter, joinHeld, enter, enterAll, unionFields}
 use Rattle.supertype_nested.specs.Nested.{unionStructFields}
-use Rattle.supertype_nested.specs.Union.{lastOr, joinNamed, seen, withNames, oldNames, newNames, byNames}
+use Rattle.supertype_nested.specs.Union.{lastOr, joinNamed, seen, withNames, outside, oldNames, newNames}
+use Rattle.supertype_nested.specs.Union.{byNames}
 
 -- ---- the longest
 
@@ -108,11 +109,6 @@ module _ (c : TreeCall) where
 
 -- ---- the names not seen yet
 
--- the fields of names not seen
-unfoldable pub outside : List ℕ → Fields → Fields
-outside ns empty = empty
-outside ns (field name t fs) = cond (seen ns name) (outside ns fs) (field name t (outside ns fs))
-
 -- a name that is one with another is seen where that is
 pub one-seen : (ns : List ℕ) (n m : ℕ) → eqb n m ≡ true → seen ns n ≡ seen ns m
 one-seen ns n m e = ap (seen ns) (eqb-true n m e)
@@ -135,7 +131,7 @@ out-cons n ns (field m t fs) = go (eqb n m) (seen ns m) refl (out-cons n ns fs)
     go false false q h = ap (field m t) h ∙ sym (ap kept q)
 
 -- a name that is seen already
-out-same : (n : ℕ) (ns : List ℕ) (fs : Fields) → seen ns n ≡ true → outside (n ∷ ns) fs ≡ outside ns fs
+pub out-same : (n : ℕ) (ns : List ℕ) (fs : Fields) → seen ns n ≡ true → outside (n ∷ ns) fs ≡ outside ns fs
 unfolding outside seen
 out-same n ns empty e = refl
 out-same n ns (field m t fs) e = go (eqb n m) (seen ns m) refl refl (out-same n ns fs e)
@@ -254,7 +250,7 @@ module _ (c : TreeCall) where
           (ap₂ loop (sym (out-cons n ns fs)) (sym (out-cons n ns gs)) ∙ h)
           ∙ push-in n joins (oldNames c gs (n ∷ ns) fs) new
 
-  outside-none : (fs : Fields) → outside [] fs ≡ fs
+  pub outside-none : (fs : Fields) → outside [] fs ≡ fs
   unfolding outside seen
   outside-none empty = refl
   outside-none (field n t fs) = ap (field n t) (outside-none fs)

@@ -14,11 +14,11 @@ use Rattle.dtype.specs.Equality.{equal}
 use Rattle.supertype_nested.specs.Nested.{SuperTypeOptions, TreeCall, fromIter, joinHeld, enterAll, unionFields}
 use Rattle.supertype_nested.specs.Nested.{Zip, namesDiffer, noJoin, joined, zipOn, zipFields, supertypeTreeWith}
 use Rattle.supertype_nested.specs.Union.{lastOr, joinNamed, seen}
-use Rattle.supertype_nested.specs.Step.{orElseFields, zipEither, inPlace, repeats}
+use Rattle.supertype_nested.specs.Step.{Fair, orElseFields, zipEither, inPlace, repeats}
 use Rattle.supertype_nested.proofs.Found.{no-some, map-none}
 use Rattle.supertype_nested.proofs.Union.{turned-false}
 use Rattle.supertype_nested.proofs.Names.{without, nothing-after, old-name, new-name, one-seen}
-use Rattle.supertype_nested.proofs.Steps.{Fair, same-count}
+use Rattle.supertype_nested.proofs.Steps.{same-count}
 
 -- ---- names
 
@@ -32,7 +32,7 @@ abbrev pub Distinct : Fields → Type 0
 Distinct empty = Unit {0}
 Distinct (field name t fs) = Missing name fs × Distinct fs
 
-none-of : (a b : Bool) → (a || b) ≡ false → (a ≡ false) × (b ≡ false)
+pub none-of : (a b : Bool) → (a || b) ≡ false → (a ≡ false) × (b ≡ false)
 none-of true b e = never (sym e)
 none-of false b e = (refl, e)
 

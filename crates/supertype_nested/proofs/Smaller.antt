@@ -59,7 +59,7 @@ inner-size (struct fs) = tt
 
 module _ (call : TreeCall) (s : Smaller call) where
   -- ---- the union of fields
-  held-sizes : (t u : DataType) → If (Below (size t + size u)) (joinHeld call t u)
+  pub held-sizes : (t u : DataType) → If (Below (size t + size u)) (joinHeld call t u)
   held-sizes t u =
       if-cond (Below (size t + size u)) (equal t u) (some u) (call t u) (let p = size-pos t in omega arith) (s t u)
 

@@ -13,28 +13,21 @@ use Rattle.flat.specs.Reader.{mapO}
 use Rattle.flat.proofs.Truths.{never, both-true}
 use Rattle.dtype.specs.Equality.{equal, equalFields}
 use Rattle.dtype_inner.specs.Inner.{innerDtype}
+use Rattle.supertype_answer.specs.Join.{typeOf}
 use Rattle.supertype_arms.specs.Supertype.{TreePlan, leftType, lists, arrays, structs}
 use Rattle.supertype_nested.specs.Nested.{SuperTypeOptions, TreeCall, unionFields}
 use Rattle.supertype_nested.specs.Nested.{Zip, namesDiffer, noJoin, joined, zipOn, zipFields, zipEnd}
-use Rattle.supertype_nested.specs.Nested.{superTypeStructs, ofWidths, runTree, treePlan, innerTree, orElseTree}
+use Rattle.supertype_nested.specs.Nested.{superTypeStructs, ofWidths, rootFound, runTree, treePlan, innerTree, orElseTree}
 use Rattle.supertype_nested.specs.Nested.{supertypeTreeWith, supertypeTree}
-use Rattle.supertype_nested.specs.Step.{orElseFields, zipEither}
+use Rattle.supertype_nested.specs.Step.{Fair, orElseFields, zipEither}
 use Rattle.supertype_nested.proofs.Found.{no-some, map-none}
 use Rattle.supertype_nested.proofs.Chosen.{plan-at, at-plan}
 use Rattle.supertype_nested.proofs.Recursive.{recursive, none-symmetric}
 use Rattle.supertype_nested.proofs.Union.{turned-true, turned-false}
 use Rattle.supertype_nested.proofs.Names.{left-longest, right-longest}
+use Rattle.supertype_nested.proofs.Leaves.{known-roots}
 
 -- ---- the inner calls
-
--- what the laws ask of them, which holds of the function itself
-pub record Fair (c : TreeCall) : Type 0 where
-  -- of equal types it is the left one
-  pub same : (l r : DataType) → equal l r ≡ true → c l r ≡ some l
-  -- None does not depend on the order
-  pub turn : (l r : DataType) → c l r ≡ none → c r l ≡ none
-  -- of a type with Null on the right it is the type
-  pub null : (t : DataType) (a : ℕ) → c t (leaf kind.Null a) ≡ some t
 
 -- equal types: the left one
 with-equal : (c : TreeCall) (o : SuperTypeOptions) (l r : DataType) → equal l r ≡ true
@@ -73,6 +66,8 @@ tree-fair o i =
       same = λ l r e. recursive o i l r ∙ with-equal (supertypeTree i i) o l r e;
       turn = none-symmetric o i;
       null = λ t a. recursive o i t (leaf kind.Null a) ∙ with-null (supertypeTree i i) o t a;
+      known = λ l r h g.
+          known-roots (supertypeTree i i) o l r h g ∙ sym (ap rootFound (recursive o i (typeOf l) (typeOf r)));
     }
 
 -- ---- one try

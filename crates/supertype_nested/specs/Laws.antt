@@ -30,6 +30,10 @@ unfoldable mutual
 abbrev pub LeavesFit : DataType → Type 0
 LeavesFit = Each (λ k a. leafFits k a ≡ true) (λ name. argumentFits Field name ≡ true)
 
+-- the same of fields
+abbrev pub FieldsFit : Fields → Type 0
+FieldsFit = Eachs (λ k a. leafFits k a ≡ true) (λ name. argumentFits Field name ≡ true)
+
 -- an answer to valid types that is within the limits is a valid type
 abbrev pub AnswersValid : (nodes deep : ℕ) → Type 0
 AnswersValid nodes deep =

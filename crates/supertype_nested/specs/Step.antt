@@ -1,18 +1,34 @@
 -- What the two tries of the source come to together: of a nested type with a leaf, and of two Structs with as many
--- fields. Assumes nothing: these are definitions.
+-- fields, over inner calls of which little is known. Assumes nothing: these are definitions.
+use mathlib.Core.Path.{_≡_}
 use mathlib.Core.Bool.{Bool, true, false, cond, _&&_, _||_}
 use mathlib.Core.List.{List, [], _∷_}
 use mathlib.Core.Option.{Option, none, some}
-use Prim.Native.Nat.{ℕ}
+use Prim.Native.Nat.{ℕ, _<_}
 use lib.Dec.{eqb}
 use Rattle.flat.specs.Kind as kind
-use Rattle.flat.specs.Tree.{Fields, empty, field}
+use Rattle.flat.specs.Tree.{DataType, leaf, Fields, empty, field}
 use Rattle.dtype.specs.Predicate.{isUnknownInt, isPrimitiveNumeric, isUnknown}
-use Rattle.supertype_arms.specs.Supertype.{Arm, arm, is, every, choose, TreePlan, leftType, roots}
+use Rattle.dtype.specs.Equality.{equal}
+use Rattle.supertype_answer.specs.Join.{Node}
+use Rattle.supertype_arms.specs.Supertype.{Arm, arm, is, every, choose, TreePlan, leftType, roots, knownSupertype}
 use Rattle.supertype_arms.specs.Supertype.{implodeLeft, implodeRight, firstField, eachField}
 use Rattle.supertype_arms.specs.declared.plan.Plan.the-variants.{No, Kind}
-use Rattle.supertype_nested.specs.Nested.{Zip, namesDiffer, noJoin, joined}
+use Rattle.supertype_nested.specs.Nested.{TreeCall, atRoots, Zip, namesDiffer, noJoin, joined}
 use Rattle.supertype_nested.specs.Union.{seen}
+
+-- ---- the inner calls
+
+-- What the laws ask of them, which holds of the function itself.
+pub record Fair (c : TreeCall) : Type 0 where
+  -- of equal types it is the left one
+  pub same : (l r : DataType) → equal l r ≡ true → c l r ≡ some l
+  -- None does not depend on the order
+  pub turn : (l r : DataType) → c l r ≡ none → c r l ≡ none
+  -- of a type with Null on the right it is the type
+  pub null : (t : DataType) (a : ℕ) → c t (leaf kind.Null a) ≡ some t
+  -- of two types as the arms of dyn ints hand on it is the supertype of the non-nested call
+  pub known : (l r : Node) → l .kind < kind.Decimal → r .kind < kind.Decimal → knownSupertype l r ≡ atRoots c l r
 
 -- ---- a nested type with a leaf
 

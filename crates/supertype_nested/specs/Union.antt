@@ -35,6 +35,11 @@ unfoldable pub withNames : Fields → List ℕ → List ℕ
 withNames empty ns = ns
 withNames (field name t fs) ns = withNames fs (name ∷ ns)
 
+-- the fields of other names than these
+unfoldable pub outside : List ℕ → Fields → Fields
+outside ns empty = empty
+outside ns (field name t fs) = cond (seen ns name) (outside ns fs) (field name t (outside ns fs))
+
 -- of the longest: each name at its first place with its last type, joined with the shortest's fields of that name; ns
 -- are the names before
 unfoldable pub oldNames : TreeCall → Fields → List ℕ → Fields → Option Fields

@@ -6,13 +6,15 @@ mod drawn;
 mod fields;
 mod leaves;
 #[cfg(test)]
+mod limits;
+#[cfg(test)]
 mod sorts;
 mod tree;
 mod worked;
 
 use std::collections::HashSet;
 use std::fmt;
-use tree::Tree;
+use tree::{dtype, tree, written, Tree};
 use trials::random::Random;
 
 /// A pair of flags: allow_implode_list and allow_primitive_to_string.
@@ -68,8 +70,8 @@ struct Row {
 impl Asked {
     /// The oracle's answer with these inner flags.
     fn answer_with(&self, inner: Flags) -> Option<Tree> {
-        let answer = self.left.dtype().get_supertype_with_inner_options(&self.right.dtype(), self.outer, inner);
-        answer.map(|dtype| Tree::from(&dtype))
+        let answer = dtype(&self.left).get_supertype_with_inner_options(&dtype(&self.right), self.outer, inner);
+        answer.map(|dtype| tree(&dtype))
     }
 }
 
@@ -83,9 +85,10 @@ impl From<Asked> for Row {
 impl fmt::Display for Row {
     fn fmt(&self, f: &mut fmt::Formatter<'_>) -> fmt::Result {
         let Asked { outer, inner, left, right } = &self.asked;
+        let [left, right] = [left, right].map(written);
         write!(f, "asked {} {} {} {} ({left}) ({right}) ", outer[0], outer[1], inner[0], inner[1])?;
         match &self.answer {
-            Some(dtype) => write!(f, "(some ({dtype}))"),
+            Some(dtype) => write!(f, "(some ({}))", written(dtype)),
             None => f.write_str("none"),
         }
     }

@@ -1,8 +1,9 @@
 //! Document 01's rules for flat types, stored sheets, inner types and the season record, in plain Rust, the last with
-//! what change request One makes of it; and change request Two's Decimals beside integer types.
+//! what change request One makes of it; change request Two's Decimals beside integer types; and change request Three's
+//! nested arms of supertype.rs.
 //!
-//! Written from the documents alone, with limits, codes and refusals of its own: the tests compare the proved code with
-//! it, and the benchmark times the two side by side.
+//! Written from the documents and the source alone, with limits, codes and refusals of its own: the tests compare the
+//! proved code with it, and the benchmark times the two side by side.
 
 #![forbid(unsafe_code)]
 #![deny(missing_docs)]
@@ -11,7 +12,9 @@ pub mod by_kinds;
 pub mod channels;
 pub mod decimals;
 pub mod inner;
+pub mod nested;
 pub mod sheet;
+pub mod tree;
 
 use sheet::{Argument, StoredArgument};
 

@@ -1,6 +1,6 @@
 //! The recorded rows are of every sort.
 
-use super::tree::{Field, Tree};
+use super::tree::{dtype, Field, Tree};
 use super::{rows, Flags, Row, COUNT, DEFAULT};
 use lomzegash::kind::*;
 use std::collections::{HashMap, HashSet};
@@ -133,7 +133,7 @@ fn is_union_in_vain(row: &Row) -> bool {
 /// They differ in dyn ints.
 fn is_equal_to_the_crate(row: &Row) -> bool {
     let [left, right] = sides(row);
-    left != right && left.dtype().equal(&right.dtype())
+    left != right && dtype(left).equal(&dtype(right))
 }
 
 /// The kinds of all leaves of a type.

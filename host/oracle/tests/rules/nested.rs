@@ -4,16 +4,16 @@ use crate::types::*;
 use oracle::Type;
 
 /// A pair of flags: allow_implode_list and allow_primitive_to_string.
-type Flags = [bool; 2];
+pub type Flags = [bool; 2];
 
 const OFF: Flags = [false, false];
 const STRINGS: Flags = [false, true];
 const IMPLODE: Flags = [true, false];
 const BOTH: Flags = [true, true];
-const EVERY: [Flags; 4] = [OFF, STRINGS, IMPLODE, BOTH];
+pub const EVERY: [Flags; 4] = [OFF, STRINGS, IMPLODE, BOTH];
 
 /// The crate's default.
-const DEFAULT: Flags = STRINGS;
+pub const DEFAULT: Flags = STRINGS;
 
 fn supertype(left: &Nodes, right: &Nodes, outer: Flags, inner: Flags) -> Option<Nodes> {
     of(left).get_supertype_with_inner_options(&of(right), outer, inner).map(|dtype| nodes(&dtype))
@@ -50,7 +50,7 @@ fn leaves() -> Vec<Nodes> {
 }
 
 /// The leaves, each in every sort of nested type, and some more of these in one another.
-fn types() -> Vec<Nodes> {
+pub fn types() -> Vec<Nodes> {
     let mut types = leaves();
     for (at, leaf) in leaves().into_iter().enumerate() {
         let other = &leaves()[(at * 7 + 3) % leaves().len()];

@@ -1,0 +1,5 @@
+-- What the roots of two types decide of their supertype: proofs.
+mod Roots
+mod Nest
+mod Leaf
+mod Sides

@@ -1,0 +1,3 @@
+-- What the roots of two types decide of their supertype.
+pub mod Decided
+pub mod Sides
