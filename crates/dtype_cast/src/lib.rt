@@ -1,4 +1,6 @@
 // Which casts make sense: `can_cast_to` of dtype.rs.
+#![tactic(auto)]
+
 mod roots;
 pub mod scan;
 mod walk;

@@ -1,4 +1,6 @@
 // Flat types: a type is a tree in preorder in two parallel arrays, kinds and arguments.
+#![tactic(auto)]
+
 pub mod argument;
 pub mod error;
 pub mod kind;

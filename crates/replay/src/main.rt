@@ -5,6 +5,8 @@
 // line that can't be read, is told by the number of its line. Some recorded answers were damaged on purpose, of each
 // entry point some: crates/replay/stdout names them all (`--expect 7500` wrote it), so that a replay that agrees with
 // everything fails.
+#![tactic(auto)]
+
 mod answer;
 mod calls;
 mod output;

@@ -1,4 +1,6 @@
 // What joining does to the whole numbers of two columns.
+#![tactic(auto)]
+
 ghost use Rattle.std.specs.Prelude.{◌≡◌, false};
 ghost use Rattle.flat.specs.Reading.{reading};
 ghost use Rattle.supertype_answer.specs.Join.{Some, node};

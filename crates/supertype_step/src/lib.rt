@@ -1,5 +1,7 @@
 // What the roots of two types decide of their supertype: the arms of `get_supertype_with_options`, its two tries in one
 // step.
+#![tactic(auto)]
+
 ghost use Rattle.std.specs.Prelude.{◌≡◌, true, ◌&&◌, ◌≤◌, ◌<◌};
 ghost use Rattle.flat.specs.Kind.{Null, String, List, Struct};
 ghost use Rattle.supertype_answer.specs.Join.{node};
