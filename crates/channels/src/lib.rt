@@ -24,7 +24,7 @@ pub struct ChannelTypes {
 }
 
 // What a merge answers: the code that its channel now holds, or the refusal.
-#[derive(Drop)]
+#[derive(Clone, Copy)]
 pub enum Merged {
     Held(u8),
     Refused(Error),

@@ -16,7 +16,7 @@ use flat::{Checked, Flat};
 use walk::Cast;
 
 // What `can_cast_to` answers: whether the cast makes sense, or that the source is not sure.
-#[derive(Drop)]
+#[derive(Clone, Copy)]
 pub enum Verdict {
     No,
     Yes,

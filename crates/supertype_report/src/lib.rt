@@ -17,7 +17,7 @@ use supertype_numbers::integer::includes;
 
 // Whether the supertype of two integer types keeps every whole number of both; where it doesn't, whether an integer
 // type would.
-#[derive(Drop)]
+#[derive(Clone, Copy)]
 pub enum Report {
     Kept,
     Avoidable,
