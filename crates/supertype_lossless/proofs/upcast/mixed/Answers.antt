@@ -5,21 +5,17 @@ use borrow.Author.Rules.{rules}
 use Rattle.flat.specs.Kind.{UInt8, UInt128, Int8}
 use Rattle.supertype_lossless.specs.declared.upcast.Upcast.TheVariants.{To, Nothing}
 use Rattle.supertype_lossless.proofs.Upcasts.{right, rule}
-use Rattle.supertype_lossless.proofs.upcast.mixed.Statement.{statement}
-use Rattle.supertype_lossless.proofs.upcast.mixed.Tie as tie
+use Rattle.supertype_lossless.proofs.upcast.mixed.Goals as goal
 
-returns : tie.Need-returns
-returns c = (
+pub returns-then-u-eq-UINT128 : goal.returns-then-u-eq-UINT128
+returns-then-u-eq-UINT128 c = (
   rule (λ u s. Nothing) UInt128 1 Int8 5 (unfold right in tt) _ _ (omega arith),
   rule (λ s u. Nothing) Int8 5 UInt128 1 (unfold right in tt) _ _ (omega arith),
 )
 
-returns-2 : tie.Need-returns-2
-returns-2 c =
+pub returns : goal.returns
+returns c =
     rw c.wider.ensures (
       rule (λ u s. To (max (u + 6) s)) UInt8 4 Int8 5 (unfold right in tt) _ _ (omega arith),
       rule (λ s u. To (max (u + 6) s)) Int8 5 UInt8 4 (unfold right in tt) _ _ (omega arith),
     )
-
-pub mixed-spec : {M : Type 1} → statement M
-mixed-spec = tie.close (tie.spec returns (λ c. search rules) (λ c κs. search rules) returns-2)
