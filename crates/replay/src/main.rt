@@ -101,7 +101,7 @@ fn replay(rt: &impl Print, text: &[u8]) -> io::Result<()> {
     println!(rt; "the last line is missing")
 }
 
-// The bytes of the input, as many of them as are read.
+// The bytes of the input, of which no more than BYTES are read.
 fn read_text<R: Read + Drop>(alloc: Global, input: R) -> io::Result<Vec<u8>>
     ensures { IfOk result (λ text. IfSome (R.remaining input) (λ bytes. text.items ≡ take BYTES bytes)) }
 {
@@ -111,6 +111,6 @@ fn read_text<R: Read + Drop>(alloc: Global, input: R) -> io::Result<Vec<u8>>
 }
 
 fn main(rt: HostRuntime) -> io::Result<()> {
-    let text = read_text(rt.alloc(), rt.reader())?;
+    let text = read_text(rt.alloc(), rt.stdin())?;
     replay(&rt, &text)
 }
