@@ -3,11 +3,7 @@
 use lib.Dec.{lit≤}
 use Rattle.supertype_nested.proofs.Valid.{few_fields}
 use Rattle.supertype_nested.proofs.Hold.{nested_laws}
-use Rattle.supertype_nested.proofs.limits.answers_valid.Statement.{statement}
-use Rattle.supertype_nested.proofs.limits.answers_valid.Tie as tie
+use Rattle.supertype_nested.proofs.limits.answers_valid.Goals as goal
 
-returns : tie.Need-returns
+pub returns : goal.returns
 returns c = nested_laws.valid _ _ (few_fields (lit≤ tt))
-
-pub answers-valid-spec : {M : Type 1} → statement M
-answers-valid-spec = tie.close (tie.spec returns)
