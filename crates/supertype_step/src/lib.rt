@@ -16,7 +16,7 @@ use supertype::node::node_supertype;
 use supertype_answer::Common;
 
 // `SuperTypeOptions`: the flags of a call.
-#[derive(Drop)]
+#[derive(Clone, Copy)]
 pub struct Options {
     pub allow_implode_list: bool,
     pub allow_primitive_to_string: bool,
