@@ -26,8 +26,8 @@ pub fn zip_leaves(
     oa: &mut [u64],
     to: usize,
 ) -> usize
-    requires run_in { RunIn count at lk.now la.now × RunIn count by rk.now ra.now }
-    requires fact { let fs = run_in count at lk.now la.now in
+    requires stand { RunIn count at lk.now la.now × RunIn count by rk.now ra.now }
+    requires room { let fs = run_in count at lk.now la.now in
         let gs = run_in count by rk.now ra.now in
         RunRoom to fs gs ok.old oa.old }
     ensures { let ks = lk.now in

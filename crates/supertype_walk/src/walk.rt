@@ -39,8 +39,8 @@ pub fn join(
     oa: &mut [u64],
     to: usize,
 ) -> Joined
-    requires type_in { TypeIn at lk.now la.now × TypeIn by rk.now ra.now }
-    requires fact { let t = type_in at lk.now la.now in
+    requires stand { TypeIn at lk.now la.now × TypeIn by rk.now ra.now }
+    requires room { let t = type_in at lk.now la.now in
         let u = type_in by rk.now ra.now in
         JoinRoom to t u ok.old oa.old }
     ensures { let t = type_in at lk.now la.now in
@@ -105,8 +105,8 @@ fn under(
     oa: &mut [u64],
     to: usize,
 ) -> Joined
-    requires type_in { TypeIn at lk.now la.now × TypeIn by rk.now ra.now }
-    requires fact { let t = type_in at lk.now la.now in
+    requires stand { TypeIn at lk.now la.now × TypeIn by rk.now ra.now }
+    requires room { let t = type_in at lk.now la.now in
         let u = type_in by rk.now ra.now in
         JoinRoom (to + 1) t u ok.old oa.old }
     ensures { let t = type_in at lk.now la.now in
@@ -138,8 +138,8 @@ fn each(
     oa: &mut [u64],
     to: usize,
 ) -> Filled
-    requires run_in { RunIn count at nk.now na.now × TypeIn by lk.now la.now }
-    requires fact { let fs = run_in count at nk.now na.now in
+    requires stand { RunIn count at nk.now na.now × TypeIn by lk.now la.now }
+    requires room { let fs = run_in count at nk.now na.now in
         let t = type_in by lk.now la.now in
         EachRoom to fs t ok.old oa.old }
     ensures { let fs = run_in count at nk.now na.now in
@@ -195,8 +195,8 @@ fn zip(
     oa: &mut [u64],
     to: usize,
 ) -> Filled
-    requires run_in { RunIn count at lk.now la.now × RunIn count by rk.now ra.now }
-    requires fact { let fs = run_in count at lk.now la.now in
+    requires stand { RunIn count at lk.now la.now × RunIn count by rk.now ra.now }
+    requires room { let fs = run_in count at lk.now la.now in
         let gs = run_in count by rk.now ra.now in
         RunRoom to fs gs ok.old oa.old }
     ensures { let fs = run_in count at lk.now la.now in
@@ -247,8 +247,8 @@ fn fields(
     oa: &mut [u64],
     to: usize,
 ) -> Filled
-    requires run_in { RunIn m at lk.now la.now × RunIn n by rk.now ra.now }
-    requires fact { let fs = run_in m at lk.now la.now in
+    requires stand { RunIn m at lk.now la.now × RunIn n by rk.now ra.now }
+    requires room { let fs = run_in m at lk.now la.now in
         let gs = run_in n by rk.now ra.now in
         RunRoom to fs gs ok.old oa.old }
     ensures { let fs = run_in m at lk.now la.now in
@@ -283,11 +283,11 @@ fn merge(
     oa: &mut [u64],
     to: usize,
 ) -> Filled
-    requires run_in { RunIn m at lk.now la.now × RunIn n by rk.now ra.now }
-    requires fact { let fs = run_in m at lk.now la.now in
+    requires stand { RunIn m at lk.now la.now × RunIn n by rk.now ra.now }
+    requires unlike { let fs = run_in m at lk.now la.now in
         let gs = run_in n by rk.now ra.now in
         (m ≡ n → in_place fs gs ≡ false) }
-    requires fact_2 { let fs = run_in m at lk.now la.now in
+    requires room { let fs = run_in m at lk.now la.now in
         let gs = run_in n by rk.now ra.now in
         RunRoom to fs gs ok.old oa.old }
     ensures { let fs = run_in m at lk.now la.now in
@@ -345,11 +345,11 @@ fn union(
     oa: &mut [u64],
     to: usize,
 ) -> Filled
-    requires run_in { RunIn m at lk.now la.now × RunIn n by sk.now sa.now }
-    requires fact { let fs = run_in m at lk.now la.now in
+    requires stand { RunIn m at lk.now la.now × RunIn n by sk.now sa.now }
+    requires tables { let fs = run_in m at lk.now la.now in
         let gs = run_in n by sk.now sa.now in
         TableOf lo fs lk.now la.now lt.now × TableOf so gs sk.now sa.now st.now }
-    requires fact_2 { let fs = run_in m at lk.now la.now in
+    requires room { let fs = run_in m at lk.now la.now in
         let gs = run_in n by sk.now sa.now in
         RunRoom to fs gs ok.old oa.old }
     ensures { let fs = run_in m at lk.now la.now in
@@ -405,11 +405,11 @@ fn old(
     oa: &mut [u64],
     to: usize,
 ) -> Filled
-    requires run_in { RunIn m at lk.now la.now × RunIn n by sk.now sa.now }
-    requires fact { let fs = run_in m at lk.now la.now in
+    requires stand { RunIn m at lk.now la.now × RunIn n by sk.now sa.now }
+    requires tables { let fs = run_in m at lk.now la.now in
         let gs = run_in n by sk.now sa.now in
         (lo ≡ true → repeats [] fs ≡ false) × TableOf so gs sk.now sa.now st.now }
-    requires fact_2 { let fs = run_in m at lk.now la.now in
+    requires room { let fs = run_in m at lk.now la.now in
         let gs = run_in n by sk.now sa.now in
         RunRoom to fs gs ok.old oa.old }
     ensures { let fs = run_in m at lk.now la.now in
@@ -467,11 +467,11 @@ fn new(
     oa: &mut [u64],
     to: usize,
 ) -> Filled
-    requires run_in { RunIn m at lk.now la.now × RunIn n by sk.now sa.now }
-    requires fact { let fs = run_in m at lk.now la.now in
+    requires stand { RunIn m at lk.now la.now × RunIn n by sk.now sa.now }
+    requires tables { let fs = run_in m at lk.now la.now in
         let gs = run_in n by sk.now sa.now in
         TableOf lo fs lk.now la.now lt.now × (so ≡ true → repeats [] gs ≡ false) }
-    requires fact_2 { let fs = run_in m at lk.now la.now in
+    requires room { let fs = run_in m at lk.now la.now in
         let gs = run_in n by sk.now sa.now in
         NewRoom to fs gs ok.old oa.old }
     ensures { let fs = run_in m at lk.now la.now in
@@ -528,10 +528,10 @@ fn named(
     oa: &mut [u64],
     to: usize,
 ) -> Joined
-    requires type_in { TypeIn at hk.now ha.now × RunIn count by sk.now sa.now }
-    requires fact { let gs = run_in count by sk.now sa.now in
+    requires stand { TypeIn at hk.now ha.now × RunIn count by sk.now sa.now }
+    requires tables { let gs = run_in count by sk.now sa.now in
         TableOf so gs sk.now sa.now st.now }
-    requires fact_2 { let t = type_in at hk.now ha.now in
+    requires room { let t = type_in at hk.now ha.now in
         let gs = run_in count by sk.now sa.now in
         NameRoom (to + 1) name t gs ok.old oa.old }
     ensures { let t = type_in at hk.now ha.now in
@@ -581,10 +581,10 @@ fn all(
     oa: &mut [u64],
     to: usize,
 ) -> Joined
-    requires type_in { TypeIn at hk.now ha.now × RunIn count by sk.now sa.now }
-    requires fact { let gs = run_in count by sk.now sa.now in
+    requires stand { TypeIn at hk.now ha.now × RunIn count by sk.now sa.now }
+    requires tables { let gs = run_in count by sk.now sa.now in
         TableOf so gs sk.now sa.now st.now }
-    requires fact_2 { let t = type_in at hk.now ha.now in
+    requires room { let t = type_in at hk.now ha.now in
         let gs = run_in count by sk.now sa.now in
         NameRoom to name t gs ok.old oa.old }
     ensures { let t = type_in at hk.now ha.now in
@@ -620,8 +620,8 @@ fn again(
     oa: &mut [u64],
     to: usize,
 ) -> Joined
-    requires run_in { RunIn count by sk.now sa.now × HeldAt to n ok.old oa.old }
-    requires fact { let t = held_at to n ok.old oa.old in
+    requires stand { RunIn count by sk.now sa.now × HeldAt to n ok.old oa.old }
+    requires room { let t = held_at to n ok.old oa.old in
         let gs = run_in count by sk.now sa.now in
         NameRoom to name t gs ok.old oa.old }
     ensures { let t = held_at to n ok.old oa.old in
@@ -655,8 +655,8 @@ fn next(
     oa: &mut [u64],
     to: usize,
 ) -> Joined
-    requires type_in { TypeIn at sk.now sa.now × HeldAt to n ok.old oa.old }
-    requires fact { let t = type_in at sk.now sa.now in
+    requires stand { TypeIn at sk.now sa.now × HeldAt to n ok.old oa.old }
+    requires room { let t = type_in at sk.now sa.now in
         let u = held_at to n ok.old oa.old in
         JoinRoom to t u ok.old oa.old }
     ensures { let t = type_in at sk.now sa.now in
@@ -689,8 +689,8 @@ fn held(
     oa: &mut [u64],
     to: usize,
 ) -> Joined
-    requires type_in { TypeIn at sk.now sa.now × TypeIn by hk.now ha.now }
-    requires fact { let t = type_in at sk.now sa.now in
+    requires stand { TypeIn at sk.now sa.now × TypeIn by hk.now ha.now }
+    requires room { let t = type_in at sk.now sa.now in
         let u = type_in by hk.now ha.now in
         JoinRoom to t u ok.old oa.old }
     ensures { let t = type_in at sk.now sa.now in
