@@ -1,0 +1,7 @@
+-- `dtype_cast::checked_cast` meets its contract: the scan, then the walk. Assumes nothing.
+use Rattle.dtype_cast.proofs.Entry.{scanned}
+use Rattle.dtype_cast.proofs.checked_cast.Goals as goal
+
+pub returns-then-all_yes : goal.returns-then-all_yes
+returns-then-all_yes c =
+    scanned c.requires.valid c.requires.valid_2 c.all_yes.ensures c.if-all_yes.true
