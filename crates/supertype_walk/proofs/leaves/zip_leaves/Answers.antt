@@ -8,7 +8,7 @@ use borrow.Author.Rules.{rules}
 use Rattle.supertype_walk.proofs.leaves.zip_leaves.Goals as goal
 
 pub loop-n-init : goal.loop-n-init
-loop-n-init c = let s = c.requires in lead_start s.0.0 s.0.1 s.1
+loop-n-init c = let s = c.requires in lead_start s.stand.0 s.stand.1 s.room
 
 pub overflow_mul-l : goal.overflow_mul-l
 overflow_mul-l c = search rules

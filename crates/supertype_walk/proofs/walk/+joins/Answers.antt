@@ -1,0 +1,1411 @@
+use Prim.Native.Nat.{ℕ}
+use Prim.Native.Nat.{◌≤◌}
+use Rattle.flat.proofs.Truths.{Fact, fact}
+use Rattle.flat.proofs.Truths.{never}
+use Rattle.supertype_nested.proofs.Steps.{tree_fair}
+use Rattle.supertype_nested.specs.Nested.{join_held}
+use Rattle.supertype_nested.specs.Nested.{union_fields}
+use Rattle.supertype_place.proofs.Places.{field_in}
+use Rattle.supertype_place.proofs.Places.{run_count}
+use Rattle.supertype_place.specs.Place.{run_in}
+use Rattle.supertype_place.specs.Place.{type_in, run_in}
+use Rattle.supertype_place.specs.Place.{type_in}
+use Rattle.supertype_step.specs.Decided.{options_of}
+use Rattle.supertype_walk.proofs.Closes.{closed_fits}
+use Rattle.supertype_walk.proofs.Each.{Eaching, each_start, each_field_lem, each_room, each_less, each_nothing}
+use Rattle.supertype_walk.proofs.Each.{each_nodes, each_next, each_end}
+use Rattle.supertype_walk.proofs.Fed.{past_less, past_room, past_on, past_run, name_whole, none_left}
+use Rattle.supertype_walk.proofs.Fed.{past_less, past_room, past_on, past_run, none_left, stays}
+use Rattle.supertype_walk.proofs.Fed.{place_at, place_missing, found_room, found_less, fed_none, fed_held}
+use Rattle.supertype_walk.proofs.Fed.{stays, copied_type, copied_in, copied_nodes, copied_room}
+use Rattle.supertype_walk.proofs.Joined.{arm_of, decided, has_parts, joins_nothing, joins_node, joins_left, joins_right, joins_under}
+use Rattle.supertype_walk.proofs.Joined.{joins_first_left, joins_first_right, joins_each_left, joins_each_right, joins_fields}
+use Rattle.supertype_walk.proofs.Joined.{joins_within_left, joins_within_right, joins_string_list, joins_string}
+use Rattle.supertype_walk.proofs.Joined.{node_room, left_room, less_room, under_room, each_room, fields_room, place_kinds, place_args}
+use Rattle.supertype_walk.proofs.Merged.{merged, merged_end, merged_names}
+use Rattle.supertype_walk.proofs.Merged.{old_nothing, old_apart, new_room, old_end, new_nothing, new_apart}
+use Rattle.supertype_walk.proofs.News.{Newing, new_start, new_others, new_once, new_unseen, new_skip, new_named_room, new_less}
+use Rattle.supertype_walk.proofs.News.{new_nothing, new_nodes, new_count, new_next, new_end}
+use Rattle.supertype_walk.proofs.Olds.{Olding, old_start, old_others, old_once, old_last, old_was_seen, old_skip, old_room}
+use Rattle.supertype_walk.proofs.Olds.{old_less, old_nothing, old_nodes, old_count, old_next, old_end}
+use Rattle.supertype_walk.proofs.Orders.{fills_is, was_nothing, was_apart, was_joined, told_is, fills_front}
+use Rattle.supertype_walk.proofs.Orders.{fills_is, zip_in_place, run_as, sizes_as, room_as, places_as, zip_as}
+use Rattle.supertype_walk.proofs.Orders.{never_apart, run_as, sizes_as, room_as, zip_as}
+use Rattle.supertype_walk.proofs.Orders.{over, run_kept, run_turned, right_longer, left_longer, zip_decides}
+use Rattle.supertype_walk.proofs.Orders.{zip_ends, one_order, all_distinct, union_decides, union_turned}
+use Rattle.supertype_walk.proofs.Parts.{root_fits, wraps_kind, list_kind, inner_is, inner_nodes_lem, inner_in, struct_is}
+use Rattle.supertype_walk.proofs.Parts.{struct_nodes, struct_in, first_in, first_is, first_nodes}
+use Rattle.supertype_walk.proofs.Told.{joins_is, held_same, held_other, right_room}
+use Rattle.supertype_walk.proofs.Told.{joins_is, held_same}
+use Rattle.supertype_walk.proofs.Told.{room_kept, right_room}
+use Rattle.supertype_walk.proofs.Told.{under_some, under_none, join_nodes, room_kept}
+use Rattle.supertype_walk.proofs.Told.{under_some, under_none, name_nodes, name_room}
+use Rattle.supertype_walk.proofs.Zips.{zip_left, zip_right, zip_room, zip_less, zip_apart, zip_nothing, zip_nodes}
+use Rattle.supertype_walk.proofs.Zips.{zip_next, zip_end_lem, zip_again, zip_on_lem}
+use Rattle.supertype_walk.specs.Going.{Zipping}
+use Rattle.supertype_walk.specs.Room.{get_supertype}
+use Rattle.supertype_walk.specs.Room.{held_at}
+use borrow.Author.Rules.{rules}
+use mathlib.Core.Path.{refl, ◌∙◌}
+use mathlib.Core.Path.{sym, ap, ◌∙◌}
+use mathlib.Core.Path.{sym, ◌∙◌}
+use mathlib.Core.Path.{◌∙◌}
+use mathlib.Core.Path.{◌≡◌, refl, sym, ◌∙◌}
+use native.Mathlib.Omega.{arith}
+use Rattle.supertype_walk.proofs.walk.+joins.Goals as goal
+
+-- The answers of `again`. Assumes nothing.
+pub again-first_of-requires : goal.again-first_of-requires
+again-first_of-requires t c =
+    c.requires.stand.0
+
+pub again-next-requires : goal.again-next-requires
+again-next-requires t c =
+    let i = options_of c.args.i in
+    let u = held_at c.args.to c.args.n c.args.ok.now c.args.oa.now in
+    let fs = run_in c.args.count c.args.by c.args.sk.now c.args.sa.now in
+    let f = place_at c.args.name fs c.args.sk.now c.args.sa.now _ c.in-At.f c.in-At.left c.first_of.ensures
+    c.in-At.is in (
+      omega (arith, c.decreases, found_less i u c.requires.stand.1.fits c.args.name fs c.args.sk.now c.args.sa.now c.in-At.f c.in-At.left f, c.requires.stand.1.nodes),
+      ((f.type, c.requires.stand.1), found_room i u c.requires.stand.1.fits c.args.name fs c.args.sk.now c.args.sa.now c.in-At.f c.in-At.left f c.requires.room),
+    )
+
+pub again-after-past-requires : goal.again-after-past-requires
+again-after-past-requires t c =
+    let fs = run_in c.args.count c.args.by c.args.sk.now c.args.sa.now in
+    let f = place_at c.args.name fs c.args.sk.now c.args.sa.now _ c.in-At.f c.in-At.left c.first_of.ensures c.in-At.is in
+    f.type
+
+pub again-again-requires : goal.again-again-requires
+again-again-requires t c =
+    let i = options_of c.args.i in
+    let u = held_at c.args.to c.args.n c.args.ok.now c.args.oa.now in
+    let fs = run_in c.args.count c.args.by c.args.sk.now c.args.sa.now in
+    let f = place_at c.args.name fs c.args.sk.now c.args.sa.now _ c.in-At.f c.in-At.left c.first_of.ensures c.in-At.is in (
+      omega (
+        arith,
+        c.decreases,
+        past_less i u c.requires.stand.1.fits c.args.name fs c.args.sk.now c.args.sa.now c.in-At.f c.in-At.left f c.next.ensures
+            c.requires.room _ c.in-Nodes.is c.next.auto.ok c.next.auto.oa _
+            c.after-past.ensures,
+        c.requires.stand.1.nodes,
+      ),
+      (
+        (
+          past_run i u c.requires.stand.1.fits c.args.name fs c.args.sk.now c.args.sa.now c.in-At.f c.in-At.left f
+              c.next.ensures c.requires.room _ c.in-Nodes.is c.next.auto.ok
+              c.next.auto.oa
+              _ c.after-past.ensures,
+          fed_held i u c.requires.stand.1.fits c.args.name fs c.args.sk.now c.args.sa.now c.in-At.f c.in-At.left f c.next.ensures c.requires.room _
+              c.in-Nodes.is c.next.auto.ok c.next.auto.oa,
+        ),
+        past_room i u
+            c.requires.stand.1.fits c.args.name fs c.args.sk.now c.args.sa.now c.in-At.f c.in-At.left f c.next.ensures c.requires.room _ c.in-Nodes.is
+            c.next.auto.ok c.next.auto.oa _ c.after-past.ensures,
+      ),
+    )
+
+pub again-returns-in-Missing : goal.again-returns-in-Missing
+again-returns-in-Missing t c =
+    let i = options_of c.args.i in
+    let u = held_at c.args.to c.args.n c.args.ok.now c.args.oa.now in
+    let fs = run_in c.args.count c.args.by c.args.sk.now c.args.sa.now in
+    none_left i c.args.name u fs (place_missing c.args.name fs c.args.sk.now c.args.sa.now _ c.first_of.ensures
+    c.in-Missing.is) (stays c.requires.stand.1)
+
+pub again-returns-in-Nothing : goal.again-returns-in-Nothing
+again-returns-in-Nothing t c =
+    let i = options_of c.args.i in
+    let u = held_at c.args.to c.args.n c.args.ok.now c.args.oa.now in
+    let fs = run_in c.args.count c.args.by c.args.sk.now c.args.sa.now in
+    let f = place_at c.args.name fs c.args.sk.now c.args.sa.now _ c.in-At.f c.in-At.left c.first_of.ensures c.in-At.is in
+    fed_none i u c.requires.stand.1.fits c.args.name fs c.args.sk.now c.args.sa.now c.in-At.f c.in-At.left f
+    c.next.ensures c.requires.room c.in-Nothing.is
+
+pub again-returns-in-Nodes : goal.again-returns-in-Nodes
+again-returns-in-Nodes t c =
+    let i = options_of c.args.i in
+    let u = held_at c.args.to c.args.n c.args.ok.now c.args.oa.now in
+    let fs = run_in c.args.count c.args.by c.args.sk.now c.args.sa.now in
+    let f = place_at c.args.name fs c.args.sk.now c.args.sa.now _ c.in-At.f c.in-At.left c.first_of.ensures
+    c.in-At.is in
+    past_on i u c.requires.stand.1.fits c.args.name fs c.args.sk.now c.args.sa.now c.in-At.f c.in-At.left f c.next.ensures c.requires.room _
+    c.in-Nodes.is
+    c.next.auto.ok c.next.auto.oa _
+    c.after-past.ensures
+    c.again.ensures
+
+-- The answers of `all`. Assumes nothing.
+pub all-find-requires : goal.all-find-requires
+all-find-requires t c =
+    (c.requires.stand.1, c.requires.tables)
+
+pub all-whole-requires : goal.all-whole-requires
+all-whole-requires t c =
+    (c.requires.stand.0, name_whole c.requires.room)
+
+pub all-held-requires : goal.all-held-requires
+all-held-requires t c =
+    let i = options_of c.args.i in
+    let u = type_in c.args.at c.args.hk.now c.args.ha.now in
+    let fs = run_in c.args.count c.args.by c.args.sk.now c.args.sa.now in
+    let f =
+    place_at c.args.name fs c.args.sk.now c.args.sa.now _ c.in-At.f c.in-At.left c.find.ensures c.in-At.is in (
+      omega (arith, c.decreases, found_less i u c.requires.stand.0.fits c.args.name fs c.args.sk.now c.args.sa.now c.in-At.f c.in-At.left f),
+      ((f.type, c.requires.stand.0), found_room i u c.requires.stand.0.fits c.args.name fs c.args.sk.now c.args.sa.now c.in-At.f c.in-At.left f c.requires.room),
+    )
+
+pub all-after-past-requires : goal.all-after-past-requires
+all-after-past-requires t c =
+    let fs = run_in c.args.count c.args.by c.args.sk.now c.args.sa.now in
+    let f = place_at c.args.name fs c.args.sk.now c.args.sa.now _ c.in-At.f c.in-At.left c.find.ensures c.in-At.is in
+    f.type
+
+pub all-again-requires : goal.all-again-requires
+all-again-requires t c =
+    let i = options_of c.args.i in
+    let u = type_in c.args.at c.args.hk.now c.args.ha.now in
+    let fs = run_in c.args.count c.args.by c.args.sk.now c.args.sa.now in
+    let f = place_at c.args.name fs c.args.sk.now c.args.sa.now _ c.in-At.f c.in-At.left c.find.ensures c.in-At.is in (
+      omega (
+        arith,
+        c.decreases,
+        past_less i u c.requires.stand.0.fits c.args.name fs c.args.sk.now c.args.sa.now c.in-At.f c.in-At.left f c.held.ensures
+            c.requires.room _ c.in-Nodes.is c.held.auto.ok
+            c.held.auto.oa _
+            c.after-past.ensures,
+      ),
+      (
+        (
+          past_run i u c.requires.stand.0.fits c.args.name fs c.args.sk.now c.args.sa.now c.in-At.f c.in-At.left f c.held.ensures c.requires.room
+              _ c.in-Nodes.is c.held.auto.ok c.held.auto.oa _
+              c.after-past.ensures,
+          fed_held i u c.requires.stand.0.fits c.args.name fs c.args.sk.now c.args.sa.now c.in-At.f c.in-At.left f c.held.ensures c.requires.room _
+              c.in-Nodes.is
+              c.held.auto.ok c.held.auto.oa,
+        ),
+        past_room i u
+            c.requires.stand.0.fits c.args.name fs c.args.sk.now c.args.sa.now c.in-At.f c.in-At.left f c.held.ensures c.requires.room _ c.in-Nodes.is
+            c.held.auto.ok c.held.auto.oa _ c.after-past.ensures,
+      ),
+    )
+
+pub all-returns-in-Missing : goal.all-returns-in-Missing
+all-returns-in-Missing t c =
+    let i = options_of c.args.i in
+    let u = type_in c.args.at c.args.hk.now c.args.ha.now in
+    let fs = run_in c.args.count c.args.by c.args.sk.now c.args.sa.now in
+    none_left i c.args.name u fs (place_missing c.args.name fs c.args.sk.now c.args.sa.now _
+    c.find.ensures
+    c.in-Missing.is)
+    c.whole.ensures
+
+pub all-returns-in-Nothing : goal.all-returns-in-Nothing
+all-returns-in-Nothing t c =
+    let i = options_of c.args.i in
+    let u = type_in c.args.at c.args.hk.now c.args.ha.now in
+    let fs = run_in c.args.count c.args.by c.args.sk.now c.args.sa.now in
+    let f = place_at c.args.name fs c.args.sk.now c.args.sa.now _ c.in-At.f c.in-At.left c.find.ensures c.in-At.is in
+    fed_none i u c.requires.stand.0.fits c.args.name fs c.args.sk.now c.args.sa.now c.in-At.f c.in-At.left f
+    c.held.ensures c.requires.room c.in-Nothing.is
+
+pub all-returns-in-Nodes : goal.all-returns-in-Nodes
+all-returns-in-Nodes t c =
+    let i = options_of c.args.i in
+    let u = type_in c.args.at c.args.hk.now c.args.ha.now in
+    let fs = run_in c.args.count c.args.by c.args.sk.now c.args.sa.now in
+    let f = place_at c.args.name fs c.args.sk.now c.args.sa.now _ c.in-At.f c.in-At.left c.find.ensures
+    c.in-At.is in
+    past_on i u c.requires.stand.0.fits c.args.name fs c.args.sk.now c.args.sa.now c.in-At.f c.in-At.left f c.held.ensures c.requires.room _
+    c.in-Nodes.is
+    c.held.auto.ok c.held.auto.oa _
+    c.after-past.ensures
+    c.again.ensures
+
+-- The answers of `each`. Assumes nothing.
+pub each-loop-left-init : goal.each-loop-left-init
+each-loop-left-init t c =
+    each_start c.requires.stand.0 c.requires.room
+
+pub each-overflow_add-next : goal.each-overflow_add-next
+each-overflow_add-next t c =
+    omega (arith, c.loop-left.invariant.run.kinds, c.loop-left.invariant.run.args, c.loop-left.invariant.run.pos)
+
+pub each-offset_bounds-na-here : goal.each-offset_bounds-na-here
+each-offset_bounds-na-here t c =
+    omega (arith, c.loop-left.invariant.run.kinds, c.loop-left.invariant.run.args, c.loop-left.invariant.run.pos)
+
+pub each-bounds-na-here : goal.each-bounds-na-here
+each-bounds-na-here t c =
+    omega (arith, c.loop-left.invariant.run.kinds, c.loop-left.invariant.run.args, c.loop-left.invariant.run.pos)
+
+pub each-under-requires : goal.each-under-requires
+each-under-requires t c =
+    (
+      omega (arith, c.decreases, each_less c.loop-left.invariant (omega arith)),
+      ((each_field_lem c.loop-left.invariant (omega arith), c.requires.stand.1), each_room c.loop-left.invariant (omega arith)),
+    )
+
+pub each-returns-in-Nothing : goal.each-returns-in-Nothing
+each-returns-in-Nothing t c =
+    each_nothing c.loop-left.invariant
+    (omega arith) c.under.ensures c.in-Nothing.is
+
+pub each-after-here-requires : goal.each-after-here-requires
+each-after-here-requires t c =
+    each_field_lem c.loop-left.invariant (omega arith)
+
+pub each-overflow_add-end : goal.each-overflow_add-end
+each-overflow_add-end t c =
+    omega (
+      arith,
+      each_nodes c.loop-left.invariant (omega arith)
+          c.under.ensures _ c.in-Nodes.is,
+    )
+
+pub each-loop-left-preserved : goal.each-loop-left-preserved
+each-loop-left-preserved t c =
+    each_next c.loop-left.invariant (omega arith) c.under.ensures _ c.in-Nodes.is _ c.after-here.ensures
+    c.under.auto.ok c.under.auto.oa
+
+pub each-overflow_sub-result : goal.each-overflow_sub-result
+each-overflow_sub-result t c = omega (arith, c.loop-left.invariant.going.ends)
+
+pub each-returns : goal.each-returns
+each-returns t c = each_end c.loop-left.invariant (omega arith) _ refl
+
+-- The answers of `fields`. Assumes nothing.
+pub fields-merge-requires : goal.fields-merge-requires
+fields-merge-requires t c =
+    (omega (arith, c.decreases), (c.requires.stand, ((λ d. absurd (c.if-m-n.true d)), c.requires.room)))
+
+pub fields-returns-then-m-n : goal.fields-returns-then-m-n
+fields-returns-then-m-n t c = c.merge.ensures
+
+pub fields-in_place-requires : goal.fields-in_place-requires
+fields-in_place-requires t c =
+    let e = sym c.if-m-n.false in
+    (c.requires.stand.0, run_as _ _ e c.args.by c.args.rk.now c.args.ra.now c.requires.stand.1)
+
+pub fields-zip-requires : goal.fields-zip-requires
+fields-zip-requires t c =
+    let e = sym c.if-m-n.false in (
+      omega (arith, c.decreases, sizes_as _ _ e c.args.by c.args.rk.now c.args.ra.now),
+      (
+        (c.requires.stand.0, run_as _ _ e c.args.by c.args.rk.now c.args.ra.now c.requires.stand.1),
+        room_as _ _ e c.args.by c.args.rk.now c.args.ra.now
+            c.requires.room,
+      ),
+    )
+
+pub fields-returns-then-in_place : goal.fields-returns-then-in_place
+fields-returns-then-in_place t c =
+    let i = options_of c.args.i in
+    let c' = get_supertype i in
+    let fs = run_in c.args.m c.args.at c.args.lk.now c.args.la.now in
+    let gs = run_in c.args.n c.args.by c.args.rk.now c.args.ra.now in
+    let e = sym c.if-m-n.false in
+    let many = run_count c.requires.stand.0 ∙ c.if-m-n.false ∙ sym (run_count c.requires.stand.1) in
+    fills_is (zip_in_place c' fs gs many (tree_fair i i)
+    (sym (places_as _ _ e c.args.by c.args.rk.now c.args.ra.now fs) ∙ sym c.in_place.ensures ∙ c.if-in_place.true))
+    (zip_as _ _ e c.args.by c.args.rk.now c.args.ra.now c' fs c.zip.ensures)
+
+pub fields-merge-requires-2 : goal.fields-merge-requires-2
+fields-merge-requires-2 t c =
+    let fs = run_in c.args.m c.args.at c.args.lk.now c.args.la.now in
+    let e = sym c.if-m-n.false in (
+      omega (arith, c.decreases),
+      (
+        c.requires.stand,
+        (
+          (λ d. sym (places_as _ _ e c.args.by c.args.rk.now c.args.ra.now fs) ∙ sym
+              c.in_place.ensures ∙ c.if-in_place.false),
+          c.requires.room,
+        ),
+      ),
+    )
+
+pub fields-returns : goal.fields-returns
+fields-returns t c = c.merge-2.ensures
+
+-- The answers of `held`. Assumes nothing.
+pub held-same-requires : goal.held-same-requires
+held-same-requires t c =
+    c.requires.stand
+
+pub held-whole-requires : goal.held-whole-requires
+held-whole-requires t c =
+    (c.requires.stand.1, right_room c.requires.room)
+
+pub held-returns-then-same : goal.held-returns-then-same
+held-returns-then-same t c =
+    joins_is (held_same (get_supertype (options_of c.args.i)) _ _
+    (sym c.if-same.true ∙ c.same.ensures)) c.whole.ensures
+
+pub held-join-requires : goal.held-join-requires
+held-join-requires t c =
+    (omega (arith, c.decreases), c.requires)
+
+pub held-returns : goal.held-returns
+held-returns t c =
+    joins_is (held_other (get_supertype (options_of c.args.i)) _ _
+    (sym c.if-same.false ∙ c.same.ensures)) c.join.ensures
+
+-- The answers of `join`. Assumes nothing.
+-- what the code has once the roots have decided
+-- HELPER
+abbrev join-arm : (t : ℕ) → join-lts.After-decide (join-claims t) (join-at t) join.Post → Fact
+join-arm t d =
+    let s = d.before.before.before.before.before.before.before.before.before.before.before in
+    fact (arm_of _ _ s.pre.1.0.0 s.pre.1.0.1 s.pre.1.1 d.decide.ensures)
+
+pub join-offset_bounds-la-at : goal.join-offset_bounds-la-at
+join-offset_bounds-la-at t c =
+    omega (arith, c.requires.stand.0.kinds, c.requires.stand.0.args, c.requires.stand.0.pos, c.requires.stand.0.most)
+
+pub join-bounds-la-at : goal.join-bounds-la-at
+join-bounds-la-at t c =
+    omega (arith, c.requires.stand.0.kinds, c.requires.stand.0.args, c.requires.stand.0.pos, c.requires.stand.0.most)
+
+pub join-offset_bounds-ra-by : goal.join-offset_bounds-ra-by
+join-offset_bounds-ra-by t c =
+    omega (arith, c.requires.stand.1.kinds, c.requires.stand.1.args, c.requires.stand.1.pos, c.requires.stand.1.most)
+
+pub join-bounds-ra-by : goal.join-bounds-ra-by
+join-bounds-ra-by t c =
+    omega (arith, c.requires.stand.1.kinds, c.requires.stand.1.args, c.requires.stand.1.pos, c.requires.stand.1.most)
+
+pub join-overflow_add-l : goal.join-overflow_add-l
+join-overflow_add-l t c =
+    omega (arith, c.requires.stand.0.kinds, c.requires.stand.0.args, c.requires.stand.0.pos, c.requires.stand.0.most)
+
+pub join-overflow_add-r : goal.join-overflow_add-r
+join-overflow_add-r t c =
+    omega (arith, c.requires.stand.1.kinds, c.requires.stand.1.args, c.requires.stand.1.pos, c.requires.stand.1.most)
+
+pub join-bounds-lk-at : goal.join-bounds-lk-at
+join-bounds-lk-at t c =
+    omega (arith, c.requires.stand.0.kinds, c.requires.stand.0.args, c.requires.stand.0.pos, c.requires.stand.0.most)
+
+pub join-bounds-rk-by : goal.join-bounds-rk-by
+join-bounds-rk-by t c =
+    omega (arith, c.requires.stand.1.kinds, c.requires.stand.1.args, c.requires.stand.1.pos, c.requires.stand.1.most)
+
+pub join-decide-requires : goal.join-decide-requires
+join-decide-requires t c =
+    (root_fits c.requires.stand.0, root_fits c.requires.stand.1)
+
+pub join-one-requires : goal.join-one-requires
+join-one-requires t c =
+    let a = (fact (arm_of _ _ c.requires.stand.0 c.requires.stand.1 c.requires.room c.decide.ensures)).proof in
+    node_room a.room
+
+pub join-whole-requires : goal.join-whole-requires
+join-whole-requires t c =
+    let a = (fact (arm_of _ _ c.requires.stand.0 c.requires.stand.1 c.requires.room c.decide.ensures)).proof in
+    (a.left, left_room a.room)
+
+pub join-whole-requires-in-Right : goal.join-whole-requires-in-Right
+join-whole-requires-in-Right t c =
+    let a = (fact (arm_of _ _ c.requires.stand.0 c.requires.stand.1 c.requires.room c.decide.ensures)).proof in
+    (a.right, right_room a.room)
+
+pub join-under-requires : goal.join-under-requires
+join-under-requires t c =
+    let a = (fact (arm_of _ _ c.requires.stand.0 c.requires.stand.1 c.requires.room c.decide.ensures)).proof in
+    let p = has_parts a _ c.in-Under.is in
+    let l = wraps_kind p.1 in
+    let h = wraps_kind p.2 in (
+      omega (
+        arith,
+        c.decreases,
+        inner_nodes_lem a.left l,
+        inner_nodes_lem a.right h,
+      ),
+      (
+        (inner_in a.left l, inner_in a.right h),
+        under_room a.room (omega (arith, inner_nodes_lem a.left l, inner_nodes_lem a.right h)),
+      ),
+    )
+
+pub join-under-requires-in-WithinLeft : goal.join-under-requires-in-WithinLeft
+join-under-requires-in-WithinLeft t c =
+    let a = (fact (arm_of _ _ c.requires.stand.0 c.requires.stand.1 c.requires.room c.decide.ensures)).proof in
+    let p = has_parts a _ c.in-WithinLeft.is in
+    let l = list_kind _ p in (
+      omega (
+        arith,
+        c.decreases,
+        inner_nodes_lem a.left l,
+      ),
+      ((inner_in a.left l, a.right), under_room a.room (omega (arith, inner_nodes_lem a.left l))),
+    )
+
+pub join-under-requires-in-WithinRight : goal.join-under-requires-in-WithinRight
+join-under-requires-in-WithinRight t c =
+    let a = (fact (arm_of _ _ c.requires.stand.0 c.requires.stand.1 c.requires.room c.decide.ensures)).proof in
+    let p = has_parts a _ c.in-WithinRight.is in
+    let l = list_kind _ p in (
+      omega (
+        arith,
+        c.decreases,
+        inner_nodes_lem a.right l,
+      ),
+      ((inner_in a.right l, a.left), under_room a.room (omega (arith, inner_nodes_lem a.right l))),
+    )
+
+pub join-under-requires-in-StringWithin : goal.join-under-requires-in-StringWithin
+join-under-requires-in-StringWithin t c =
+    let a = (fact (arm_of _ _ c.requires.stand.0 c.requires.stand.1 c.requires.room c.decide.ensures)).proof in
+    let p = has_parts a _ c.in-StringWithin.is in
+    let l = list_kind _ p in (
+      omega (
+        arith,
+        c.decreases,
+        inner_nodes_lem a.right l,
+      ),
+      ((inner_in a.right l, a.left), under_room a.room (omega (arith, inner_nodes_lem a.right l))),
+    )
+
+pub join-one-requires-in-Nothing-under : goal.join-one-requires-in-Nothing-under
+join-one-requires-in-Nothing-under t c =
+    let a = (fact (arm_of _ _ c.requires.stand.0 c.requires.stand.1 c.requires.room c.decide.ensures)).proof in
+    node_room (room_kept a.room c.under-in-StringWithin.auto.ok c.under-in-StringWithin.auto.oa)
+
+pub join-overflow_add-l-in-FirstLeft : goal.join-overflow_add-l-in-FirstLeft
+join-overflow_add-l-in-FirstLeft t c =
+    let a = (fact (arm_of _ _ c.requires.stand.0 c.requires.stand.1 c.requires.room c.decide.ensures)).proof in
+    omega (arith, a.left.kinds, a.left.pos, a.left.most)
+
+pub join-join-requires : goal.join-join-requires
+join-join-requires t c =
+    let a = (fact (arm_of _ _ c.requires.stand.0 c.requires.stand.1 c.requires.room c.decide.ensures)).proof in
+    let p = has_parts a _ c.in-FirstLeft.is in (
+      omega (
+        arith,
+        c.decreases,
+        first_nodes a.left p.0 p.1,
+      ),
+      (
+        (first_in a.left p.0 p.1, a.right),
+        less_room a.room (omega (
+          arith,
+          first_nodes a.left p.0 p.1,
+        )),
+      ),
+    )
+
+pub join-overflow_add-r-in-FirstRight : goal.join-overflow_add-r-in-FirstRight
+join-overflow_add-r-in-FirstRight t c =
+    let a = (fact (arm_of _ _ c.requires.stand.0 c.requires.stand.1 c.requires.room c.decide.ensures)).proof in
+    omega (arith, a.right.kinds, a.right.pos, a.right.most)
+
+pub join-join-requires-in-FirstRight : goal.join-join-requires-in-FirstRight
+join-join-requires-in-FirstRight t c =
+    let a = (fact (arm_of _ _ c.requires.stand.0 c.requires.stand.1 c.requires.room c.decide.ensures)).proof in
+    let p = has_parts a _ c.in-FirstRight.is in (
+      omega (
+        arith,
+        c.decreases,
+        first_nodes a.right p.0 p.1,
+      ),
+      (
+        (first_in a.right p.0 p.1, a.left),
+        less_room a.room (omega (
+          arith,
+          first_nodes a.right p.0 p.1,
+        )),
+      ),
+    )
+
+pub join-overflow_add-to : goal.join-overflow_add-to
+join-overflow_add-to t c =
+    let a = (fact (arm_of _ _ c.requires.stand.0 c.requires.stand.1 c.requires.room c.decide.ensures)).proof in
+    omega (arith, a.room.kinds, a.room.most, a.left.pos)
+
+pub join-each-requires : goal.join-each-requires
+join-each-requires t c =
+    let a = (fact (arm_of _ _ c.requires.stand.0 c.requires.stand.1 c.requires.room c.decide.ensures)).proof in
+    let p = has_parts a _ c.in-EachLeft.is in (
+      omega (
+        arith,
+        c.decreases,
+        struct_nodes a.left p.0,
+      ),
+      (
+        (struct_in a.left p.0, a.right),
+        each_room a.room (let z = struct_nodes a.left p.0 in omega arith)
+            p.1,
+      ),
+    )
+
+pub join-closed-requires : goal.join-closed-requires
+join-closed-requires t c =
+    let a = (fact (arm_of _ _ c.requires.stand.0 c.requires.stand.1 c.requires.room c.decide.ensures)
+    ).proof in
+    closed_fits _ c.each.ensures (place_kinds a.room) (place_args a.room) c.each.auto.ok c.each.auto.oa
+
+pub join-overflow_add-to-in-EachRight : goal.join-overflow_add-to-in-EachRight
+join-overflow_add-to-in-EachRight t c =
+    let a = (fact (arm_of _ _ c.requires.stand.0 c.requires.stand.1 c.requires.room c.decide.ensures)).proof in
+    omega (arith, a.room.kinds, a.room.most, a.left.pos)
+
+pub join-each-requires-in-EachRight : goal.join-each-requires-in-EachRight
+join-each-requires-in-EachRight t c =
+    let a = (fact (arm_of _ _ c.requires.stand.0 c.requires.stand.1 c.requires.room c.decide.ensures)).proof in
+    let p = has_parts a _ c.in-EachRight.is in (
+      omega (
+        arith,
+        c.decreases,
+        struct_nodes a.right p.0,
+      ),
+      (
+        (struct_in a.right p.0, a.left),
+        each_room a.room (let z = struct_nodes a.right p.0 in omega arith)
+            p.1,
+      ),
+    )
+
+pub join-closed-requires-in-EachRight : goal.join-closed-requires-in-EachRight
+join-closed-requires-in-EachRight t c =
+    let a = (fact (arm_of _ _ c.requires.stand.0 c.requires.stand.1 c.requires.room c.decide.ensures)
+    ).proof in
+    closed_fits _ c.each-in-EachRight.ensures (place_kinds a.room) (place_args a.room) c.each-in-EachRight.auto.ok c.each-in-EachRight.auto.oa
+
+pub join-overflow_add-to-in-Fields : goal.join-overflow_add-to-in-Fields
+join-overflow_add-to-in-Fields t c =
+    let a = (fact (arm_of _ _ c.requires.stand.0 c.requires.stand.1 c.requires.room c.decide.ensures)).proof in
+    omega (arith, a.room.kinds, a.room.most, a.left.pos)
+
+pub join-fields-requires : goal.join-fields-requires
+join-fields-requires t c =
+    let a = (fact (arm_of _ _ c.requires.stand.0 c.requires.stand.1 c.requires.room c.decide.ensures)).proof in
+    let p = has_parts a _ c.in-Fields.is in (
+      omega (
+        arith,
+        c.decreases,
+        struct_nodes a.left p.0,
+        struct_nodes a.right p.1,
+      ),
+      (
+        (struct_in a.left p.0, struct_in a.right p.1),
+        fields_room a.room (let z = struct_nodes a.left p.0 in let y = struct_nodes a.right p.1 in omega arith),
+      ),
+    )
+
+pub join-closed-requires-in-Fields : goal.join-closed-requires-in-Fields
+join-closed-requires-in-Fields t c =
+    let a = (fact (arm_of _ _ c.requires.stand.0 c.requires.stand.1 c.requires.room c.decide.ensures)
+    ).proof in
+    closed_fits _ c.fields.ensures (place_kinds a.room) (place_args a.room) c.fields.auto.ok c.fields.auto.oa
+
+pub join-returns-in-Nothing : goal.join-returns-in-Nothing
+join-returns-in-Nothing t c =
+    let a = (fact (arm_of _ _ c.requires.stand.0 c.requires.stand.1 c.requires.room c.decide.ensures)).proof in
+    joins_nothing _ _ (decided a _ _ c.in-Nothing.is) _ _ _
+
+pub join-returns-in-Node : goal.join-returns-in-Node
+join-returns-in-Node t c =
+    let a = (fact (arm_of _ _ c.requires.stand.0 c.requires.stand.1 c.requires.room c.decide.ensures)).proof in
+    joins_node _ _ (decided a _ _ c.in-Node.is) c.one.ensures
+
+pub join-returns-in-Left : goal.join-returns-in-Left
+join-returns-in-Left t c =
+    let a = (fact (arm_of _ _ c.requires.stand.0 c.requires.stand.1 c.requires.room c.decide.ensures)).proof in
+    joins_left _ _ (decided a _ _ c.in-Left.is) c.whole.ensures
+
+pub join-returns-in-Right : goal.join-returns-in-Right
+join-returns-in-Right t c =
+    let a = (fact (arm_of _ _ c.requires.stand.0 c.requires.stand.1 c.requires.room c.decide.ensures)).proof in
+    joins_right _ _ (decided a _ _ c.in-Right.is) c.whole-in-Right.ensures
+
+pub join-returns-in-Under : goal.join-returns-in-Under
+join-returns-in-Under t c =
+    let a = (fact (arm_of _ _ c.requires.stand.0 c.requires.stand.1 c.requires.room c.decide.ensures)).proof in
+    let p = has_parts a _ c.in-Under.is in
+    let l = wraps_kind p.1 in
+    let h = wraps_kind p.2 in
+    joins_under _ _ (decided a _ _ c.in-Under.is) _ _ (inner_is a.left l) (inner_is a.right h) c.under.ensures
+
+pub join-returns-in-WithinLeft : goal.join-returns-in-WithinLeft
+join-returns-in-WithinLeft t c =
+    let a = (fact (arm_of _ _ c.requires.stand.0 c.requires.stand.1 c.requires.room c.decide.ensures)).proof in
+    let p = has_parts a _ c.in-WithinLeft.is in
+    let l = list_kind _ p in
+    joins_within_left _ _ (decided a _ _ c.in-WithinLeft.is) _ (inner_is a.left l) c.under-in-WithinLeft.ensures
+
+pub join-returns-in-WithinRight : goal.join-returns-in-WithinRight
+join-returns-in-WithinRight t c =
+    let a = (fact (arm_of _ _ c.requires.stand.0 c.requires.stand.1 c.requires.room c.decide.ensures)).proof in
+    let p = has_parts a _ c.in-WithinRight.is in
+    let l = list_kind _ p in
+    joins_within_right _ _ (decided a _ _ c.in-WithinRight.is) _ (inner_is a.right l) c.under-in-WithinRight.ensures
+
+pub join-returns-in-Nodes : goal.join-returns-in-Nodes
+join-returns-in-Nodes t c =
+    let a = (fact (arm_of _ _ c.requires.stand.0 c.requires.stand.1 c.requires.room c.decide.ensures)).proof in
+    let p = has_parts a _ c.in-StringWithin.is in
+    let l = list_kind _ p in
+    joins_string_list _ _ (decided a _ _ c.in-StringWithin.is) _ (inner_is a.right l) c.under-in-StringWithin.ensures _ c.in-Nodes.is
+
+pub join-returns-in-Nothing-under : goal.join-returns-in-Nothing-under
+join-returns-in-Nothing-under t c =
+    let a = (fact (arm_of _ _ c.requires.stand.0 c.requires.stand.1 c.requires.room c.decide.ensures)).proof in
+    let p = has_parts a _ c.in-StringWithin.is in
+    let l = list_kind _ p in
+    joins_string _ _ (decided a _ _ c.in-StringWithin.is) _ (inner_is a.right l)
+    c.under-in-StringWithin.ensures c.in-Nothing-under.is
+    (omega (arith, place_kinds a.room)) (omega (arith, place_args a.room)) c.one-in-Nothing-under.ensures
+
+pub join-returns-in-FirstLeft : goal.join-returns-in-FirstLeft
+join-returns-in-FirstLeft t c =
+    let a = (fact (arm_of _ _ c.requires.stand.0 c.requires.stand.1 c.requires.room c.decide.ensures)).proof in
+    let p = has_parts a _ c.in-FirstLeft.is in
+    joins_first_left _ _ (decided a _ _ c.in-FirstLeft.is) _ _ _ (first_is a.left p.0 p.1) c.join.ensures
+
+pub join-returns-in-FirstRight : goal.join-returns-in-FirstRight
+join-returns-in-FirstRight t c =
+    let a = (fact (arm_of _ _ c.requires.stand.0 c.requires.stand.1 c.requires.room c.decide.ensures)).proof in
+    let p = has_parts a _ c.in-FirstRight.is in
+    joins_first_right _ _ (decided a _ _ c.in-FirstRight.is) _ _ _ (first_is a.right p.0 p.1) c.join-in-FirstRight.ensures
+
+pub join-returns-in-EachLeft : goal.join-returns-in-EachLeft
+join-returns-in-EachLeft t c =
+    let a = (fact (arm_of _ _ c.requires.stand.0 c.requires.stand.1 c.requires.room c.decide.ensures)).proof in
+    let p = has_parts a _ c.in-EachLeft.is in
+    joins_each_left _ _ c.closed.ensures (place_kinds a.room) (place_args a.room) (decided a _ _ c.in-EachLeft.is) _ (struct_is a.left p.0) c.each.ensures
+
+pub join-returns-in-EachRight : goal.join-returns-in-EachRight
+join-returns-in-EachRight t c =
+    let a = (fact (arm_of _ _ c.requires.stand.0 c.requires.stand.1 c.requires.room c.decide.ensures)).proof in
+    let p = has_parts a _ c.in-EachRight.is in
+    joins_each_right _ _ c.closed-in-EachRight.ensures (place_kinds a.room) (place_args a.room) (decided a _ _ c.in-EachRight.is) _ (struct_is a.right p.0) c.each-in-EachRight.ensures
+
+pub join-returns-in-Fields : goal.join-returns-in-Fields
+join-returns-in-Fields t c =
+    let a = (fact (arm_of _ _ c.requires.stand.0 c.requires.stand.1 c.requires.room c.decide.ensures)).proof in
+    let p = has_parts a _ c.in-Fields.is in
+    joins_fields _ _ c.closed-in-Fields.ensures (place_kinds a.room) (place_args a.room) (decided a _ _ c.in-Fields.is) _ _ (struct_is a.left p.0) (struct_is a.right p.1) c.fields.ensures
+
+-- The answers of `merge`. Assumes nothing.
+pub merge-enter-p-requires : goal.merge-enter-p-requires
+merge-enter-p-requires t c =
+    (c.requires.stand.0, refl)
+
+pub merge-enter-q-requires : goal.merge-enter-q-requires
+merge-enter-q-requires t c =
+    (c.requires.stand.1, refl)
+
+pub merge-union-requires : goal.merge-union-requires
+merge-union-requires t c =
+    (
+      omega (arith, c.decreases),
+      (
+        (c.requires.stand.1, c.requires.stand.0),
+        (
+          (
+            c.enter-q.ensures.1,
+            c.enter-p.ensures.1,
+          ),
+          run_turned
+              c.requires.room refl refl,
+        ),
+      ),
+    )
+
+pub merge-returns-then-m-n : goal.merge-returns-then-m-n
+merge-returns-then-m-n t c =
+    let i = options_of c.args.i in
+    let c' = get_supertype i in
+    let fs = run_in c.args.m c.args.at c.args.lk.now c.args.la.now in
+    let gs = run_in c.args.n c.args.by c.args.rk.now c.args.ra.now in
+    fills_is (right_longer c' fs gs (omega (
+      arith,
+      run_count c.requires.stand.0,
+      run_count c.requires.stand.1,
+      c.if-m-n.true,
+    ))) c.union.ensures
+
+pub merge-union-requires-then-n-m : goal.merge-union-requires-then-n-m
+merge-union-requires-then-n-m t c =
+    (
+      omega (arith, c.decreases),
+      (
+        (c.requires.stand.0, c.requires.stand.1),
+        (
+          (
+            c.enter-p.ensures.1,
+            c.enter-q.ensures.1,
+          ),
+          c.requires.room,
+        ),
+      ),
+    )
+
+pub merge-returns-then-n-m : goal.merge-returns-then-n-m
+merge-returns-then-n-m t c =
+    let i = options_of c.args.i in
+    let c' = get_supertype i in
+    let fs = run_in c.args.m c.args.at c.args.lk.now c.args.la.now in
+    let gs = run_in c.args.n c.args.by c.args.rk.now c.args.ra.now in
+    fills_is (left_longer c' fs gs (omega (
+      arith,
+      run_count c.requires.stand.0,
+      run_count c.requires.stand.1,
+      c.if-n-m.true,
+    ))) c.union-then-n-m.ensures
+
+pub merge-union-requires-then-q : goal.merge-union-requires-then-q
+merge-union-requires-then-q t c =
+    (
+      omega (arith, c.decreases),
+      (
+        (c.requires.stand.0, c.requires.stand.1),
+        (
+          (
+            c.enter-p.ensures.1,
+            c.enter-q.ensures.1,
+          ),
+          c.requires.room,
+        ),
+      ),
+    )
+
+pub merge-returns-then-q : goal.merge-returns-then-q
+merge-returns-then-q t c =
+    let i = options_of c.args.i in
+    let c' = get_supertype i in
+    let fs = run_in c.args.m c.args.at c.args.lk.now c.args.la.now in
+    let gs = run_in c.args.n c.args.by c.args.rk.now c.args.ra.now in
+    let e = let e : c.args.n ≡ c.args.m = omega (
+      arith,
+      c.if-m-n.false,
+      c.if-n-m.false,
+    ) in e in
+    let many = run_count c.requires.stand.0 ∙ sym e ∙ sym (run_count c.requires.stand.1) in
+    fills_is (one_order c' fs gs many (tree_fair i i) (all_distinct fs
+    c.enter-p.ensures.0 c.if-p.true) (all_distinct gs c.enter-q.ensures.0
+    c.if-q.true) (c.requires.unlike (sym e)))
+    c.union-then-q.ensures
+
+pub merge-zip-requires : goal.merge-zip-requires
+merge-zip-requires t c =
+    let e = let e : c.args.n ≡ c.args.m = omega (
+      arith,
+      c.if-m-n.false,
+      c.if-n-m.false,
+    ) in e in (
+      omega (arith, c.decreases, sizes_as _ _ e c.args.by c.args.rk.now c.args.ra.now),
+      (
+        (c.requires.stand.0, run_as _ _ e c.args.by c.args.rk.now c.args.ra.now c.requires.stand.1),
+        room_as _ _ e c.args.by c.args.rk.now c.args.ra.now
+            c.requires.room,
+      ),
+    )
+
+pub merge-union-requires-in-Apart : goal.merge-union-requires-in-Apart
+merge-union-requires-in-Apart t c =
+    (
+      omega (arith, c.decreases),
+      (
+        (c.requires.stand.0, c.requires.stand.1),
+        (
+          (
+            c.enter-p.ensures.1,
+            c.enter-q.ensures.1,
+          ),
+          run_kept c.requires.room c.zip.auto.ok
+              c.zip.auto.oa,
+        ),
+      ),
+    )
+
+pub merge-slice_bounds-union-end-in-Nothing-union-2 : goal.merge-slice_bounds-union-end-in-Nothing-union-2
+merge-slice_bounds-union-end-in-Nothing-union-2 t c =
+    sym c.enter-p.auto.table
+
+pub merge-union-requires-in-Nothing-union : goal.merge-union-requires-in-Nothing-union
+merge-union-requires-in-Nothing-union t c =
+    (
+      omega (arith, c.decreases),
+      (
+        (c.requires.stand.1, c.requires.stand.0),
+        (
+          (
+            c.enter-q.ensures.1,
+            c.enter-p.ensures.1,
+          ),
+          run_turned c.requires.room (c.union-in-Apart.auto.ok
+              ∙ c.zip.auto.ok) (c.union-in-Apart.auto.oa
+              ∙ c.zip.auto.oa),
+        ),
+      ),
+    )
+
+pub merge-returns-in-Fields : goal.merge-returns-in-Fields
+merge-returns-in-Fields t c =
+    let i = options_of c.args.i in
+    let c' = get_supertype i in
+    let fs = run_in c.args.m c.args.at c.args.lk.now c.args.la.now in
+    let gs = run_in c.args.n c.args.by c.args.rk.now c.args.ra.now in
+    let e = let e : c.args.n ≡ c.args.m = omega (
+      arith,
+      c.if-m-n.false,
+      c.if-n-m.false,
+    ) in e in
+    let many = run_count c.requires.stand.0 ∙ sym e ∙ sym (run_count c.requires.stand.1) in
+    let z = zip_as _ _ e c.args.by c.args.rk.now c.args.ra.now c' fs c.zip.ensures in
+    fills_is (zip_decides c' fs gs many (was_joined z _ _ c.in-Fields.is).1)
+    (told_is z c.in-Fields.is)
+
+pub merge-returns-in-Nothing : goal.merge-returns-in-Nothing
+merge-returns-in-Nothing t c =
+    let i = options_of c.args.i in
+    let c' = get_supertype i in
+    let fs = run_in c.args.m c.args.at c.args.lk.now c.args.la.now in
+    let gs = run_in c.args.n c.args.by c.args.rk.now c.args.ra.now in
+    let e = let e : c.args.n ≡ c.args.m = omega (
+      arith,
+      c.if-m-n.false,
+      c.if-n-m.false,
+    ) in e in
+    let many = run_count c.requires.stand.0 ∙ sym e ∙ sym (run_count c.requires.stand.1) in
+    let z = zip_as _ _ e c.args.by c.args.rk.now c.args.ra.now c' fs c.zip.ensures in
+    fills_is (zip_ends c' fs gs many (was_nothing z c.in-Nothing.is)) (told_is z c.in-Nothing.is)
+
+pub merge-returns-in-Fields-union : goal.merge-returns-in-Fields-union
+merge-returns-in-Fields-union t c =
+    let i = options_of c.args.i in
+    let c' = get_supertype i in
+    let fs = run_in c.args.m c.args.at c.args.lk.now c.args.la.now in
+    let gs = run_in c.args.n c.args.by c.args.rk.now c.args.ra.now in
+    let e = let e : c.args.n ≡ c.args.m = omega (
+      arith,
+      c.if-m-n.false,
+      c.if-n-m.false,
+    ) in e in
+    let many = run_count c.requires.stand.0 ∙ sym e ∙ sym (run_count c.requires.stand.1) in
+    let z = zip_as _ _ e c.args.by c.args.rk.now c.args.ra.now c' fs c.zip.ensures in
+    let apart = was_apart z c.in-Apart.is in
+    let kept = fills_front z (omega (arith, c.requires.room.kinds)) (omega (arith, c.requires.room.args)) in
+    fills_is (union_decides c' fs gs many apart (was_joined c.union-in-Apart.ensures _ _ c.in-Fields-union.is).1)
+    (over kept (told_is c.union-in-Apart.ensures c.in-Fields-union.is))
+
+pub merge-returns-in-Nothing-union : goal.merge-returns-in-Nothing-union
+merge-returns-in-Nothing-union t c =
+    let i = options_of c.args.i in
+    let c' = get_supertype i in
+    let fs = run_in c.args.m c.args.at c.args.lk.now c.args.la.now in
+    let gs = run_in c.args.n c.args.by c.args.rk.now c.args.ra.now in
+    let e = let e : c.args.n ≡ c.args.m = omega (
+      arith,
+      c.if-m-n.false,
+      c.if-n-m.false,
+    ) in e in
+    let many = run_count c.requires.stand.0 ∙ sym e ∙ sym (run_count c.requires.stand.1) in
+    let z = zip_as _ _ e c.args.by c.args.rk.now c.args.ra.now c' fs c.zip.ensures in
+    let apart = was_apart z c.in-Apart.is in
+    let kept = fills_front z (omega (arith, c.requires.room.kinds)) (omega (arith, c.requires.room.args)) in
+    let kept' = fills_front c.union-in-Apart.ensures (omega (
+      arith,
+      c.requires.room.kinds,
+      c.zip.auto.ok,
+    )) (omega (arith, c.requires.room.args, c.zip.auto.oa)) in
+    fills_is (union_turned c' fs gs many apart (was_nothing c.union-in-Apart.ensures
+    c.in-Nothing-union.is))
+    (over kept (over kept' c.union-in-Nothing-union.ensures))
+
+pub merge-returns-in-Apart-union : goal.merge-returns-in-Apart-union
+merge-returns-in-Apart-union t c =
+    let i = options_of c.args.i in
+    let c' = get_supertype i in
+    let fs = run_in c.args.m c.args.at c.args.lk.now c.args.la.now in
+    let gs = run_in c.args.n c.args.by c.args.rk.now c.args.ra.now in
+    never_apart (union_fields c' fs gs) (was_apart c.union-in-Apart.ensures
+    c.in-Apart-union.is)
+
+-- The answers of `named`. Assumes nothing.
+pub named-put-requires : goal.named-put-requires
+named-put-requires t c =
+    record {
+      kinds = omega (arith, c.requires.room.kinds, c.requires.stand.0.pos);
+      args = omega
+          (arith, c.requires.room.args, c.requires.stand.0.pos);
+    }
+
+pub named-all-requires : goal.named-all-requires
+named-all-requires t c =
+    (
+      omega (arith, c.decreases),
+      (
+        c.requires.stand,
+        (
+          c.requires.tables,
+          name_room c.requires.room c.put.auto.out_kinds
+              c.put.auto.out_args,
+        ),
+      ),
+    )
+
+pub named-overflow_add-result : goal.named-overflow_add-result
+named-overflow_add-result t c =
+    omega (
+      arith,
+      name_nodes (options_of c.args.i) c.args.name
+          (type_in c.args.at c.args.hk.now c.args.ha.now)
+          (run_in c.args.count c.args.by c.args.sk.now c.args.sa.now)
+          c.all.ensures _ c.in-Nodes.is,
+      c.requires.room.kinds,
+      c.requires.room.most,
+    )
+
+pub named-returns-in-Nodes : goal.named-returns-in-Nodes
+named-returns-in-Nodes t c =
+    under_some c.put.ensures c.all.ensures _
+    c.in-Nodes.is
+
+pub named-returns-in-Nothing : goal.named-returns-in-Nothing
+named-returns-in-Nothing t c =
+    under_none c.put.ensures c.all.ensures
+    (omega (arith, c.requires.room.kinds, c.requires.stand.0.pos))
+    (omega (arith, c.requires.room.args, c.requires.stand.0.pos)) c.put.auto.out_kinds c.put.auto.out_args
+    c.in-Nothing.is
+
+-- The answers of `new`. Assumes nothing.
+pub new-loop-left-init : goal.new-loop-left-init
+new-loop-left-init t c =
+    new_start c.requires.stand.1 c.requires.room
+
+pub new-offset_bounds-sa-here : goal.new-offset_bounds-sa-here
+new-offset_bounds-sa-here t c =
+    omega (arith, c.loop-left.invariant.along.others.args, c.loop-left.invariant.along.others.pos)
+
+pub new-bounds-sa-here : goal.new-bounds-sa-here
+new-bounds-sa-here t c =
+    omega (arith, c.loop-left.invariant.along.others.args, c.loop-left.invariant.along.others.pos)
+
+pub new-overflow_add-next : goal.new-overflow_add-next
+new-overflow_add-next t c =
+    omega (arith, c.loop-left.invariant.along.others.kinds, c.loop-left.invariant.along.others.pos, c.loop-left.invariant.along.others.most)
+
+pub new-after-past-requires : goal.new-after-past-requires
+new-after-past-requires t c = field_in c.loop-left.invariant.along.others (omega arith)
+
+pub new-overflow_sub-n : goal.new-overflow_sub-n
+new-overflow_sub-n t c = omega (arith, c.loop-left.invariant.along.fewer)
+
+pub new-known-requires : goal.new-known-requires
+new-known-requires t c =
+    (
+      (c.requires.stand.0, c.requires.tables.0),
+      (c.loop-left.invariant.along.done, λ e. new_once c.loop-left.invariant (omega (arith, c.loop-left-test.true)) _ c.after-past.ensures (c.requires.tables.1 e)),
+    )
+
+pub new-loop-left-preserved-then-known : goal.new-loop-left-preserved-then-known
+new-loop-left-preserved-then-known t c =
+    new_skip c.loop-left.invariant (omega (arith, c.loop-left-test.true)) _ c.after-past.ensures _ c.known.ensures c.if-known.true
+
+pub new-named-requires : goal.new-named-requires
+new-named-requires t c =
+    let k = new_unseen c.loop-left.invariant (omega (arith, c.loop-left-test.true)) _ c.after-past.ensures _ c.known.ensures c.if-known.false in (
+      omega (arith, c.decreases, new_less c.loop-left.invariant (omega (arith, c.loop-left-test.true)) _ c.after-past.ensures k),
+      (
+        (field_in c.loop-left.invariant.along.others (omega (arith, c.loop-left-test.true)), new_others c.loop-left.invariant (omega (arith, c.loop-left-test.true)) _ c.after-past.ensures),
+        (λ e. never e, new_named_room c.loop-left.invariant (omega (arith, c.loop-left-test.true)) _ c.after-past.ensures k),
+      ),
+    )
+
+pub new-returns-in-Nothing : goal.new-returns-in-Nothing
+new-returns-in-Nothing t c =
+    let k = new_unseen c.loop-left.invariant (omega (arith, c.loop-left-test.true)) _ c.after-past.ensures _ c.known.ensures c.if-known.false in
+    new_nothing c.loop-left.invariant (omega (arith, c.loop-left-test.true)) _ c.after-past.ensures k c.named.ensures c.in-Nothing.is
+
+pub new-overflow_add-end : goal.new-overflow_add-end
+new-overflow_add-end t c =
+    let k = new_unseen c.loop-left.invariant (omega (arith, c.loop-left-test.true)) _ c.after-past.ensures _ c.known.ensures c.if-known.false in
+    omega (
+      arith,
+      new_nodes c.loop-left.invariant (omega (arith, c.loop-left-test.true)) _ c.after-past.ensures k c.named.ensures _ c.in-Nodes.is,
+    )
+
+pub new-overflow_add-names : goal.new-overflow_add-names
+new-overflow_add-names t c =
+    omega (
+      arith,
+      new_count c.loop-left.invariant,
+    )
+
+pub new-loop-left-preserved : goal.new-loop-left-preserved
+new-loop-left-preserved t c =
+    let k = new_unseen c.loop-left.invariant (omega (arith, c.loop-left-test.true)) _ c.after-past.ensures _ c.known.ensures c.if-known.false in
+    new_next c.loop-left.invariant (omega (arith, c.loop-left-test.true)) _ c.after-past.ensures k c.named.ensures _ c.in-Nodes.is c.named.auto.ok c.named.auto.oa
+
+pub new-overflow_sub-result : goal.new-overflow_sub-result
+new-overflow_sub-result t c = omega (arith, c.loop-left.invariant.going.ends)
+
+pub new-returns : goal.new-returns
+new-returns t c = new_end c.loop-left.invariant (omega arith) _ refl
+
+-- The answers of `next`. Assumes nothing.
+pub next-same_held-requires : goal.next-same_held-requires
+next-same_held-requires t c =
+    c.requires.stand
+
+pub next-returns-then-same_held : goal.next-returns-then-same_held
+next-returns-then-same_held t c =
+    joins_is (held_same (get_supertype (options_of c.args.i)) _ _
+    (sym c.if-same_held.true ∙ c.same_held.ensures)) (stays c.requires.stand.1)
+
+pub next-copy-requires : goal.next-copy-requires
+next-copy-requires t c =
+    let few : c.args.n ≤ 1024 = omega (arith, c.requires.stand.1.kinds, c.requires.room.most) in (
+      record { kinds = c.requires.stand.1.kinds; args = c.requires.stand.1.args },
+      record { kinds = omega (arith, few); args = omega (arith, few) },
+    )
+
+pub next-held-requires : goal.next-held-requires
+next-held-requires t c =
+    let even = c.copy.auto.out_kinds ∙ sym c.copy.auto.out_args in (
+      omega (arith, c.decreases, copied_nodes c.requires.stand.1 c.copy.ensures even (omega (arith, c.copy.auto.out_kinds))),
+      (
+        (c.requires.stand.0, copied_in c.requires.stand.1 c.copy.ensures even (omega (arith, c.copy.auto.out_kinds))),
+        copied_room
+            c.requires.stand.1 c.copy.ensures even (omega (arith, c.copy.auto.out_kinds)) c.requires.room,
+      ),
+    )
+
+pub next-returns : goal.next-returns
+next-returns t c =
+    let even = c.copy.auto.out_kinds ∙ sym c.copy.auto.out_args in
+    joins_is (ap (join_held (get_supertype (options_of c.args.i))
+    (type_in c.args.at c.args.sk.now c.args.sa.now))
+    (copied_type c.requires.stand.1 c.copy.ensures even (omega (arith, c.copy.auto.out_kinds))))
+    c.held.ensures
+
+-- The answers of `old`. Assumes nothing.
+pub old-loop-left-init : goal.old-loop-left-init
+old-loop-left-init t c =
+    old_start c.requires.stand.0 c.requires.room
+
+pub old-offset_bounds-la-here : goal.old-offset_bounds-la-here
+old-offset_bounds-la-here t c =
+    omega (arith, c.loop-left.invariant.along.others.args, c.loop-left.invariant.along.others.pos)
+
+pub old-bounds-la-here : goal.old-bounds-la-here
+old-bounds-la-here t c =
+    omega (arith, c.loop-left.invariant.along.others.args, c.loop-left.invariant.along.others.pos)
+
+pub old-overflow_add-next : goal.old-overflow_add-next
+old-overflow_add-next t c =
+    omega (arith, c.loop-left.invariant.along.others.kinds, c.loop-left.invariant.along.others.pos, c.loop-left.invariant.along.others.most)
+
+pub old-after-past-requires : goal.old-after-past-requires
+old-after-past-requires t c = field_in c.loop-left.invariant.along.others (omega arith)
+
+pub old-overflow_sub-m : goal.old-overflow_sub-m
+old-overflow_sub-m t c = omega (arith, c.loop-left.invariant.along.fewer)
+
+pub old-keep-requires : goal.old-keep-requires
+old-keep-requires t c =
+    (
+      (c.loop-left.invariant.along.done, old_others c.loop-left.invariant (omega (arith, c.loop-left-test.true)) _ c.after-past.ensures),
+      (field_in c.loop-left.invariant.along.others (omega (arith, c.loop-left-test.true)), λ e. old_once c.loop-left.invariant (omega (arith, c.loop-left-test.true)) _ c.after-past.ensures (c.requires.tables.0 e)),
+    )
+
+pub old-loop-left-preserved-in-Seen : goal.old-loop-left-preserved-in-Seen
+old-loop-left-preserved-in-Seen t c =
+    old_skip c.loop-left.invariant (omega (arith, c.loop-left-test.true)) _ c.after-past.ensures (old_was_seen c.loop-left.invariant (omega (arith, c.loop-left-test.true)) _ c.after-past.ensures _ c.keep.ensures c.in-Seen.is)
+
+pub old-named-requires : goal.old-named-requires
+old-named-requires t c =
+    let k = old_last c.loop-left.invariant (omega (arith, c.loop-left-test.true)) _ c.after-past.ensures _ _ c.keep.ensures c.in-At.is in (
+      omega (arith, c.decreases, old_less c.loop-left.invariant (omega (arith, c.loop-left-test.true)) _ c.after-past.ensures _ k),
+      ((k.type, c.requires.stand.1), (c.requires.tables.1, old_room c.loop-left.invariant (omega (arith, c.loop-left-test.true)) _ c.after-past.ensures _ k)),
+    )
+
+pub old-returns-in-Nothing : goal.old-returns-in-Nothing
+old-returns-in-Nothing t c =
+    let k = old_last c.loop-left.invariant (omega (arith, c.loop-left-test.true)) _ c.after-past.ensures _ _ c.keep.ensures c.in-At.is in
+    old_nothing c.loop-left.invariant (omega (arith, c.loop-left-test.true)) _ c.after-past.ensures _ k c.named.ensures c.in-Nothing.is
+
+pub old-overflow_add-end : goal.old-overflow_add-end
+old-overflow_add-end t c =
+    let k = old_last c.loop-left.invariant (omega (arith, c.loop-left-test.true)) _ c.after-past.ensures _ _ c.keep.ensures c.in-At.is in
+    omega (
+      arith,
+      old_nodes c.loop-left.invariant (omega (arith, c.loop-left-test.true)) _ c.after-past.ensures _ k c.named.ensures _ c.in-Nodes.is,
+    )
+
+pub old-overflow_add-names : goal.old-overflow_add-names
+old-overflow_add-names t c =
+    omega (
+      arith,
+      old_count c.loop-left.invariant,
+    )
+
+pub old-loop-left-preserved : goal.old-loop-left-preserved
+old-loop-left-preserved t c =
+    let k = old_last c.loop-left.invariant (omega (arith, c.loop-left-test.true)) _ c.after-past.ensures _ _ c.keep.ensures c.in-At.is in
+    old_next c.loop-left.invariant (omega (arith, c.loop-left-test.true)) _ c.after-past.ensures _ k c.named.ensures _ c.in-Nodes.is c.named.auto.ok c.named.auto.oa
+
+pub old-overflow_sub-result : goal.old-overflow_sub-result
+old-overflow_sub-result t c = omega (arith, c.loop-left.invariant.going.ends)
+
+pub old-returns : goal.old-returns
+old-returns t c = old_end c.loop-left.invariant (omega arith) _ refl
+
+-- The answers of `under`. Assumes nothing.
+pub under-put-requires : goal.under-put-requires
+under-put-requires t c =
+    record {
+      kinds = omega (arith, c.requires.room.kinds, c.requires.stand.0.pos);
+      args = omega
+          (arith, c.requires.room.args, c.requires.stand.0.pos);
+    }
+
+pub under-join-requires : goal.under-join-requires
+under-join-requires t c =
+    (omega (arith, c.decreases), (c.requires.stand, room_kept c.requires.room c.put.auto.out_kinds c.put.auto.out_args))
+
+pub under-overflow_add-result : goal.under-overflow_add-result
+under-overflow_add-result t c =
+    omega (
+      arith,
+      join_nodes _ _ (type_in c.args.at c.args.lk.now c.args.la.now)
+          (type_in c.args.by c.args.rk.now c.args.ra.now)
+          c.join.ensures _ c.in-Nodes.is,
+      c.requires.room.kinds,
+    )
+
+pub under-returns-in-Nodes : goal.under-returns-in-Nodes
+under-returns-in-Nodes t c =
+    under_some c.put.ensures c.join.ensures _
+    c.in-Nodes.is
+
+pub under-returns-in-Nothing : goal.under-returns-in-Nothing
+under-returns-in-Nothing t c =
+    under_none c.put.ensures c.join.ensures
+    (omega (arith, c.requires.room.kinds, c.requires.stand.0.pos)) (omega (arith, c.requires.room.args, c.requires.stand.0.pos))
+    c.put.auto.out_kinds c.put.auto.out_args c.in-Nothing.is
+
+-- The answers of `union`. Assumes nothing.
+pub union-old-requires : goal.union-old-requires
+union-old-requires t c =
+    (
+      omega (arith, c.decreases),
+      (
+        c.requires.stand,
+        (
+          (λ e. (c.requires.tables.0 e).distinct, c.requires.tables.1),
+          c.requires.room,
+        ),
+      ),
+    )
+
+pub union-overflow_add-to : goal.union-overflow_add-to
+union-overflow_add-to t c =
+    let i = options_of c.args.i in
+    let fs = run_in c.args.m c.args.at c.args.lk.now c.args.la.now in
+    let gs = run_in c.args.n c.args.by c.args.sk.now c.args.sa.now in
+    omega (
+      arith,
+      old_end i fs gs c.old.ensures c.requires.room _ _ c.in-Fields.is,
+    )
+
+pub union-new-requires : goal.union-new-requires
+union-new-requires t c =
+    let i = options_of c.args.i in
+    let fs = run_in c.args.m c.args.at c.args.lk.now c.args.la.now in
+    let gs = run_in c.args.n c.args.by c.args.sk.now c.args.sa.now in (
+      omega (arith, c.decreases),
+      (
+        c.requires.stand,
+        (
+          (c.requires.tables.0, λ e. (c.requires.tables.1 e).distinct),
+          new_room i fs
+              gs c.old.ensures c.requires.room _ _ c.in-Fields.is
+              c.old.auto.ok
+              c.old.auto.oa,
+        ),
+      ),
+    )
+
+pub union-overflow_add-result : goal.union-overflow_add-result
+union-overflow_add-result t c =
+    let i = options_of c.args.i in
+    let fs = run_in c.args.m c.args.at c.args.lk.now c.args.la.now in
+    let gs = run_in c.args.n c.args.by c.args.sk.now c.args.sa.now in
+    omega (
+      arith,
+      merged_names i fs gs c.old.ensures c.requires.room _ _
+          c.in-Fields.is
+          c.old.auto.ok c.old.auto.oa
+          c.new.ensures _ _ c.in-Fields-new.is,
+    )
+
+pub union-overflow_add-result-in-Fields-new : goal.union-overflow_add-result-in-Fields-new
+union-overflow_add-result-in-Fields-new t c =
+    let i = options_of c.args.i in
+    let fs = run_in c.args.m c.args.at c.args.lk.now c.args.la.now in
+    let gs = run_in c.args.n c.args.by c.args.sk.now c.args.sa.now in
+    omega (
+      arith,
+      merged_end i fs gs c.old.ensures c.requires.room _ _
+          c.in-Fields.is
+          c.old.auto.ok c.old.auto.oa
+          c.new.ensures _ _ c.in-Fields-new.is,
+    )
+
+pub union-returns-in-Nothing : goal.union-returns-in-Nothing
+union-returns-in-Nothing t c =
+    let i = options_of c.args.i in
+    let fs = run_in c.args.m c.args.at c.args.lk.now c.args.la.now in
+    let gs = run_in c.args.n c.args.by c.args.sk.now c.args.sa.now in
+    old_nothing i fs gs c.old.ensures c.requires.room
+    c.in-Nothing.is
+
+pub union-returns-in-Apart : goal.union-returns-in-Apart
+union-returns-in-Apart t c =
+    let i = options_of c.args.i in
+    let fs = run_in c.args.m c.args.at c.args.lk.now c.args.la.now in
+    let gs = run_in c.args.n c.args.by c.args.sk.now c.args.sa.now in
+    old_apart i fs gs c.old.ensures c.requires.room
+    c.in-Apart.is
+
+pub union-returns-in-Nothing-new : goal.union-returns-in-Nothing-new
+union-returns-in-Nothing-new t c =
+    let i = options_of c.args.i in
+    let fs = run_in c.args.m c.args.at c.args.lk.now c.args.la.now in
+    let gs = run_in c.args.n c.args.by c.args.sk.now c.args.sa.now in
+    new_nothing i fs gs c.old.ensures c.requires.room _ _
+    c.in-Fields.is
+    c.old.auto.ok c.old.auto.oa
+    c.new.ensures c.in-Nothing-new.is
+
+pub union-returns-in-Apart-new : goal.union-returns-in-Apart-new
+union-returns-in-Apart-new t c =
+    let i = options_of c.args.i in
+    let fs = run_in c.args.m c.args.at c.args.lk.now c.args.la.now in
+    let gs = run_in c.args.n c.args.by c.args.sk.now c.args.sa.now in
+    new_apart i fs gs c.old.ensures c.requires.room _ _
+    c.in-Fields.is
+    c.old.auto.ok c.old.auto.oa
+    c.new.ensures c.in-Apart-new.is
+
+pub union-returns-in-Fields-new : goal.union-returns-in-Fields-new
+union-returns-in-Fields-new t c =
+    let i = options_of c.args.i in
+    let fs = run_in c.args.m c.args.at c.args.lk.now c.args.la.now in
+    let gs = run_in c.args.n c.args.by c.args.sk.now c.args.sa.now in
+    merged i fs gs c.old.ensures c.requires.room _ _
+    c.in-Fields.is
+    c.old.auto.ok c.old.auto.oa
+    c.new.ensures _ _ c.in-Fields-new.is
+
+-- The answers of `zip`. Assumes nothing.
+pub zip-zip_leaves-done-requires : goal.zip-zip_leaves-done-requires
+zip-zip_leaves-done-requires t c =
+    c.requires
+
+pub zip-overflow_mul-here : goal.zip-overflow_mul-here
+zip-overflow_mul-here t c =
+    omega (arith, c.zip_leaves-done.ensures.1.run.kinds, c.zip_leaves-done.ensures.1.run.most)
+
+pub zip-overflow_add-here : goal.zip-overflow_add-here
+zip-overflow_add-here t c =
+    omega (arith, c.zip_leaves-done.ensures.1.run.kinds, c.zip_leaves-done.ensures.1.run.most)
+
+pub zip-overflow_mul-there : goal.zip-overflow_mul-there
+zip-overflow_mul-there t c =
+    omega (arith, c.zip_leaves-done.ensures.1.other.kinds, c.zip_leaves-done.ensures.1.other.most)
+
+pub zip-overflow_add-there : goal.zip-overflow_add-there
+zip-overflow_add-there t c =
+    omega (arith, c.zip_leaves-done.ensures.1.other.kinds, c.zip_leaves-done.ensures.1.other.most)
+
+pub zip-overflow_mul-end : goal.zip-overflow_mul-end
+zip-overflow_mul-end t c =
+    omega (arith, c.zip_leaves-done.ensures.1.kinds, c.zip_leaves-done.ensures.1.going.kinds, c.zip_leaves-done.ensures.1.limit)
+
+pub zip-overflow_add-end : goal.zip-overflow_add-end
+zip-overflow_add-end t c =
+    omega (arith, c.zip_leaves-done.ensures.1.kinds, c.zip_leaves-done.ensures.1.going.kinds, c.zip_leaves-done.ensures.1.limit)
+
+pub zip-overflow_sub-left : goal.zip-overflow_sub-left
+zip-overflow_sub-left t c = omega (arith, c.zip_leaves-done.ensures.0)
+
+pub zip-loop-left-init : goal.zip-loop-left-init
+zip-loop-left-init t c =
+    zip_again c.zip_leaves-done.ensures.1
+
+pub zip-offset_bounds-la-here : goal.zip-offset_bounds-la-here
+zip-offset_bounds-la-here t c =
+    omega (arith, c.loop-left.invariant.run.kinds, c.loop-left.invariant.run.args, c.loop-left.invariant.run.pos)
+
+pub zip-bounds-la-here : goal.zip-bounds-la-here
+zip-bounds-la-here t c =
+    omega (arith, c.loop-left.invariant.run.kinds, c.loop-left.invariant.run.args, c.loop-left.invariant.run.pos)
+
+pub zip-offset_bounds-ra-there : goal.zip-offset_bounds-ra-there
+zip-offset_bounds-ra-there t c =
+    omega (arith, c.loop-left.invariant.other.kinds, c.loop-left.invariant.other.args, c.loop-left.invariant.other.pos)
+
+pub zip-bounds-ra-there : goal.zip-bounds-ra-there
+zip-bounds-ra-there t c =
+    omega (arith, c.loop-left.invariant.other.kinds, c.loop-left.invariant.other.args, c.loop-left.invariant.other.pos)
+
+pub zip-returns-then-name-ra : goal.zip-returns-then-name-ra
+zip-returns-then-name-ra t c =
+    let so_far = zip_on_lem c.zip_leaves-done.ensures.1 c.loop-left.invariant in
+    zip_apart so_far (omega arith) c.if-name-ra.true
+
+pub zip-overflow_add-l : goal.zip-overflow_add-l
+zip-overflow_add-l t c =
+    omega (arith, c.loop-left.invariant.run.kinds, c.loop-left.invariant.run.args, c.loop-left.invariant.run.pos)
+
+pub zip-overflow_add-r : goal.zip-overflow_add-r
+zip-overflow_add-r t c =
+    omega (arith, c.loop-left.invariant.other.kinds, c.loop-left.invariant.other.args, c.loop-left.invariant.other.pos)
+
+pub zip-under-requires : goal.zip-under-requires
+zip-under-requires t c =
+    let so_far = zip_on_lem c.zip_leaves-done.ensures.1 c.loop-left.invariant in (
+      omega (arith, c.decreases, zip_less so_far (omega arith)),
+      ((zip_left c.loop-left.invariant (omega arith), zip_right c.loop-left.invariant (omega arith)), zip_room c.loop-left.invariant (omega arith)),
+    )
+
+pub zip-returns-in-Nothing : goal.zip-returns-in-Nothing
+zip-returns-in-Nothing t c =
+    let so_far = zip_on_lem c.zip_leaves-done.ensures.1 c.loop-left.invariant in
+    zip_nothing so_far (omega arith) c.if-name-ra.false c.under.ensures c.in-Nothing.is
+
+pub zip-after-here-requires : goal.zip-after-here-requires
+zip-after-here-requires t c =
+    zip_left c.loop-left.invariant (omega arith)
+
+pub zip-after-there-requires : goal.zip-after-there-requires
+zip-after-there-requires t c =
+    zip_right c.loop-left.invariant (omega arith)
+
+pub zip-overflow_add-end-in-Nodes : goal.zip-overflow_add-end-in-Nodes
+zip-overflow_add-end-in-Nodes t c =
+    omega (
+      arith,
+      zip_nodes c.loop-left.invariant (omega arith) c.if-name-ra.false c.under.ensures _ c.in-Nodes.is,
+    )
+
+pub zip-loop-left-preserved : goal.zip-loop-left-preserved
+zip-loop-left-preserved t c =
+    zip_next c.loop-left.invariant (omega arith) c.if-name-ra.false c.under.ensures _ c.in-Nodes.is _ _
+    c.after-here.ensures c.after-there.ensures c.under.auto.ok
+    c.under.auto.oa
+
+pub zip-overflow_sub-result : goal.zip-overflow_sub-result
+zip-overflow_sub-result t c =
+    let so_far = zip_on_lem c.zip_leaves-done.ensures.1 c.loop-left.invariant in
+    omega (arith, so_far.going.ends)
+
+pub zip-returns : goal.zip-returns
+zip-returns t c =
+    let so_far = zip_on_lem c.zip_leaves-done.ensures.1 c.loop-left.invariant in
+    zip_end_lem so_far (omega arith) _ refl
