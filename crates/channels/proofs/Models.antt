@@ -84,8 +84,9 @@ stands_one page {c} {d} = go (numbered page)
     go (k ∷ ks) p q = least_one p q
 
 -- there is one answer
-one_answer : {channels : ℕ} {b b₁ b₂ : Model} {channel : ℕ} {column : Reading} {a₁ a₂ : Merged}
-    → Enters channels b channel column a₁ b₁ → Enters channels b channel column a₂ b₂ → a₁ ≡ a₂
+one_answer : {channels : ℕ} {b : Model} {channel : ℕ} {column : Reading} {a₁ : Merged} {b₁ : Model}
+    → Enters channels b channel column a₁ b₁ → {a₂ : Merged} {b₂ : Model} → Enters channels b channel column a₂ b₂
+    → a₁ ≡ a₂
 one_answer not_a_type not_a_type = refl
 one_answer (no_channel h) (no_channel h') = refl
 one_answer (no_channel h) (not_integer l n) = absurd (omega arith)
@@ -110,7 +111,7 @@ abbrev model_after : Model → ℕ → Reading → Merged → Model
 model_after b channel column (Held c) = λ i. cond (eqb channel i) (with_column column (b i)) (b i)
 model_after b channel column (Refused e) = b
 
-enters_after : {channels : ℕ} {b b' : Model} {channel : ℕ} {column : Reading} {a : Merged}
+enters_after : {channels : ℕ} {b : Model} {channel : ℕ} {column : Reading} {a : Merged} {b' : Model}
     → Enters channels b channel column a b' → b' ≡ model_after b channel column a
 enters_after not_a_type = refl
 enters_after (no_channel h) = refl
@@ -119,7 +120,7 @@ enters_after (accepted l i r m) = refl
 enters_after (no_room l i n) = refl
 
 -- the types on a page are listed or Null
-enters_mergeable : {channels : ℕ} {b b' : Model} {channel : ℕ} {column : Reading} {a : Merged}
+enters_mergeable : {channels : ℕ} {b : Model} {channel : ℕ} {column : Reading} {a : Merged} {b' : Model}
     → Enters channels b channel column a b' → (ch : ℕ) → AllMergeable (b ch) → AllMergeable (b' ch)
 enters_mergeable not_a_type ch h = h
 enters_mergeable (no_channel l) ch h = h
@@ -132,7 +133,7 @@ enters_mergeable {b = b} {channel = channel} (accepted {t = t} l i r m) ch h = g
 enters_mergeable (no_room l i n) ch h = h
 
 -- a listed type for one of the channels is refused exactly where there is no room, and by 12 alone
-pub refused_where : {channels : ℕ} {b b' : Model} {channel : ℕ} {t : DataType} {a : Merged}
+pub refused_where : {channels : ℕ} {b : Model} {channel : ℕ} {t : DataType} {a : Merged} {b' : Model}
     → Enters channels b channel (type t) a b' → channel < channels → Listed (head_kind t)
     → ((a ≡ Refused NoUpcast) ↔ (Room (head_kind t ∷ b channel) → ⊥)) × ((e : Error) → a ≡ Refused e → e ≡ NoUpcast)
 refused_where (no_channel h) l i = absurd (omega arith)

@@ -128,7 +128,7 @@ module _ {channels : ℕ} where
       let o = outcome_of channels r.1 m.channel m.column in
       (o.answer ∷ r.0, o.types, Run.next {o = o} r.2 refl)
 
-  run_length : {ms : List Merge} {xs : List Merged} {s₀ s : ChannelTypes} → Run channels s₀ ms xs s
+  run_length : {s₀ : ChannelTypes} {ms : List Merge} {xs : List Merged} {s : ChannelTypes} → Run channels s₀ ms xs s
       → length s.codes ≡ length s₀.codes
   run_length Run.none = refl
   run_length (Run.next {s = s} {m = m} r h) = keeps_length channels s m h ∙ run_length r
@@ -152,8 +152,8 @@ module _ (channels : ℕ) (test : Merge → Bool) (Same : ChannelTypes → Chann
     → Same o.types t)
     (in_both : (s t : ChannelTypes) (m : Merge) (o p : Outcome) → test m ≡ true → Same s t → Comes channels s m o
     → Comes channels t m p → Same o.types p.types × (o.answer ≡ p.answer)) where
-  passing : {ms : List Merge} {xs ys : List Merged} {s₀ s t : ChannelTypes} → Same s₀ s₀ → Run channels s₀ ms xs s
-      → Run channels s₀ (only test ms) ys t → Same s t × (answers_to test ms xs ≡ ys)
+  passing : {s₀ : ChannelTypes} {ms : List Merge} {xs ys : List Merged} {s t : ChannelTypes} → Same s₀ s₀
+      → Run channels s₀ ms xs s → Run channels s₀ (only test ms) ys t → Same s t × (answers_to test ms xs ≡ ys)
   passing i Run.none Run.none = (i, refl)
   passing {s₀ = s₀} i (Run.next {ms = ms} {xs = xs} {s = s} {m = m} {o = o} r h) q =
       go (test m) refl (λ zs u p. passing i r p) q

@@ -4,12 +4,8 @@ use mathlib.Core.Path.{refl}
 use Rattle.flat.specs.Tree.{head_kind}
 use Rattle.supertype_numbers.specs.Range.{is_listed}
 use Rattle.channels.specs.Merge.{merged_with, merged_of}
-use Rattle.channels.proofs.limits.channel_limit.Statement.{statement}
-use Rattle.channels.proofs.limits.channel_limit.Tie as tie
+use Rattle.channels.proofs.limits.channel_limit.Goals as goal
 
-returns : tie.Need-returns
+pub returns : goal.returns
 unfolding head_kind is_listed merged_with merged_of
 returns c = record { channel_31 = (refl, refl); channel_32 = (refl, refl) }
-
-pub channel-limit-spec : {M : Type 1} → statement M
-channel-limit-spec = tie.close (tie.spec returns)
