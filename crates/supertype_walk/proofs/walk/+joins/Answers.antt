@@ -1,57 +1,27 @@
-use Prim.Native.Nat.{ℕ}
-use Prim.Native.Nat.{◌≤◌}
-use Rattle.flat.proofs.Truths.{Fact, fact}
-use Rattle.flat.proofs.Truths.{never}
+use Prim.Native.Nat.{ℕ, ◌≤◌}
+use Rattle.flat.proofs.Truths.{Fact, fact, never}
 use Rattle.supertype_nested.proofs.Steps.{tree_fair}
-use Rattle.supertype_nested.specs.Nested.{join_held}
-use Rattle.supertype_nested.specs.Nested.{union_fields}
-use Rattle.supertype_place.proofs.Places.{field_in}
-use Rattle.supertype_place.proofs.Places.{run_count}
-use Rattle.supertype_place.specs.Place.{run_in}
-use Rattle.supertype_place.specs.Place.{type_in, run_in}
-use Rattle.supertype_place.specs.Place.{type_in}
+use Rattle.supertype_nested.specs.Nested.{join_held, union_fields}
+use Rattle.supertype_place.proofs.Places.{field_in, run_count}
+use Rattle.supertype_place.specs.Place.{run_in, type_in}
 use Rattle.supertype_step.specs.Decided.{options_of}
 use Rattle.supertype_walk.proofs.Closes.{closed_fits}
-use Rattle.supertype_walk.proofs.Each.{Eaching, each_start, each_field_lem, each_room, each_less, each_nothing}
-use Rattle.supertype_walk.proofs.Each.{each_nodes, each_next, each_end}
-use Rattle.supertype_walk.proofs.Fed.{past_less, past_room, past_on, past_run, name_whole, none_left}
-use Rattle.supertype_walk.proofs.Fed.{past_less, past_room, past_on, past_run, none_left, stays}
-use Rattle.supertype_walk.proofs.Fed.{place_at, place_missing, found_room, found_less, fed_none, fed_held}
-use Rattle.supertype_walk.proofs.Fed.{stays, copied_type, copied_in, copied_nodes, copied_room}
-use Rattle.supertype_walk.proofs.Joined.{arm_of, decided, has_parts, joins_nothing, joins_node, joins_left, joins_right, joins_under}
-use Rattle.supertype_walk.proofs.Joined.{joins_first_left, joins_first_right, joins_each_left, joins_each_right, joins_fields}
-use Rattle.supertype_walk.proofs.Joined.{joins_within_left, joins_within_right, joins_string_list, joins_string}
-use Rattle.supertype_walk.proofs.Joined.{node_room, left_room, less_room, under_room, each_room, fields_room, place_kinds, place_args}
-use Rattle.supertype_walk.proofs.Merged.{merged, merged_end, merged_names}
-use Rattle.supertype_walk.proofs.Merged.{old_nothing, old_apart, new_room, old_end, new_nothing, new_apart}
-use Rattle.supertype_walk.proofs.News.{Newing, new_start, new_others, new_once, new_unseen, new_skip, new_named_room, new_less}
-use Rattle.supertype_walk.proofs.News.{new_nothing, new_nodes, new_count, new_next, new_end}
-use Rattle.supertype_walk.proofs.Olds.{Olding, old_start, old_others, old_once, old_last, old_was_seen, old_skip, old_room}
-use Rattle.supertype_walk.proofs.Olds.{old_less, old_nothing, old_nodes, old_count, old_next, old_end}
-use Rattle.supertype_walk.proofs.Orders.{fills_is, was_nothing, was_apart, was_joined, told_is, fills_front}
-use Rattle.supertype_walk.proofs.Orders.{fills_is, zip_in_place, run_as, sizes_as, room_as, places_as, zip_as}
-use Rattle.supertype_walk.proofs.Orders.{never_apart, run_as, sizes_as, room_as, zip_as}
-use Rattle.supertype_walk.proofs.Orders.{over, run_kept, run_turned, right_longer, left_longer, zip_decides}
-use Rattle.supertype_walk.proofs.Orders.{zip_ends, one_order, all_distinct, union_decides, union_turned}
-use Rattle.supertype_walk.proofs.Parts.{root_fits, wraps_kind, list_kind, inner_is, inner_nodes_lem, inner_in, struct_is}
-use Rattle.supertype_walk.proofs.Parts.{struct_nodes, struct_in, first_in, first_is, first_nodes}
-use Rattle.supertype_walk.proofs.Told.{joins_is, held_same, held_other, right_room}
-use Rattle.supertype_walk.proofs.Told.{joins_is, held_same}
-use Rattle.supertype_walk.proofs.Told.{room_kept, right_room}
-use Rattle.supertype_walk.proofs.Told.{under_some, under_none, join_nodes, room_kept}
-use Rattle.supertype_walk.proofs.Told.{under_some, under_none, name_nodes, name_room}
-use Rattle.supertype_walk.proofs.Zips.{zip_left, zip_right, zip_room, zip_less, zip_apart, zip_nothing, zip_nodes}
-use Rattle.supertype_walk.proofs.Zips.{zip_next, zip_end_lem, zip_again, zip_on_lem}
+use Rattle.supertype_walk.proofs.Each.{Eaching, each_end, each_field_lem, each_less, each_next, each_nodes, each_nothing, each_room, each_start}
+use Rattle.supertype_walk.proofs.Fed.{copied_in, copied_nodes, copied_room, copied_type, fed_held, fed_none, found_less, found_room, name_whole, none_left, past_less, past_on, past_room, past_run, place_at, place_missing, stays}
+use Rattle.supertype_walk.proofs.Joined.{arm_of, decided, each_room as joined_each_room, fields_room, has_parts, joins_each_left, joins_each_right, joins_fields, joins_first_left, joins_first_right, joins_left, joins_node, joins_nothing, joins_right, joins_string, joins_string_list, joins_under, joins_within_left, joins_within_right, left_room, less_room, node_room, place_args, place_kinds, under_room}
+use Rattle.supertype_walk.proofs.Merged.{merged, merged_end, merged_names, new_apart, new_nothing as merged_new_nothing, new_room, old_apart, old_end as merged_old_end, old_nothing as merged_old_nothing}
+use Rattle.supertype_walk.proofs.News.{Newing, new_count, new_end, new_less, new_named_room, new_next, new_nodes, new_nothing, new_once, new_others, new_skip, new_start, new_unseen}
+use Rattle.supertype_walk.proofs.Olds.{Olding, old_count, old_end, old_last, old_less, old_next, old_nodes, old_nothing, old_once, old_others, old_room, old_skip, old_start, old_was_seen}
+use Rattle.supertype_walk.proofs.Orders.{all_distinct, fills_front, fills_is, left_longer, never_apart, one_order, over, places_as, right_longer, room_as, run_as, run_kept, run_turned, sizes_as, told_is, union_decides, union_turned, was_apart, was_joined, was_nothing, zip_as, zip_decides, zip_ends, zip_in_place}
+use Rattle.supertype_walk.proofs.Parts.{first_in, first_is, first_nodes, inner_in, inner_is, inner_nodes_lem, list_kind, root_fits, struct_in, struct_is, struct_nodes, wraps_kind}
+use Rattle.supertype_walk.proofs.Told.{held_other, held_same, join_nodes, joins_is, name_nodes, name_room, right_room, room_kept, under_none, under_some}
+use Rattle.supertype_walk.proofs.Zips.{zip_again, zip_apart, zip_end_lem, zip_left, zip_less, zip_next, zip_nodes, zip_nothing, zip_on_lem, zip_right, zip_room}
 use Rattle.supertype_walk.specs.Going.{Zipping}
-use Rattle.supertype_walk.specs.Room.{get_supertype}
-use Rattle.supertype_walk.specs.Room.{held_at}
+use Rattle.supertype_walk.specs.Room.{get_supertype, held_at}
 use borrow.Author.Rules.{rules}
-use mathlib.Core.Path.{refl, ◌∙◌}
-use mathlib.Core.Path.{sym, ap, ◌∙◌}
-use mathlib.Core.Path.{sym, ◌∙◌}
-use mathlib.Core.Path.{◌∙◌}
-use mathlib.Core.Path.{◌≡◌, refl, sym, ◌∙◌}
+use mathlib.Core.Path.{ap, refl, sym, ◌∙◌, ◌≡◌}
 use native.Mathlib.Omega.{arith}
+use mathlib.Core.Path.{◌≡◌}
 use Rattle.supertype_walk.proofs.walk.+joins.Goals as goal
 
 -- The answers of `again`. Assumes nothing.
@@ -344,7 +314,7 @@ held-returns-then-same t c =
 
 pub held-join-requires : goal.held-join-requires
 held-join-requires t c =
-    (omega (arith, c.decreases), c.requires)
+    (omega (arith, c.decreases), ((c.requires.stand.0, c.requires.stand.1), c.requires.room))
 
 pub held-returns : goal.held-returns
 held-returns t c =
@@ -352,13 +322,6 @@ held-returns t c =
     (sym c.if-same.false ∙ c.same.ensures)) c.join.ensures
 
 -- The answers of `join`. Assumes nothing.
--- what the code has once the roots have decided
--- HELPER
-abbrev join-arm : (t : ℕ) → join-lts.After-decide (join-claims t) (join-at t) join.Post → Fact
-join-arm t d =
-    let s = d.before.before.before.before.before.before.before.before.before.before.before in
-    fact (arm_of _ _ s.pre.1.0.0 s.pre.1.0.1 s.pre.1.1 d.decide.ensures)
-
 pub join-offset_bounds-la-at : goal.join-offset_bounds-la-at
 join-offset_bounds-la-at t c =
     omega (arith, c.requires.stand.0.kinds, c.requires.stand.0.args, c.requires.stand.0.pos, c.requires.stand.0.most)
@@ -534,7 +497,7 @@ join-each-requires t c =
       ),
       (
         (struct_in a.left p.0, a.right),
-        each_room a.room (let z = struct_nodes a.left p.0 in omega arith)
+        joined_each_room a.room (let z = struct_nodes a.left p.0 in omega arith)
             p.1,
       ),
     )
@@ -561,7 +524,7 @@ join-each-requires-in-EachRight t c =
       ),
       (
         (struct_in a.right p.0, a.left),
-        each_room a.room (let z = struct_nodes a.right p.0 in omega arith)
+        joined_each_room a.room (let z = struct_nodes a.right p.0 in omega arith)
             p.1,
       ),
     )
@@ -996,10 +959,10 @@ new-overflow_sub-n t c = omega (arith, c.loop-left.invariant.along.fewer)
 
 pub new-known-requires : goal.new-known-requires
 new-known-requires t c =
-    (
-      (c.requires.stand.0, c.requires.tables.0),
-      (c.loop-left.invariant.along.done, λ e. new_once c.loop-left.invariant (omega (arith, c.loop-left-test.true)) _ c.after-past.ensures (c.requires.tables.1 e)),
-    )
+    record {
+      fact = (c.requires.stand.0, c.requires.tables.0);
+      name_value = (c.loop-left.invariant.along.done, λ e. new_once c.loop-left.invariant (omega (arith, c.loop-left-test.true)) _ c.after-past.ensures (c.requires.tables.1 e));
+    }
 
 pub new-loop-left-preserved-then-known : goal.new-loop-left-preserved-then-known
 new-loop-left-preserved-then-known t c =
@@ -1107,10 +1070,13 @@ old-overflow_sub-m t c = omega (arith, c.loop-left.invariant.along.fewer)
 
 pub old-keep-requires : goal.old-keep-requires
 old-keep-requires t c =
-    (
-      (c.loop-left.invariant.along.done, old_others c.loop-left.invariant (omega (arith, c.loop-left-test.true)) _ c.after-past.ensures),
-      (field_in c.loop-left.invariant.along.others (omega (arith, c.loop-left-test.true)), λ e. old_once c.loop-left.invariant (omega (arith, c.loop-left-test.true)) _ c.after-past.ensures (c.requires.tables.0 e)),
-    )
+    let v = c.loop-left.invariant in
+    let more : c.loop-left.left ≡ 0 → ⊥ = omega (arith, c.loop-left-test.true) in
+    record {
+      run_in = (v.along.done, old_others v more _ c.after-past.ensures);
+      type_in = field_in v.along.others more;
+      fact = λ e. old_once v more _ c.after-past.ensures (c.requires.tables.0 e);
+    }
 
 pub old-loop-left-preserved-in-Seen : goal.old-loop-left-preserved-in-Seen
 old-loop-left-preserved-in-Seen t c =
@@ -1209,7 +1175,7 @@ union-overflow_add-to t c =
     let gs = run_in c.args.n c.args.by c.args.sk.now c.args.sa.now in
     omega (
       arith,
-      old_end i fs gs c.old.ensures c.requires.room _ _ c.in-Fields.is,
+      merged_old_end i fs gs c.old.ensures c.requires.room _ _ c.in-Fields.is,
     )
 
 pub union-new-requires : goal.union-new-requires
@@ -1261,7 +1227,7 @@ union-returns-in-Nothing t c =
     let i = options_of c.args.i in
     let fs = run_in c.args.m c.args.at c.args.lk.now c.args.la.now in
     let gs = run_in c.args.n c.args.by c.args.sk.now c.args.sa.now in
-    old_nothing i fs gs c.old.ensures c.requires.room
+    merged_old_nothing i fs gs c.old.ensures c.requires.room
     c.in-Nothing.is
 
 pub union-returns-in-Apart : goal.union-returns-in-Apart
@@ -1277,7 +1243,7 @@ union-returns-in-Nothing-new t c =
     let i = options_of c.args.i in
     let fs = run_in c.args.m c.args.at c.args.lk.now c.args.la.now in
     let gs = run_in c.args.n c.args.by c.args.sk.now c.args.sa.now in
-    new_nothing i fs gs c.old.ensures c.requires.room _ _
+    merged_new_nothing i fs gs c.old.ensures c.requires.room _ _
     c.in-Fields.is
     c.old.auto.ok c.old.auto.oa
     c.new.ensures c.in-Nothing-new.is

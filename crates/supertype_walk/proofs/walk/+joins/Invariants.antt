@@ -1,60 +1,30 @@
 -- MEASURES
 use Prim.Native.Nat.{ℕ, ◌+◌, ◌*◌, ◌<◌}
-use Prim.Native.Nat.{ℕ}
-use Prim.Native.Nat.{◌≤◌}
-use Rattle.flat.proofs.Truths.{Fact, fact}
-use Rattle.flat.proofs.Truths.{never}
+use Prim.Native.Nat.{ℕ, ◌≤◌}
+use Rattle.flat.proofs.Truths.{Fact, fact, never}
 use Rattle.flat.specs.Tree.{size, sizes}
 use Rattle.supertype_nested.proofs.Steps.{tree_fair}
-use Rattle.supertype_nested.specs.Nested.{join_held}
-use Rattle.supertype_nested.specs.Nested.{union_fields}
+use Rattle.supertype_nested.specs.Nested.{join_held, union_fields}
 use Rattle.supertype_nested.specs.Union as names
-use Rattle.supertype_place.proofs.Places.{field_in}
-use Rattle.supertype_place.proofs.Places.{run_count}
-use Rattle.supertype_place.specs.Place.{run_in}
+use Rattle.supertype_place.proofs.Places.{field_in, run_count}
+use Rattle.supertype_place.specs.Place.{run_in, type_in}
 use Rattle.supertype_place.specs.Place.{type_in, run_in}
-use Rattle.supertype_place.specs.Place.{type_in}
 use Rattle.supertype_step.specs.Decided.{options_of}
 use Rattle.supertype_walk.proofs.Closes.{closed_fits}
-use Rattle.supertype_walk.proofs.Each.{Eaching, each_start, each_field_lem, each_room, each_less, each_nothing}
-use Rattle.supertype_walk.proofs.Each.{each_nodes, each_next, each_end}
-use Rattle.supertype_walk.proofs.Fed.{past_less, past_room, past_on, past_run, name_whole, none_left}
-use Rattle.supertype_walk.proofs.Fed.{past_less, past_room, past_on, past_run, none_left, stays}
-use Rattle.supertype_walk.proofs.Fed.{place_at, place_missing, found_room, found_less, fed_none, fed_held}
-use Rattle.supertype_walk.proofs.Fed.{stays, copied_type, copied_in, copied_nodes, copied_room}
-use Rattle.supertype_walk.proofs.Joined.{arm_of, decided, has_parts, joins_nothing, joins_node, joins_left, joins_right, joins_under}
-use Rattle.supertype_walk.proofs.Joined.{joins_first_left, joins_first_right, joins_each_left, joins_each_right, joins_fields}
-use Rattle.supertype_walk.proofs.Joined.{joins_within_left, joins_within_right, joins_string_list, joins_string}
-use Rattle.supertype_walk.proofs.Joined.{node_room, left_room, less_room, under_room, each_room, fields_room, place_kinds, place_args}
-use Rattle.supertype_walk.proofs.Merged.{merged, merged_end, merged_names}
-use Rattle.supertype_walk.proofs.Merged.{old_nothing, old_apart, new_room, old_end, new_nothing, new_apart}
-use Rattle.supertype_walk.proofs.News.{Newing, new_start, new_others, new_once, new_unseen, new_skip, new_named_room, new_less}
-use Rattle.supertype_walk.proofs.News.{new_nothing, new_nodes, new_count, new_next, new_end}
-use Rattle.supertype_walk.proofs.Olds.{Olding, old_start, old_others, old_once, old_last, old_was_seen, old_skip, old_room}
-use Rattle.supertype_walk.proofs.Olds.{old_less, old_nothing, old_nodes, old_count, old_next, old_end}
-use Rattle.supertype_walk.proofs.Orders.{fills_is, was_nothing, was_apart, was_joined, told_is, fills_front}
-use Rattle.supertype_walk.proofs.Orders.{fills_is, zip_in_place, run_as, sizes_as, room_as, places_as, zip_as}
-use Rattle.supertype_walk.proofs.Orders.{never_apart, run_as, sizes_as, room_as, zip_as}
-use Rattle.supertype_walk.proofs.Orders.{over, run_kept, run_turned, right_longer, left_longer, zip_decides}
-use Rattle.supertype_walk.proofs.Orders.{zip_ends, one_order, all_distinct, union_decides, union_turned}
-use Rattle.supertype_walk.proofs.Parts.{root_fits, wraps_kind, list_kind, inner_is, inner_nodes_lem, inner_in, struct_is}
-use Rattle.supertype_walk.proofs.Parts.{struct_nodes, struct_in, first_in, first_is, first_nodes}
-use Rattle.supertype_walk.proofs.Told.{joins_is, held_same, held_other, right_room}
-use Rattle.supertype_walk.proofs.Told.{joins_is, held_same}
-use Rattle.supertype_walk.proofs.Told.{room_kept, right_room}
-use Rattle.supertype_walk.proofs.Told.{under_some, under_none, join_nodes, room_kept}
-use Rattle.supertype_walk.proofs.Told.{under_some, under_none, name_nodes, name_room}
-use Rattle.supertype_walk.proofs.Zips.{zip_left, zip_right, zip_room, zip_less, zip_apart, zip_nothing, zip_nodes}
-use Rattle.supertype_walk.proofs.Zips.{zip_next, zip_end_lem, zip_again, zip_on_lem}
+use Rattle.supertype_walk.proofs.Each.{Eaching, each_end, each_field_lem, each_less, each_next, each_nodes, each_nothing, each_room, each_start}
+use Rattle.supertype_walk.proofs.Fed.{copied_in, copied_nodes, copied_room, copied_type, fed_held, fed_none, found_less, found_room, name_whole, none_left, past_less, past_on, past_room, past_run, place_at, place_missing, stays}
+use Rattle.supertype_walk.proofs.Joined.{arm_of, decided, each_room as joined_each_room, fields_room, has_parts, joins_each_left, joins_each_right, joins_fields, joins_first_left, joins_first_right, joins_left, joins_node, joins_nothing, joins_right, joins_string, joins_string_list, joins_under, joins_within_left, joins_within_right, left_room, less_room, node_room, place_args, place_kinds, under_room}
+use Rattle.supertype_walk.proofs.Merged.{merged, merged_end, merged_names, new_apart, new_nothing as merged_new_nothing, new_room, old_apart, old_end as merged_old_end, old_nothing as merged_old_nothing}
+use Rattle.supertype_walk.proofs.News.{Newing, new_count, new_end, new_less, new_named_room, new_next, new_nodes, new_nothing, new_once, new_others, new_skip, new_start, new_unseen}
+use Rattle.supertype_walk.proofs.Olds.{Olding, old_count, old_end, old_last, old_less, old_next, old_nodes, old_nothing, old_once, old_others, old_room, old_skip, old_start, old_was_seen}
+use Rattle.supertype_walk.proofs.Orders.{all_distinct, fills_front, fills_is, left_longer, never_apart, one_order, over, places_as, right_longer, room_as, run_as, run_kept, run_turned, sizes_as, told_is, union_decides, union_turned, was_apart, was_joined, was_nothing, zip_as, zip_decides, zip_ends, zip_in_place}
+use Rattle.supertype_walk.proofs.Parts.{first_in, first_is, first_nodes, inner_in, inner_is, inner_nodes_lem, list_kind, root_fits, struct_in, struct_is, struct_nodes, wraps_kind}
+use Rattle.supertype_walk.proofs.Told.{held_other, held_same, join_nodes, joins_is, name_nodes, name_room, right_room, room_kept, under_none, under_some}
+use Rattle.supertype_walk.proofs.Zips.{zip_again, zip_apart, zip_end_lem, zip_left, zip_less, zip_next, zip_nodes, zip_nothing, zip_on_lem, zip_right, zip_room}
 use Rattle.supertype_walk.specs.Going.{Zipping}
-use Rattle.supertype_walk.specs.Room.{get_supertype}
-use Rattle.supertype_walk.specs.Room.{held_at}
+use Rattle.supertype_walk.specs.Room.{get_supertype, held_at}
 use borrow.Author.Rules.{rules}
-use mathlib.Core.Path.{refl, ◌∙◌}
-use mathlib.Core.Path.{sym, ap, ◌∙◌}
-use mathlib.Core.Path.{sym, ◌∙◌}
-use mathlib.Core.Path.{◌∙◌}
-use mathlib.Core.Path.{◌≡◌, refl, sym, ◌∙◌}
+use mathlib.Core.Path.{ap, refl, sym, ◌∙◌, ◌≡◌}
 use native.Mathlib.Omega.{arith}
 use Rattle.supertype_walk.proofs.walk.+joins.Given as goal
 
