@@ -17,7 +17,7 @@ use Rattle.supertype_nested.proofs.Steps.{tree_fair}
 use Rattle.supertype_place.specs.declared.node.Joined.{Joined}
 use Rattle.supertype_place.specs.declared.node.Filled.{Filled}
 use Rattle.supertype_place.specs.Place.{type_in, TypeIn}
-use Rattle.supertype_place.specs.Written.{RoomAt, Nodes, type_nodes, headed, Joins, Fills, ClosedOf}
+use Rattle.supertype_place.specs.Written.{RoomAt, type_nodes, headed, Joins, Fills, ClosedOf}
 use Rattle.supertype_place.proofs.Writes.{not_yet}
 use Rattle.supertype_step.specs.Decided.{either_fields, above, first, each, run_step, HasParts, IsOver, is_list, is_array}
 use Rattle.supertype_step.specs.Decided.{Decided, DecidedBy}

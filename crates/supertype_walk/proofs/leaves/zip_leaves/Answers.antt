@@ -1,9 +1,7 @@
 -- `supertype_walk::leaves::zip_leaves` meets its contract. Assumes nothing.
 use mathlib.Core.Path.{◌∙◌}
-use Prim.Native.Nat.{◌-◌}
 use native.Mathlib.Omega.{arith}
-use Rattle.supertype_step.specs.Decided.{options_of}
-use Rattle.supertype_walk.proofs.Leads.{Leads, lead_start, lead_left, lead_right, lead_next, leaf_fits_lem}
+use Rattle.supertype_walk.proofs.Leads.{lead_start, lead_left, lead_right, lead_next, leaf_fits_lem}
 use borrow.Author.Rules.{rules}
 use Rattle.supertype_walk.proofs.leaves.zip_leaves.Goals as goal
 
