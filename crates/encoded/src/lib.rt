@@ -33,7 +33,7 @@ impl Encoding {
 }
 
 // What encoding answers: the number of bytes written.
-#[derive(Drop)]
+#[derive(Clone, Copy)]
 pub enum Encoded {
     Bytes(usize),
     Refused(Error),
