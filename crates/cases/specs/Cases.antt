@@ -3,7 +3,8 @@
 -- stored sheet; and what document 02's requests work out. Each row is its place, what is asked and the answer: `case n`
 -- is of the corner n, `refusal n` is a call that is refused by n, `not_refused` a call that is not refused, and
 -- `requested n` is of the request n. Assumes nothing: these are definitions.
-use Rattle.std.specs.Prelude.{◌≡◌, Bool, true, false, cond, ◌&&◌, ℕ, ◌+◌, ◌-◌, ◌*◌, ◌^◌, ℤ, pos, negsuc, neg_ℤ, replicate}
+use Rattle.std.specs.Prelude.{◌≡◌, Bool, true, false, cond, ◌&&◌, ℕ, ◌+◌, ◌-◌, ◌*◌, ◌^◌, ℤ, pos, negsuc, neg_ℤ}
+use Rattle.std.specs.Prelude.{replicate}
 use mathlib.Core.List.{List, [], ◌∷◌, ◌++◌, map, flatten}
 use Rattle.std.proofs.Math.Option.{none, some}
 use Rattle.flat.specs.Kind

@@ -1,7 +1,6 @@
 -- `flat::accepts` meets its contract: one plain leaf is scan_accepts. Assumes nothing.
 use mathlib.Core.Path.{sym, ap₂, ◌∙◌}
 use lib.Dec.{lit≤}
-use borrow.Author.Rules.{rules}
 use Rattle.flat.specs.Scan.{scan_accepts}
 use Rattle.flat.proofs.Positions.{rest}
 use Rattle.flat.proofs.Scanned.{plain_told}

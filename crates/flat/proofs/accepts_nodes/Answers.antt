@@ -1,7 +1,6 @@
 -- `flat::accepts_nodes` meets its contract. Assumes nothing.
 use mathlib.Core.Path.{◌∙◌}
 use native.Mathlib.Omega.{arith}
-use borrow.Author.Rules.{rules}
 use Rattle.flat.proofs.Scanned.{uneven_told, many_told, scan_told}
 use Rattle.flat.proofs.accepts_nodes.Goals as goal
 

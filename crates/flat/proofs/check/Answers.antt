@@ -1,6 +1,5 @@
 -- `flat::check` meets its contract: what the scan accepts is a type. Assumes nothing.
 use mathlib.Core.Path.{sym, ap, ◌∙◌}
-use borrow.Author.Rules.{rules}
 use Rattle.flat.specs.Reading.{checked_of}
 use Rattle.flat.proofs.Positions.{rest}
 use Rattle.flat.proofs.Scanned.{accepted_passed}

@@ -1,7 +1,6 @@
 -- `flat::is_plain` meets its contract. Assumes nothing.
 use mathlib.Core.Path.{◌∙◌}
 use native.Mathlib.Omega.{arith}
-use borrow.Author.Rules.{rules}
 use Rattle.flat.proofs.Plain.{kinds_told, args_told, leaf_told}
 use Rattle.flat.proofs.is_plain.Goals as goal
 

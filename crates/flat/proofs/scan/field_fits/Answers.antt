@@ -1,5 +1,4 @@
 -- `flat::scan::field_fits` meets its contract. Assumes nothing.
-use borrow.Author.Rules.{rules}
 use borrow.Author.Tests.{ne_eqb}
 use Rattle.flat.specs.Scan.{field_fits}
 use Rattle.flat.proofs.scan.field_fits.Goals as goal

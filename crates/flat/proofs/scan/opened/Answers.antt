@@ -1,6 +1,5 @@
 -- `flat::scan::opened` meets its contract. Assumes nothing.
 use native.Mathlib.Omega.{arith}
-use borrow.Author.Rules.{rules}
 use Rattle.flat.proofs.States.{settled_owed, settled_within, first_opened, next_opened}
 use Rattle.flat.proofs.scan.opened.Goals as goal
 

@@ -1,6 +1,5 @@
 -- `flat::scan::type_fits` meets its contract. Assumes nothing.
 use native.Mathlib.Omega.{arith}
-use borrow.Author.Rules.{rules}
 use borrow.Author.Tests.{eq-eqb}
 use Rattle.flat.specs.Scan.{type_fits}
 use Rattle.flat.proofs.Scanning.{no_field, zero_leaf}

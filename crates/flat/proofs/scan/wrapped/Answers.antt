@@ -1,7 +1,6 @@
 -- `flat::scan::wrapped` meets its contract. Assumes nothing.
 use native.Mathlib.Omega.{arith}
 use native.Mathlib.Numerals.{add-one}
-use borrow.Author.Rules.{rules}
 use Rattle.flat.specs.Scan.{wrapped}
 use Rattle.flat.proofs.States.{settled_within}
 use Rattle.flat.proofs.scan.wrapped.Goals as goal

@@ -1,6 +1,6 @@
 -- The check's walk: `node_span` and `field_span` call each other. The measure is the number of nodes in the arrays that
 -- a member is handed. Each call hands on fewer. Assumes nothing.
-use Rattle.std.proofs.Common.{ℕ, length}
+use Rattle.std.proofs.Common.{length}
 use Rattle.flat.proofs.Spans.{SpansAlong}
 use Rattle.flat.proofs.span.+field_span_node_span.Given as goal
 

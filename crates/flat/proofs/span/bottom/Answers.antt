@@ -1,9 +1,6 @@
 -- `flat::span::bottom` meets its contract: the Lists and Arrays seen so far, and those to come. Assumes nothing.
-use Prim.Native.Nat.{◌-◌}
 use native.Mathlib.Omega.{arith}
-use lib.ListN.{length}
-use borrow.Author.Rules.{rules}
-use Rattle.flat.proofs.Spans.{WrappersSeen, none_seen, list_seen, array_seen, bad_list, no_wrapper, wrappers_end}
+use Rattle.flat.proofs.Spans.{none_seen, list_seen, array_seen, bad_list, no_wrapper, wrappers_end}
 use Rattle.flat.proofs.span.bottom.Goals as goal
 
 pub loop-at-init : goal.loop-at-init
@@ -23,7 +20,7 @@ pub loop-at-preserved : goal.loop-at-preserved
 loop-at-preserved c = array_seen c.loop-at.invariant (omega arith) c.in-29.is
 
 pub returns-in_default : goal.returns-in_default
-returns-in_default c = no_wrapper c.loop-at.invariant (omega arith) c.in_default.in_default-own.rest.0.1 c.in_default.in_default-own.rest.1
+returns-in_default c = no_wrapper c.loop-at.invariant (omega arith) (omega arith) (omega arith)
 
 pub returns : goal.returns
 returns c = wrappers_end c.loop-at.invariant c.loop-at-test.false

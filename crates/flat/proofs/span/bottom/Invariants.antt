@@ -1,9 +1,7 @@
 -- `flat::span::bottom` meets its contract: the Lists and Arrays seen so far, and those to come. Assumes nothing.
 use Prim.Native.Nat.{◌-◌}
-use native.Mathlib.Omega.{arith}
 use lib.ListN.{length}
-use borrow.Author.Rules.{rules}
-use Rattle.flat.proofs.Spans.{WrappersSeen, none_seen, list_seen, array_seen, bad_list, no_wrapper, wrappers_end}
+use Rattle.flat.proofs.Spans.{WrappersSeen}
 use Rattle.flat.proofs.span.bottom.Given as goal
 
 abbrev pub invariant-loop-at : goal.invariant-loop-at
