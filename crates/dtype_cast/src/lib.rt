@@ -76,7 +76,7 @@ pub fn checked_cast(
         let to = type_at to_kinds.now to_args.now in
         result ≡ verdict (can_cast_to from to) }
 {
-    if scan::all_yes_lem(from_kinds, from_args, to_kinds, to_args) {
+    if scan::all_yes(from_kinds, from_args, to_kinds, to_args) {
         return Verdict::Yes;
     }
     walk_verdict(from_kinds, from_args, to_kinds, to_args)
@@ -97,7 +97,7 @@ pub fn can_cast_to(
     match flat::check(from_kinds, from_args) {
         Checked::Valid => match flat::check(to_kinds, to_args) {
             Checked::Valid => {
-                if scan::all_yes_lem(from_kinds, from_args, to_kinds, to_args) {
+                if scan::all_yes(from_kinds, from_args, to_kinds, to_args) {
                     return Verdict::Yes;
                 }
                 walk_verdict(from_kinds, from_args, to_kinds, to_args)

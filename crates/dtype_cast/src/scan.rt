@@ -21,7 +21,7 @@ pub fn node_yes(k: u8, a: u64, l: u8, b: u64) -> bool
 }
 
 // Whether there are as many nodes on either side, and each two say yes.
-pub fn all_yes_lem(from_kinds: &[u8], from_args: &[u64], to_kinds: &[u8], to_args: &[u64]) -> bool
+pub fn all_yes(from_kinds: &[u8], from_args: &[u64], to_kinds: &[u8], to_args: &[u64]) -> bool
     requires from_kinds_len { length from_kinds.now ≡ length from_args.now }
     requires to_kinds_len { length to_kinds.now ≡ length to_args.now }
     ensures { let ks = from_kinds.now in

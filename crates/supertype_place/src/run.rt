@@ -71,7 +71,7 @@ pub fn last_of(kinds: &[u8], args: &[u64], held: usize, at: usize, count: u64, n
 }
 
 // Whether the names of two runs are the same at each place.
-pub fn in_place_lem(
+pub fn in_place(
     lk: &[u8],
     la: &[u64],
     at: usize,

@@ -261,7 +261,7 @@ fn fields(
     if m != n {
         return merge(i, lk, la, at, m, rk, ra, by, n, ok, oa, to);
     }
-    if run::in_place_lem(lk, la, at, rk, ra, by, m) {
+    if run::in_place(lk, la, at, rk, ra, by, m) {
         return zip(i, lk, la, at, rk, ra, by, m, ok, oa, to);
     }
     merge(i, lk, la, at, m, rk, ra, by, n, ok, oa, to)

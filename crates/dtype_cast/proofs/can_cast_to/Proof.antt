@@ -31,7 +31,7 @@ returns c =
     let from = (from-passed two.before.before.before).proof in
     let to = (to-passed two).proof in
     checked_verdict from to from.reads to.reads
-    (scanned from.valid to.valid c.before.all_yes_lem.ensures c.if1.true)
+    (scanned from.valid to.valid c.before.all_yes.ensures c.if1.true)
 
 returns-2 : tie.Need-returns-2
 returns-2 c =

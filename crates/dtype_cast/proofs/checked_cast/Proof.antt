@@ -8,7 +8,7 @@ returns : tie.Need-returns
 returns c =
     let a = c.before in
     let s = a.before.before.before.before.before in
-    scanned s.requires.0 s.requires.1 a.all_yes_lem.ensures c.if1.true
+    scanned s.requires.0 s.requires.1 a.all_yes.ensures c.if1.true
 
 pub checked-cast-spec : {M : Type 1} → statement M
 checked-cast-spec =

@@ -1,4 +1,4 @@
--- `dtype_cast::scan::all_yes_lem` meets its contract: what is left after i nodes decides. Assumes nothing.
+-- `dtype_cast::scan::all_yes` meets its contract: what is left after i nodes decides. Assumes nothing.
 use mathlib.Core.Path.{sym, ◌∙◌}
 use Prim.Native.Nat.{◌-◌}
 use native.Mathlib.Omega.{arith}
@@ -6,8 +6,8 @@ use lib.ListN.{length}
 use borrow.Author.Tests.{not-true, not-false}
 use borrow.Author.Rules.{rules}
 use Rattle.dtype_cast.proofs.Scans.{YesSoFar, other_length, scan_start, scan_on, scan_stop, scan_end}
-use Rattle.dtype_cast.proofs.scan.all_yes_lem.Statement.{statement}
-use Rattle.dtype_cast.proofs.scan.all_yes_lem.Tie as tie
+use Rattle.dtype_cast.proofs.scan.all_yes.Statement.{statement}
+use Rattle.dtype_cast.proofs.scan.all_yes.Tie as tie
 
 abbrev invariant-loop : tie.invariant-loop
 invariant-loop from-kinds from-args to-kinds to-args i₀ i = YesSoFar from-kinds from-args to-kinds to-args i

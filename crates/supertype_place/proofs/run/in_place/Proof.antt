@@ -1,10 +1,10 @@
--- `supertype_place::run::in_place_lem` meets its contract. Assumes nothing.
+-- `supertype_place::run::in_place` meets its contract. Assumes nothing.
 use native.Mathlib.Omega.{arith}
 use Rattle.supertype_place.proofs.Places.{field_in}
 use Rattle.supertype_place.proofs.Seeks.{Along, along_start, along_next, along_stop, along_end}
 use borrow.Author.Rules.{rules}
-use Rattle.supertype_place.proofs.run.in_place_lem.Statement.{statement}
-use Rattle.supertype_place.proofs.run.in_place_lem.Tie as tie
+use Rattle.supertype_place.proofs.run.in_place.Statement.{statement}
+use Rattle.supertype_place.proofs.run.in_place.Tie as tie
 
 abbrev invariant-loop : tie.invariant-loop
 invariant-loop lk la at rk ra by count here₀ there₀ left₀ here there left = Along count at by lk la rk ra here there left

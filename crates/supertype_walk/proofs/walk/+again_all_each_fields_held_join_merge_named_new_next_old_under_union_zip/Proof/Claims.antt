@@ -60,7 +60,7 @@ use Rattle.supertype_place.proofs.node.one.Reads as one-reads
 use Rattle.supertype_place.proofs.node.put.Reads as put_reads
 use Rattle.supertype_place.proofs.node.whole.Reads as whole-reads
 use Rattle.supertype_place.proofs.run.first_of.Reads as first-of-reads
-use Rattle.supertype_place.proofs.run.in_place_lem.Reads as in_place_reads
+use Rattle.supertype_place.proofs.run.in_place.Reads as in_place_reads
 use Rattle.supertype_place.proofs.run.same.Reads as same_Reads
 use Rattle.supertype_step.proofs.decide.Reads as decide-reads
 

@@ -79,7 +79,7 @@ fields-returns-2 t c =
     let e = sym if1'.false in
     let many = run_count v ∙ if1'.false ∙ sym (run_count u) in
     fills_is (zip_in_place c' fs gs many (tree_fair i i)
-    (sym (places_as _ _ e by ks xs fs) ∙ sym c.before.before.before.before.before.before.before.before.in_place_lem.ensures ∙ c.before.before.before.before.before.before.before.if2.true))
+    (sym (places_as _ _ e by ks xs fs) ∙ sym c.before.before.before.before.before.before.before.before.in_place.ensures ∙ c.before.before.before.before.before.before.before.if2.true))
     (zip_as _ _ e by ks xs c' fs c.before.before.before.before.zip.ensures)
 
 pub fields-merge-requires-2 : (t : ℕ) → fields-lts.Need-merge-requires-2 (fields-claims t) (fields_at_lem t) fields.Post
@@ -95,7 +95,7 @@ fields-merge-requires-2 t c κs =
         s.requires.1.0,
         (
           (λ d. sym (places_as _ _ e by ks xs fs) ∙ sym
-              c.before.before.before.in_place_lem.ensures ∙ c.before.before.if2.false),
+              c.before.before.before.in_place.ensures ∙ c.before.before.if2.false),
           s.requires.1.1,
         ),
       ),
