@@ -1,4 +1,6 @@
 // The C entry points, one line each: a call of a proved function, whose answer is given as two numbers.
+#![tactic(auto)]
+
 mod build;
 mod channel;
 mod flat_type;

@@ -1,5 +1,7 @@
 // The worked cases of document 01 and of the requests: one table over all the definitions (specs/Cases.antt), and one
 // claim.
+#![tactic(auto)]
+
 ghost use Rattle.cases.specs.Cases.{CasesHold};
 
 use channels::ChannelTypes;

@@ -1,5 +1,7 @@
 // The type of each channel, document 01's season record: a column's type is merged into a channel (document 01's offer)
 // without ever losing a number.
+#![tactic(auto)]
+
 mod limits;
 
 ghost use Rattle.std.specs.Prelude.{◌≡◌, ◌||◌, eqb};
@@ -22,7 +24,7 @@ pub struct ChannelTypes {
 }
 
 // What a merge answers: the code that its channel now holds, or the refusal.
-#[derive(Drop)]
+#[derive(Clone, Copy)]
 pub enum Merged {
     Held(u8),
     Refused(Error),

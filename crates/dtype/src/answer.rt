@@ -4,7 +4,7 @@ ghost use Rattle.dtype.specs.Answer.{yes_no, answer_number, answer_value};
 
 use flat::error::Error;
 
-#[derive(Drop)]
+#[derive(Clone, Copy)]
 pub enum Answer {
     No,
     Yes,

@@ -1,6 +1,8 @@
 // src/datatypes of the crate: the predicates of a flat type (dtype.rs), units of time, and what every rule of dtype.rs
 // rests on. Equality, inner types, casts and the types that are built anew have a crate each (dtype_…), so that a proof
 // stays quick to check.
+#![tactic(auto)]
+
 pub mod answer;
 pub mod kind;
 pub mod node;

@@ -4,7 +4,7 @@ ghost use Rattle.dtype.specs.TimeUnit.{unit_number, unit_of, to_ascii, unit_answ
 
 use flat::error::Error;
 
-#[derive(Drop)]
+#[derive(Clone, Copy)]
 pub enum TimeUnit {
     Nanoseconds,
     Microseconds,
@@ -12,7 +12,7 @@ pub enum TimeUnit {
 }
 
 // What a number is as a unit: no other number than 0, 1 and 2 is one, which is refusal 3.
-#[derive(Drop)]
+#[derive(Clone, Copy)]
 pub enum Unit {
     Of(TimeUnit),
     Refused(Error),

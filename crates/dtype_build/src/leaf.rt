@@ -8,7 +8,7 @@ use flat::kind::Kind;
 use supertype_numbers::dyn_int::materialize_dyn_int;
 
 // The form that a type is built in: the answer of `to_physical`, or that of `materialize_unknown`.
-#[derive(Drop)]
+#[derive(Clone, Copy)]
 pub enum Form {
     Physical,
     Materialized,

@@ -1,4 +1,6 @@
 // Types that are built anew: `materialize_unknown` and `to_physical` of dtype.rs.
+#![tactic(auto)]
+
 pub mod leaf;
 pub mod walk;
 

@@ -1,4 +1,6 @@
 // Which casts make sense: `can_cast_to` of dtype.rs.
+#![tactic(auto)]
+
 mod roots;
 pub mod scan;
 mod walk;
@@ -14,7 +16,7 @@ use flat::{Checked, Flat};
 use walk::Cast;
 
 // What `can_cast_to` answers: whether the cast makes sense, or that the source is not sure.
-#[derive(Drop)]
+#[derive(Clone, Copy)]
 pub enum Verdict {
     No,
     Yes,

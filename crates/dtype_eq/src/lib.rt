@@ -1,4 +1,6 @@
 // Equality of flat types, and whether a type contains another: `PartialEq` and `contains_dtype_recursive` of dtype.rs.
+#![tactic(auto)]
+
 pub mod nodes;
 
 ghost use Rattle.std.specs.Prelude.{◌≡◌};

@@ -6,7 +6,7 @@ use mathlib.Core.Option.{Option, none, some}
 use Prim.Native.Nat.{ℕ, ◌+◌, ◌-◌, ◌*◌, ◌≤◌}
 use native.Mathlib.Omega.{arith}
 use borrow.Author.Tests.{ne_eqb}
-use borrow.Rule.Slice.PartAt.{sl_part}
+use borrow.Rule.Slice.PartAt.{sl_partˢ}
 use borrow.Author.Rules.{part_to_end}
 use denote.Ref.{Bor}
 use lib.Dec.{eqb}
@@ -71,10 +71,10 @@ module _ {f : DataType → Option DataType} {g : List ℕ → ℕ} (law : Finds 
     args_within = args_last.within
 
 -- the part of a slice that holds its last n elements
-pub end_of : {n : ℕ} {these : List ℕ} (bytes p γ : ℕ) (whole : Bor (List ℕ)) → Last n whole.now these
+pub end_of : {n : ℕ} {these : List ℕ} (bytes p : ℕ) (whole : Bor (List ℕ)) → Last n whole.now these
     → p ≡ whole.ref_ptr.1 + (length whole.now - n) * bytes
-    → EndOf bytes these whole (sl_part whole p (length whole.now - n) (length whole.now) γ)
-end_of {n} bytes p γ whole l q =
+    → EndOf bytes these whole (sl_partˢ whole p (length whole.now - n) (length whole.now))
+end_of {n} bytes p whole l q =
     record { block = refl; place = rw l.size q; shows = part_to_end whole.now (length whole.now - n) ∙ l.shows }
 
 -- where each part stands

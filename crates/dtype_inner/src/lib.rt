@@ -1,4 +1,6 @@
 // Inner and leaf types as parts of the caller's own arrays, and the shape of an Array: dtype.rs.
+#![tactic(auto)]
+
 ghost use Rattle.std.specs.Prelude.{◌≡◌, ◌≤◌, length};
 ghost use Rattle.std.proofs.Math.Option.{some};
 ghost use Rattle.flat.specs.Reading.{reading, refused};

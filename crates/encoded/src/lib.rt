@@ -1,5 +1,7 @@
 // Encoded types (document 01's stored sheets): checked, decoded to the two arrays of a flat type, and encoded from
 // them.
+#![tactic(auto)]
+
 mod bytes;
 mod round_trip;
 

@@ -1,5 +1,7 @@
 // The calls of dtype.rs on one encoded type: predicates, parts, the shape of an Array, and the forms that it is built
 // in anew.
+#![tactic(auto)]
+
 ghost use Rattle.std.specs.Prelude.{◌≡◌, ◌≤◌, length};
 ghost use Rattle.flat.specs.Reading.{type};
 ghost use Rattle.encoded.specs.Encoding.{decoding};

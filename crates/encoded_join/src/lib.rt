@@ -1,4 +1,6 @@
 // The calls that join two encoded types, and that merge one into a channel, by their roots.
+#![tactic(auto)]
+
 ghost use Rattle.std.specs.Prelude.{◌≡◌, length};
 ghost use Rattle.encoded.specs.Encoding.{decoding};
 ghost use Rattle.encoded.specs.Found.{fitting_found_bytes, EncodesFound};

@@ -1,5 +1,7 @@
 // The calls of dtype.rs on two encoded types. Each type is checked once, and its arguments are read to an array that is
 // lent for them.
+#![tactic(auto)]
+
 ghost use Rattle.std.specs.Prelude.{◌≡◌, ◌&&◌, leb, length};
 ghost use Rattle.std.proofs.Math.Option.{some};
 ghost use Rattle.flat.specs.Walk.{type_at};

@@ -1,4 +1,6 @@
 // Flat types: a type is a tree in preorder in two parallel arrays, kinds and arguments.
+#![tactic(auto)]
+
 pub mod argument;
 pub mod error;
 pub mod kind;
@@ -32,7 +34,7 @@ impl Flat {
 }
 
 // What a check says of a flat type.
-#[derive(Drop)]
+#[derive(Clone, Copy)]
 pub enum Checked {
     Valid,
     Refused(Error),
@@ -61,7 +63,7 @@ impl Checked {
 }
 
 // What a call answers that writes a type to two lent arrays: the number of nodes written.
-#[derive(Drop)]
+#[derive(Clone, Copy)]
 pub enum Written {
     Nodes(usize),
     Refused(Error),
@@ -91,7 +93,7 @@ impl Written {
 
 // What a call answers whose result may be the source's None: Some, with how many nodes or bytes it has, None, or the
 // refusal.
-#[derive(Drop)]
+#[derive(Clone, Copy)]
 pub enum Optional {
     Some(usize),
     Nothing,

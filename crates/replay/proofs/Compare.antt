@@ -1,14 +1,9 @@
 -- Comparing lists number by number, and an answer part by part. Assumes nothing.
-use Prim.Native.Nat.{ℕ, ◌+◌, ◌-◌, ◌≤◌, ◌<◌}
-use native.Mathlib.Numerals.{add-one}
-use native.Mathlib.Omega.{arith}
-use mathlib.Core.Path.{◌≡◌, refl, sym, ap, ◌∙◌}
-use mathlib.Core.Bool.{Bool, true, false, not, true≢false}
-use mathlib.Core.List.{List, [], ◌∷◌, ◌++◌}
-use lib.Dec.{eqb}
-use lib.ListN.{length, get_or, take, drop, length-append, take-append-drop}
-use lib.Seq.{length-take-le, take-suc, take_all, take-append_seam, drop-append_seam, drop-drop}
-use borrow.Author.Tests.{not-true, not-false, eqb-true, eq-eqb}
+use Rattle.std.proofs.Common.{◌≡◌, ℕ, ◌+◌, ◌-◌, ◌≤◌, ◌<◌, ◌∙◌, Bool, true, false, not, List, [], ◌∷◌, ◌++◌, length, get_or, take, drop, sym, ap, arith, length-append}
+use Rattle.std.proofs.Math.Dec.{eqb}
+use Rattle.std.proofs.Math.Seq.{take-append_seam, drop-append_seam}
+use Rattle.std.proofs.lemmas.Bool.{not-true, not-false, eqb-true, eq-eqb, true≢false}
+use Rattle.std.proofs.lemmas.List.{take-append-drop, drop-drop}
 use borrow.Author.Rules.{part_to_end}
 use Rattle.replay.specs.Answer.{Decides, record_of}
 
@@ -29,39 +24,11 @@ moved d f g = record { proves = λ e. f (d.proves e); follows = λ q. d.follows 
 
 -- ---- two lists, number by number
 
-pub other_length : (a b : List ℕ) → (length a ≡ length b → ⊥) → Decides false (a ≡ b)
-other_length a b h = denied (λ e. h (ap length e))
-
 -- Before index i of two lists of one length: the numbers before it are the same.
 pub record SameTo (a b : List ℕ) (i : ℕ) : Type 0 where
   pub even : length a ≡ length b
   pub within : i ≤ length a
   pub same : take i a ≡ take i b
-
-module _ {a b : List ℕ} {i : ℕ} (s : SameTo a b i) where
-  pub same_on : i < length a → get_or a i 0 ≡ get_or b i 0 → SameTo a b (i + 1)
-  same_on h e = record {
-    even = s.even;
-    within = omega arith;
-    same = rw (add-one, take-suc a i 0, take-suc b i 0 (omega (arith, s.even))) (λ j. s.same j ++ (e j ∷ []));
-  }
-
-  pub same_stop : (get_or a i 0 ≡ get_or b i 0 → ⊥) → Decides false (a ≡ b)
-  same_stop n = denied (λ e. n (ap (λ (l : List ℕ). get_or l i 0) e))
-
-  -- the second list's number was handed on as x
-  module _ {x : ℕ} (e : x ≡ get_or b i 0) where
-    pub same_on_as : i < length a → get_or a i 0 ≡ x → SameTo a b (i + 1)
-    same_on_as h q = same_on h (q ∙ e)
-
-    pub same_stop_as : (get_or a i 0 ≡ x → ⊥) → Decides false (a ≡ b)
-    same_stop_as n = same_stop (λ q. n (q ∙ sym e))
-
-  pub same_all : length a ≤ i → Decides true (a ≡ b)
-  same_all h = record {
-    proves = λ _. sym (take_all i a h) ∙ s.same ∙ take_all i b (omega (arith, s.even));
-    follows = λ _. refl;
-  }
 
 -- ---- two numbers as an answer without a result
 
@@ -86,9 +53,6 @@ reply_value (a ∷ b ∷ []) number value n e = record {
 reply_value (a ∷ b ∷ d ∷ l) number value n e = absurd (omega arith)
 
 -- ---- an answer, in the parts that the code makes of it
-
-pub first_two : (recorded : List ℕ) → 2 ≤ length recorded → 2 ≡ length (take 2 recorded)
-first_two recorded h = sym (length-take-le 2 recorded h)
 
 module _ (recorded : List ℕ) (number value : ℕ) (ks xs : List ℕ) where
   abbrev reply_part : List ℕ

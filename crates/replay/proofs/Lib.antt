@@ -1,1 +1,2 @@
 mod Compare
+mod Input

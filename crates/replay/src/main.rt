@@ -4,18 +4,22 @@
 // (crates/replay/stdin); host/differential/src/answers.rs has the format. A call that is answered otherwise here, and a
 // line that can't be read, is told by the number of its line. Some recorded answers were damaged on purpose, of each
 // entry point some: crates/replay/stdout names them all (`--expect 7500` wrote it), so that a replay that agrees with
-// everything fails.
+// everything fails. A read or a write that fails ends the program with its error.
+#![tactic(auto)]
+
 mod answer;
 mod calls;
 mod output;
 mod parts;
 mod reader;
 
-ghost use Rattle.std.specs.Prelude.{◌≤◌, length};
+ghost use Rattle.std.specs.Prelude.{◌≡◌, ◌≤◌, length, take, IfOk, IfSome};
 
-use libc::{STDIN_FILENO, STDOUT_FILENO};
 use parts::cut;
 use reader::{NUMBERS, read_numbers};
+use std::alloc::Global;
+use std::io;
+use std::io::Read;
 
 // The most bytes of input. More are not read, and then the last line is missing.
 const BYTES: usize = 524288;
@@ -66,35 +70,27 @@ fn line_end(text: &[u8], from: usize) -> usize
     at
 }
 
-fn say_differs(line: u64) {
-    io::write_all(STDOUT_FILENO, b"line ");
-    io::print_decimal(STDOUT_FILENO, line);
-    io::write_all(STDOUT_FILENO, b" differs\n");
+fn say_differs(rt: &impl Print, line: u64) -> io::Result<()> {
+    println!(rt; "line {line} differs")
 }
 
-fn say_all(answers: u64, differ: u64) {
-    io::print_decimal(STDOUT_FILENO, answers);
-    io::write_all(STDOUT_FILENO, b" answers replayed, ");
-    io::print_decimal(STDOUT_FILENO, differ);
-    io::write_all(STDOUT_FILENO, b" differ\n");
+fn say_all(rt: &impl Print, answers: u64, differ: u64) -> io::Result<()> {
+    println!(rt; "{answers} answers replayed, {differ} differ")
 }
 
-fn replay(text: &[u8]) {
+fn replay(rt: &impl Print, text: &[u8]) -> io::Result<()> {
     let mut from = 0;
     let mut answers = 0;
     let mut differ = 0;
     while from < text.len() {
         let end = line_end(text, from);
         match replay_line(&text[from..end]) {
-            Line::Last => {
-                say_all(answers, differ);
-                return;
-            }
+            Line::Last => return say_all(rt, answers, differ),
             Line::Same => answers += 1,
             Line::Differs => {
                 answers += 1;
                 differ += 1;
-                say_differs(answers);
+                say_differs(rt, answers)?;
             }
         }
         if end == text.len() {
@@ -102,11 +98,19 @@ fn replay(text: &[u8]) {
         }
         from = end + 1;
     }
-    io::write_all(STDOUT_FILENO, b"the last line is missing\n");
+    println!(rt; "the last line is missing")
 }
 
-fn main() {
-    let mut text = [0u8; BYTES];
-    let n = io::read_full(STDIN_FILENO, &mut text);
-    replay(&text[..n]);
+// The bytes of the input, of which no more than BYTES are read.
+fn read_text<R: Read + Drop>(alloc: Global, input: R) -> io::Result<Vec<u8>>
+    ensures { IfOk result (λ text. IfSome (R.remaining input) (λ bytes. text.items ≡ take BYTES bytes)) }
+{
+    let mut text = Vec::new(alloc);
+    input.take(BYTES as u64).read_to_end(&mut text)?;
+    Ok(text)
+}
+
+fn main(rt: HostRuntime) -> io::Result<()> {
+    let text = read_text(rt.alloc(), rt.stdin())?;
+    replay(&rt, &text)
 }

@@ -83,7 +83,7 @@ fn is_written(
 ) -> bool {
     let kinds = [KIND; NODES];
     let args = [ARG; NODES];
-    if !check::same(rest(out_kinds, nodes), rest(&kinds, nodes)) {
+    if rest(out_kinds, nodes) != rest(&kinds, nodes) {
         return false;
     }
     if !same_numbers(from(out_args, nodes), from(&args, nodes)) {

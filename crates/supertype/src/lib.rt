@@ -1,4 +1,6 @@
 // `get_supertype_with_options` of supertype.rs, on flat types.
+#![tactic(auto)]
+
 pub mod node;
 
 ghost use Rattle.std.specs.Prelude.{◌≡◌, false, length};

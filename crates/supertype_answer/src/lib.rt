@@ -1,4 +1,6 @@
 // What a call answers that joins two types.
+#![tactic(auto)]
+
 ghost use Rattle.std.specs.Prelude.{length};
 ghost use Rattle.flat.specs.Output.{fitting_found, WritesFound};
 ghost use Rattle.supertype_answer.specs.Join.{result_of};

@@ -1,4 +1,6 @@
 // `get_numeric_upcast_supertype_lossless` of supertype.rs, on flat types.
+#![tactic(auto)]
+
 pub mod upcast;
 
 ghost use Rattle.std.specs.Prelude.{◌≡◌, length};

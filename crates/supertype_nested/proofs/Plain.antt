@@ -70,6 +70,7 @@ data Has (name : ℕ) (t : DataType) : Fields → Type 0 where
 
 -- a name that is missing is another than one that is there
 other_name : (n m : ℕ) (t : DataType) (fs : Fields) → Missing n fs → Has m t fs → eqb n m ≡ false
+other_name n m t empty d h = elim h [ ]
 other_name n m t (field other u fs) d here = d.0
 other_name n m t (field other u fs) d (there h) = other_name n m t fs d.1 h
 
@@ -107,6 +108,7 @@ distinct_without m (field other u fs) d = go (eqb m other) (distinct_without m f
 
 has_without : (n m : ℕ) (t : DataType) (fs : Fields) → eqb m n ≡ false → Has n t fs → Has n t (without m fs)
 unfolding without
+has_without n m t empty d h = elim h [ ]
 has_without n m t (field other u fs) d here =
     subst (λ (b : Bool). Has n t (cond b (without m fs) (field n t (without m fs)))) (sym d) here
 has_without n m t (field other u fs) d (there h) = go (eqb m other) (has_without n m t fs d h)
@@ -159,6 +161,7 @@ module _ (c : TreeCall) (fair : Fair c) where
   named_has : (n : ℕ) (u t : DataType) (fs : Fields) → Distinct fs → Has n t fs → c t u ≡ none
       → join_named c n u fs ≡ none
   unfolding join_named
+  named_has n u t empty d h e = elim h [ ]
   named_has n u t (field other v fs) d here e =
       ap (λ (b : Bool). cond b (bind_o (join_held c t u) (λ st. join_named c n st fs)) (join_named c n u fs))
       (eq-eqb n n refl)
@@ -211,6 +214,7 @@ module _ (c : TreeCall) (fair : Fair c) where
 
   -- then the union is None
   clash_none : (fs gs : Fields) → Distinct fs → Distinct gs → Clash fs gs → union_fields c fs gs ≡ none
+  clash_none empty gs d e k = let h = k.3 in elim h [ ]
   clash_none (field m v fs) gs d e (n, t, u, here, g, q) =
       first_name n t fs gs d.0
       ∙ ap (λ (z : Option DataType). bind_o z (λ v. map_o (field n v) (union_fields c fs (without n gs))))

@@ -9,7 +9,7 @@ ghost use Rattle.supertype_numbers.specs.Decimal.{digits_of};
 use flat::kind::Kind;
 
 // A row of the table: the width in bits, and whether the type has a sign.
-#[derive(Drop)]
+#[derive(Clone, Copy)]
 pub struct IntegerType {
     pub width: u8,
     pub signed: bool,

@@ -1,4 +1,6 @@
 // Types and fields at their places in two arrays: how they are read, compared and written there.
+#![tactic(auto)]
+
 pub mod names;
 pub mod node;
 pub mod run;

@@ -1,4 +1,6 @@
 // What joining does to the whole numbers of two columns.
+#![tactic(auto)]
+
 ghost use Rattle.std.specs.Prelude.{◌≡◌, false};
 ghost use Rattle.flat.specs.Reading.{reading};
 ghost use Rattle.supertype_answer.specs.Join.{Some, node};
@@ -15,7 +17,7 @@ use supertype_numbers::integer::includes;
 
 // Whether the supertype of two integer types keeps every whole number of both; where it doesn't, whether an integer
 // type would.
-#[derive(Drop)]
+#[derive(Clone, Copy)]
 pub enum Report {
     Kept,
     Avoidable,

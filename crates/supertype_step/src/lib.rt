@@ -1,5 +1,7 @@
 // What the roots of two types decide of their supertype: the arms of `get_supertype_with_options`, its two tries in one
 // step.
+#![tactic(auto)]
+
 ghost use Rattle.std.specs.Prelude.{◌≡◌, true, ◌&&◌, ◌≤◌, ◌<◌};
 ghost use Rattle.flat.specs.Kind.{Null, String, List, Struct};
 ghost use Rattle.supertype_answer.specs.Join.{node};
@@ -14,7 +16,7 @@ use supertype::node::node_supertype;
 use supertype_answer::Common;
 
 // `SuperTypeOptions`: the flags of a call.
-#[derive(Drop)]
+#[derive(Clone, Copy)]
 pub struct Options {
     pub allow_implode_list: bool,
     pub allow_primitive_to_string: bool,

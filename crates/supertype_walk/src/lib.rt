@@ -1,4 +1,6 @@
 // `get_supertype_with_options` of supertype.rs for all types, on flat types.
+#![tactic(auto)]
+
 mod leaves;
 mod same;
 mod walk;

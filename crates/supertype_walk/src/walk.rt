@@ -25,7 +25,7 @@ use supertype_step::{Options, Step, decide};
 pub const ROOM: usize = 1024;
 
 // `get_supertype_with_options` with flags of its own, by what the two roots decide.
-#[cycle(again_all_each_fields_held_join_merge_named_new_next_old_under_union_zip)]
+#[cycle(joins)]
 pub fn join(
     o: Options,
     i: Options,
@@ -90,7 +90,7 @@ pub fn join(
 }
 
 // A node, and below it the join: of a List, of an Array, of a field.
-#[cycle(again_all_each_fields_held_join_merge_named_new_next_old_under_union_zip)]
+#[cycle(joins)]
 fn under(
     k: u8,
     v: u64,
@@ -124,7 +124,7 @@ fn under(
 }
 
 // Each field of a run with one type.
-#[cycle(again_all_each_fields_held_join_merge_named_new_next_old_under_union_zip)]
+#[cycle(joins)]
 fn each(
     i: Options,
     nk: &[u8],
@@ -181,7 +181,7 @@ fn each(
 
 // The source's loop over the fields of both: up to names that differ, or to a join that is None. The leaves at the
 // front are joined without a step into them.
-#[cycle(again_all_each_fields_held_join_merge_named_new_next_old_under_union_zip)]
+#[cycle(joins)]
 fn zip(
     i: Options,
     lk: &[u8],
@@ -232,7 +232,7 @@ fn zip(
 }
 
 // The fields of two Structs.
-#[cycle(again_all_each_fields_held_join_merge_named_new_next_old_under_union_zip)]
+#[cycle(joins)]
 fn fields(
     i: Options,
     lk: &[u8],
@@ -268,7 +268,7 @@ fn fields(
 }
 
 // The fields of two Structs by their names. The order of the two counts for as many fields with a repeated name only.
-#[cycle(again_all_each_fields_held_join_merge_named_new_next_old_under_union_zip)]
+#[cycle(joins)]
 fn merge(
     i: Options,
     lk: &[u8],
@@ -326,7 +326,7 @@ fn merge(
 }
 
 // `union_struct_fields`, the longest first.
-#[cycle(again_all_each_fields_held_join_merge_named_new_next_old_under_union_zip)]
+#[cycle(joins)]
 fn union(
     i: Options,
     lo: bool,
@@ -387,7 +387,7 @@ fn union(
 }
 
 // The names of the longest, each once, at its first place, with its last type.
-#[cycle(again_all_each_fields_held_join_merge_named_new_next_old_under_union_zip)]
+#[cycle(joins)]
 fn old(
     i: Options,
     lo: bool,
@@ -449,7 +449,7 @@ fn old(
 }
 
 // The names that only the shortest has, with their first type.
-#[cycle(again_all_each_fields_held_join_merge_named_new_next_old_under_union_zip)]
+#[cycle(joins)]
 fn new(
     i: Options,
     lo: bool,
@@ -511,7 +511,7 @@ fn new(
 }
 
 // A field: the held type with all the fields of the name.
-#[cycle(again_all_each_fields_held_join_merge_named_new_next_old_under_union_zip)]
+#[cycle(joins)]
 fn named(
     i: Options,
     name: u64,
@@ -564,7 +564,7 @@ fn named(
 }
 
 // The held type, which stands elsewhere, with all the fields of the name.
-#[cycle(again_all_each_fields_held_join_merge_named_new_next_old_under_union_zip)]
+#[cycle(joins)]
 fn all(
     i: Options,
     name: u64,
@@ -607,7 +607,7 @@ fn all(
 }
 
 // The n nodes that the lent arrays hold at the place, with all the fields of the name: one that the shortest repeats.
-#[cycle(again_all_each_fields_held_join_merge_named_new_next_old_under_union_zip)]
+#[cycle(joins)]
 fn again(
     i: Options,
     name: u64,
@@ -644,7 +644,7 @@ fn again(
 }
 
 // One field's type with the n nodes that the lent arrays hold at the place.
-#[cycle(again_all_each_fields_held_join_merge_named_new_next_old_under_union_zip)]
+#[cycle(joins)]
 fn next(
     i: Options,
     n: usize,
@@ -676,7 +676,7 @@ fn next(
 }
 
 // A field's type with the held one: the held one stays where they are equal.
-#[cycle(again_all_each_fields_held_join_merge_named_new_next_old_under_union_zip)]
+#[cycle(joins)]
 fn held(
     i: Options,
     sk: &[u8],

@@ -1,0 +1,7 @@
+-- `dtype_inner::array_leaf_dtype` meets its contract. Assumes nothing.
+use Rattle.dtype_inner.proofs.Endings.{finds_array_leaf}
+use Rattle.dtype_inner.proofs.Parts.{answers}
+use Rattle.dtype_inner.proofs.array_leaf_dtype.Goals as goal
+
+pub returns : goal.returns
+returns c = search (answers finds_array_leaf)

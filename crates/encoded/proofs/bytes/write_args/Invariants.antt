@@ -1,0 +1,14 @@
+-- `encoded::bytes::write_args` meets its contract: the first i arguments are written. Assumes nothing.
+use native.Mathlib.Omega.{arith}
+use Prim.Native.Nat.{◌≤◌, ◌-◌, ◌*◌}
+use lib.ListN.{length, length-drop}
+use borrow.Author.Rules.{part_to_end}
+use Rattle.encoded.specs.Encoding.{arg_bytes}
+use Rattle.encoded.proofs.Laws.{Copied, copied_none, copied_all, arg_bytes_length, args_next}
+use Rattle.encoded.proofs.bytes.write_args.Given as goal
+
+abbrev pub invariant-loop-i : goal.invariant-loop-i
+invariant-loop-i l = (l.i ≤ length l.args) × Copied (arg_bytes 8 l.args) l.initial.out l.out (l.i * 8)
+
+abbrev pub decreases-loop-i : goal.decreases-loop-i
+decreases-loop-i l = length l.args - l.i

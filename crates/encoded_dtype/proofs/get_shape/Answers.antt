@@ -1,0 +1,6 @@
+-- `encoded_dtype::get_shape` meets its contract. Assumes nothing.
+use Rattle.encoded.proofs.Answers.{nodes_few}
+use Rattle.encoded_dtype.proofs.get_shape.Goals as goal
+
+pub shape_in-requires-2 : goal.shape_in-requires-2
+shape_in-requires-2 c = nodes_few _ _ _

@@ -1,0 +1,81 @@
+-- The check's walk: `node_span` and `field_span` call each other. How the proof of a walk is made:
+-- * The measure is the number of nodes in the arrays that a member is handed. Each call hands on fewer.
+-- * A view of a place (`field-span-said`, `node-span-past`, `node-span-said`) tells what is known there as a record of
+--   proofs/Spans.antt. It alone reads how the place was reached.
+-- * An answer is a law of proofs/Spans.antt on such a record: one chain of `.before` leads to the place of the view.
+-- Assumes nothing.
+use native.Mathlib.Omega.{arith}
+use borrow.Author.Rules.{rules}
+use mathlib.Core.Path.{refl}
+use Prim.Native.Nat.{ℕ, ◌<◌}
+use lib.ListN.{length}
+use Rattle.flat.proofs.Spans.{SpansAlong, start, fields_done, no_level, type_call}
+use Rattle.flat.proofs.Spans.{TypeSaid, field_deep, field_done}
+use Rattle.flat.proofs.Spans.{AtBottom, at_bottom, node_deep, node_leaf, fields_call}
+use Rattle.flat.proofs.Spans.{FieldsSaid, fields_inside, node_fields, node_deeper}
+use Rattle.flat.proofs.span.+field_span_node_span.Goals as goal
+
+-- ---- the walk of fields
+pub field_span-loop-left-init : goal.field_span-loop-left-init
+field_span-loop-left-init t c = start (refl, c.requires)
+
+pub field_span-returns-then-levels-lt2 : goal.field_span-returns-then-levels-lt2
+field_span-returns-then-levels-lt2 t c = no_level c.loop-left.invariant (omega arith) c.if-levels-lt2.true
+
+pub field_span-node_span-requires : goal.field_span-node_span-requires
+field_span-node_span-requires t c =
+    let asks = type_call c.loop-left.invariant (omega arith) in (omega (arith, asks.0, c.decreases), asks.1)
+
+pub field_span-loop-left-preserved : goal.field_span-loop-left-preserved
+field_span-loop-left-preserved t c =
+    let field_span_said : TypeSaid c.loop-left.invariant c.node_span.result = record { more = omega arith; room = omega arith; says = c.node_span.ensures } in
+    field_done field_span_said c.in-Ends.is
+
+pub field_span-overflow_add-at : goal.field_span-overflow_add-at
+field_span-overflow_add-at t c = omega (arith, (field_span-loop-left-preserved t c).inside)
+
+pub field_span-returns-in-TooDeep : goal.field_span-returns-in-TooDeep
+field_span-returns-in-TooDeep t c =
+    let field_span_said : TypeSaid c.loop-left.invariant c.node_span.result = record { more = omega arith; room = omega arith; says = c.node_span.ensures } in
+    field_deep field_span_said c.in-TooDeep.is
+
+pub field_span-returns : goal.field_span-returns
+field_span-returns t c = fields_done c.loop-left.invariant (omega arith)
+
+pub node_span-returns-then-at-levels : goal.node_span-returns-then-at-levels
+node_span-returns-then-at-levels t c =
+    let node_span_past : AtBottom t c.args.levels c.args.kinds.now c.args.args.now c.bottom-at.result = at_bottom (c.decreases, c.requires) c.bottom-at.ensures.0 in
+    node_deep node_span_past c.if-at-levels.true
+
+pub node_span-returns-in-0-to-27 : goal.node_span-returns-in-0-to-27
+node_span-returns-in-0-to-27 t c =
+    let node_span_past : AtBottom t c.args.levels c.args.kinds.now c.args.args.now c.bottom-at.result = at_bottom (c.decreases, c.requires) c.bottom-at.ensures.0 in
+    node_leaf node_span_past (omega arith) c.in-0-to-27.if-kinds-at-lt28-own.true
+
+pub node_span-field_span-requires : goal.node_span-field_span-requires
+node_span-field_span-requires t c =
+    let node_span_past : AtBottom t c.args.levels c.args.kinds.now c.args.args.now c.bottom-at.result = at_bottom (c.decreases, c.requires) c.bottom-at.ensures.0 in
+    fields_call node_span_past c.in_default.if-kinds-at-lt28-own.false
+
+pub node_span-overflow_add-result : goal.node_span-overflow_add-result
+node_span-overflow_add-result t c =
+    let node_span_past : AtBottom t c.args.levels c.args.kinds.now c.args.args.now c.bottom-at.result = at_bottom (c.decreases, c.requires) c.bottom-at.ensures.0 in
+    let node_span_said : FieldsSaid node_span_past c.field_span.result = record { shallow = omega arith; struct = omega arith; says = c.field_span.ensures } in
+    omega (arith, fields_inside node_span_said c.in-Ends.is)
+
+pub node_span-returns-in-Ends : goal.node_span-returns-in-Ends
+node_span-returns-in-Ends t c =
+    let node_span_past : AtBottom t c.args.levels c.args.kinds.now c.args.args.now c.bottom-at.result = at_bottom (c.decreases, c.requires) c.bottom-at.ensures.0 in
+    let node_span_said : FieldsSaid node_span_past c.field_span.result = record { shallow = omega arith; struct = omega arith; says = c.field_span.ensures } in
+    node_fields node_span_said c.in-Ends.is
+
+pub node_span-returns-in-TooDeep : goal.node_span-returns-in-TooDeep
+node_span-returns-in-TooDeep t c =
+    let node_span_past : AtBottom t c.args.levels c.args.kinds.now c.args.args.now c.bottom-at.result = at_bottom (c.decreases, c.requires) c.bottom-at.ensures.0 in
+    let node_span_said : FieldsSaid node_span_past c.field_span.result = record { shallow = omega arith; struct = omega arith; says = c.field_span.ensures } in
+    node_deeper node_span_said c.in-TooDeep.is
+
+pub node_span-bounds-kinds-at : goal.node_span-bounds-kinds-at
+node_span-bounds-kinds-at t c =
+    let node_span_past : AtBottom t c.args.levels c.args.kinds.now c.args.args.now c.bottom-at.result = at_bottom (c.decreases, c.requires) c.bottom-at.ensures.0 in
+    search (rules, node_span_past)

@@ -1,0 +1,25 @@
+-- `supertype_arms::number::mixed` meets its contract. Assumes nothing.
+use Prim.Native.Nat.{◌+◌, max}
+use native.Mathlib.Omega.{arith}
+use borrow.Author.Rules.{rules}
+use Rattle.flat.specs.Kind.{UInt8, UInt64, UInt128, Int8, Int128, Float64}
+use Rattle.supertype_arms.specs.declared.plan.Plan.TheVariants.{Kind}
+use Rattle.supertype_arms.proofs.Areas.{right, rule}
+use Rattle.supertype_arms.proofs.number.mixed.Goals as goal
+
+pub returns-then-b-lt-INT128 : goal.returns-then-b-lt-INT128
+returns-then-b-lt-INT128 c s = rule (λ s a b. Kind Float64) UInt64 1 Int8 4 (unfold right in tt) s _ _ (omega arith)
+
+pub returns-else-b-lt-INT128 : goal.returns-else-b-lt-INT128
+returns-else-b-lt-INT128 c s = rule (λ s a b. Kind Int128) UInt64 1 Int128 1 (unfold right in tt) s _ _ (omega arith)
+
+pub returns-in-2-to-4 : goal.returns-in-2-to-4
+returns-in-2-to-4 c s =
+    rw c.larger.ensures
+    (rule (λ s a b. Kind (max (a + 6) b)) UInt8 3 Int8 5 (unfold right in tt) s _ _ (omega arith))
+
+pub returns-in_default : goal.returns-in_default
+returns-in_default c s = rule (λ s a b. Kind Int128) UInt128 1 Int8 5 (unfold right in tt) s _ _ (omega arith)
+
+pub returns-in_default-2 : goal.returns-in_default-2
+returns-in_default-2 c s = rule (λ s a b. Kind Int128) UInt128 1 Int8 5 (unfold right in tt) s _ _ (omega arith)

@@ -1,0 +1,14 @@
+-- `supertype_place::names::enter` meets its contract. Assumes nothing.
+use mathlib.Core.Path.{◌≡◌}
+use mathlib.Core.Logic.{⊎_elim}
+use native.Mathlib.Omega.{arith}
+use Rattle.supertype_place.proofs.Tables.{Entering, enter_start, enter_length, enter_end}
+use Rattle.supertype_place.proofs.Tables.{enter_field, enter_again, enter_free, enter_taken}
+use Rattle.supertype_place.proofs.names.enter.Given as goal
+
+abbrev pub invariant-loop-left : goal.invariant-loop-left
+invariant-loop-left l =
+    Entering l.count l.at l.kinds l.args l.table l.here l.left
+
+abbrev pub decreases-loop-left : goal.decreases-loop-left
+decreases-loop-left l = l.left

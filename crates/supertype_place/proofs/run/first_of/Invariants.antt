@@ -1,0 +1,12 @@
+-- `supertype_place::run::first_of` meets its contract. Assumes nothing.
+use native.Mathlib.Omega.{arith}
+use Rattle.supertype_place.proofs.Places.{field_in}
+use Rattle.supertype_place.proofs.Seeks.{Seeking, seek_start, seek_found, seek_next, seek_missing}
+use borrow.Author.Rules.{rules}
+use Rattle.supertype_place.proofs.run.first_of.Given as goal
+
+abbrev pub invariant-loop-left : goal.invariant-loop-left
+invariant-loop-left l = Seeking l.name l.count l.at l.kinds l.args l.here l.left
+
+abbrev pub decreases-loop-left : goal.decreases-loop-left
+decreases-loop-left l = l.left
