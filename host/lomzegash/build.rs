@@ -1,7 +1,7 @@
 //! Links the archive of the proved C entry points.
 //!
 //! LOMZEGASH_ARCHIVE, where set, is the archive's absolute path. Otherwise the archive is proved and built here, by
-//! `rt staticlib capi` at the repository's root.
+//! `rt lib` in crates/capi.
 
 use std::path::{Path, PathBuf};
 use std::process::{exit, Command};
@@ -32,23 +32,34 @@ fn archive() -> Result<PathBuf, String> {
 
 /// Proves and builds the archive from the repository's Rattle crates.
 fn build() -> Result<PathBuf, String> {
-    for source in ["crates", "crates.txt"] {
-        println!("cargo::rerun-if-changed={ROOT}/{source}");
+    for source in sources()? {
+        println!("cargo::rerun-if-changed={}", source.display());
     }
+    let folder = Path::new(ROOT).join("crates/capi");
     let run = Command::new("rt")
-        .args(["staticlib", "capi"])
-        .current_dir(ROOT)
+        .arg("lib")
+        .current_dir(&folder)
         .output()
         .map_err(|error| format!("cannot run `rt`, which builds the archive (or set {VARIABLE}): {error}"))?;
     if !run.status.success() {
         let said = [run.stdout, run.stderr].concat();
         let said = String::from_utf8_lossy(&said);
-        return Err(format!("`rt staticlib capi` failed, {}:\n{said}", run.status));
+        return Err(format!("`rt lib` in crates/capi failed, {}:\n{said}", run.status));
     }
-    Ok(Path::new(ROOT).join("target/staticlib/libcapi.a"))
+    Ok(folder.join("out/libcapi.a"))
 }
 
-/// Copies the archive to this build's own folder, where it stays when target/ is removed, and has it linked.
+/// What the archive is made of: of each crate all but its out/, which rt writes.
+fn sources() -> Result<Vec<PathBuf>, String> {
+    let crates = Path::new(ROOT).join("crates");
+    let folders = fs::read_dir(&crates).map_err(|error| format!("cannot read {}: {error}", crates.display()))?;
+    let parts = folders.flatten().flat_map(|folder| ["src", "specs", "proofs"].map(|part| folder.path().join(part)));
+    let mut sources: Vec<_> = parts.filter(|part| part.is_dir()).collect();
+    sources.push(Path::new(ROOT).join("crates.txt"));
+    Ok(sources)
+}
+
+/// Copies the archive to this build's own folder, where it stays when rt makes another, and has it linked.
 fn link(archive: &Path) -> Result<(), String> {
     let folder = env::var("OUT_DIR").map_err(|error| format!("OUT_DIR: {error}"))?;
     fs::read(archive)

@@ -42,15 +42,14 @@ const INDENT: &str = "    ";
 
 /// What stands before the lists, behind the comment.
 const USES: &str = "\
-use mathlib.Core.Bool.{true, false}
-use mathlib.Core.List.{List, [], _∷_}
-use mathlib.Core.Option.{none, some}
-use Rattle·flat.specs.Kind.{Null, Boolean, UInt8, UInt16, UInt32, UInt64, UInt128, Int8, Int16, Int32, Int64, Int128}
-use Rattle·flat.specs.Kind.{Float16, Float32, Float64, Decimal, String, Binary, BinaryOffset}
-use Rattle·flat.specs.Kind.{Date, Datetime, Duration, Time}
-use Rattle·flat.specs.Kind.{UnknownAny, UnknownStr, UnknownFloat, UnknownIntPos, UnknownIntNeg}
-use Rattle·flat.specs.Tree.{leaf, list, array, struct, empty, field}
-use Rattle·recorded·specs.specs.Recorded.{Recorded, asked}";
+use Rattle.std.specs.Prelude.{true, false, List, [], ◌∷◌}
+use Rattle.std.proofs.Math.Option.{none, some}
+use Rattle.flat.specs.Kind.{Null, Boolean, UInt8, UInt16, UInt32, UInt64, UInt128, Int8, Int16, Int32, Int64, Int128}
+use Rattle.flat.specs.Kind.{Float16, Float32, Float64, Decimal, String, Binary, BinaryOffset}
+use Rattle.flat.specs.Kind.{Date, Datetime, Duration, Time}
+use Rattle.flat.specs.Kind.{UnknownAny, UnknownStr, UnknownFloat, UnknownIntPos, UnknownIntNeg}
+use Rattle.flat.specs.Tree.{leaf, list, array, struct, empty, field}
+use Rattle.recorded.specs.Recorded.{Recorded, asked}";
 
 /// What is asked.
 #[derive(Clone, Debug, PartialEq, Eq, Hash)]

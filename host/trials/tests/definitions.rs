@@ -10,7 +10,7 @@ fn the_widths_are_those_of_rusts_integers() {
     let unsigned = [u8::BITS, u16::BITS, u32::BITS, u64::BITS, u128::BITS];
     let signed = [i8::BITS, i16::BITS, i32::BITS, i64::BITS, i128::BITS];
     let by_kind: Vec<String> = unsigned.iter().chain(&signed).map(u32::to_string).collect();
-    let definition = format!("\nwidthOf k = getD (0 ∷ 0 ∷ {} ∷ []) k 0\n", by_kind.join(" ∷ "));
+    let definition = format!("\nwidth_of k = get_or (0 ∷ 0 ∷ {} ∷ []) k 0\n", by_kind.join(" ∷ "));
     assert!(INTEGER.contains(&definition), "{definition}");
 }
 
@@ -29,7 +29,7 @@ fn the_formats_are_those_of_rusts_floats() {
 fn the_names_of_the_units_are_the_crates() {
     for (number, unit) in (0..).zip(["Nanoseconds", "Microseconds", "Milliseconds"]) {
         let letters: Vec<String> = oracle::to_ascii(number).bytes().map(|letter| letter.to_string()).collect();
-        let definition = format!("\ntoAscii {unit} = {} ∷ []\n", letters.join(" ∷ "));
+        let definition = format!("\nto_ascii {unit} = {} ∷ []\n", letters.join(" ∷ "));
         assert!(TIME_UNIT.contains(&definition), "{definition}");
     }
 }

@@ -62,7 +62,7 @@ fn compile(words: &[&str]) {
 
 /// The archive that the library was built from.
 fn archive() -> PathBuf {
-    env::var_os("LOMZEGASH_ARCHIVE").map_or_else(|| format!("{ROOT}/target/staticlib/libcapi.a").into(), PathBuf::from)
+    env::var_os("LOMZEGASH_ARCHIVE").map_or_else(|| format!("{ROOT}/crates/capi/out/libcapi.a").into(), PathBuf::from)
 }
 
 /// The words of a program's text.

@@ -1,4 +1,4 @@
--- `supertype_place::run::in_place_lem` meets its contract. Assumes nothing.
+-- `supertype_place::run::in_place` meets its contract. Assumes nothing.
 use native.Mathlib.Omega.{arith}
 use Rattle.supertype_place.proofs.Places.{field_in}
 use Rattle.supertype_place.proofs.Seeks.{Along, along_start, along_next, along_stop, along_end}
