@@ -13,8 +13,11 @@ use flat::Flat;
 #[unsafe(no_mangle)]
 pub extern "C" fn lz_materialize_unknown(encoded: &[u8], allow_unknown: u8, out: &mut [u8]) -> Reply
     ensures { let held = out.old in
-        let known = materialized (not (eqb allow_unknown 0)) (decoding Encoding.ARGUMENT_BYTES Flat.MAX_NODES Flat.MAX_DEPTH encoded.now) in
-        Replies (Encodes Encoding.ARGUMENT_BYTES (fitting_bytes Encoding.ARGUMENT_BYTES (length held) known) held out.new) encoded_reply result }
+        let known = materialized (not (eqb allow_unknown 0))
+        (decoding Encoding.ARGUMENT_BYTES Flat.MAX_NODES Flat.MAX_DEPTH encoded.now) in
+        Replies
+        (Encodes Encoding.ARGUMENT_BYTES (fitting_bytes Encoding.ARGUMENT_BYTES (length held) known) held out.new)
+        encoded_reply result }
 {
     encoded_reply(encoded_dtype::materialize_unknown(encoded, allow_unknown != 0, out))
 }
@@ -24,7 +27,9 @@ pub extern "C" fn lz_materialize_unknown(encoded: &[u8], allow_unknown: u8, out:
 pub extern "C" fn lz_to_physical(encoded: &[u8], out: &mut [u8]) -> Reply
     ensures { let held = out.old in
         let form = physical (decoding Encoding.ARGUMENT_BYTES Flat.MAX_NODES Flat.MAX_DEPTH encoded.now) in
-        Replies (Encodes Encoding.ARGUMENT_BYTES (fitting_bytes Encoding.ARGUMENT_BYTES (length held) form) held out.new) encoded_reply result }
+        Replies
+        (Encodes Encoding.ARGUMENT_BYTES (fitting_bytes Encoding.ARGUMENT_BYTES (length held) form) held out.new)
+        encoded_reply result }
 {
     encoded_reply(encoded_dtype::to_physical(encoded, out))
 }

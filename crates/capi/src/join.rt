@@ -29,7 +29,10 @@ pub extern "C" fn lz_get_supertype_with_options(
         let rule = supertype_of (not (eqb allow_implode_list 0)) (not (eqb allow_primitive_to_string 0)) in
         let found = joining rule one other in
         let held = out.old in
-        Replies (EncodesFound Encoding.ARGUMENT_BYTES (fitting_found_bytes Encoding.ARGUMENT_BYTES (length held) found) held out.new) optional_reply result }
+        Replies
+        (EncodesFound Encoding.ARGUMENT_BYTES
+        (fitting_found_bytes Encoding.ARGUMENT_BYTES (length held) found) held out.new)
+        optional_reply result }
 {
     optional_reply(encoded_join::get_supertype_with_options(
         left,
@@ -52,7 +55,10 @@ pub extern "C" fn lz_get_numeric_upcast_supertype_lossless(
         let other = decoding Encoding.ARGUMENT_BYTES Flat.MAX_NODES Flat.MAX_DEPTH right.now in
         let found = joining lossless_of one other in
         let held = out.old in
-        Replies (EncodesFound Encoding.ARGUMENT_BYTES (fitting_found_bytes Encoding.ARGUMENT_BYTES (length held) found) held out.new) optional_reply result }
+        Replies
+        (EncodesFound Encoding.ARGUMENT_BYTES
+        (fitting_found_bytes Encoding.ARGUMENT_BYTES (length held) found) held out.new)
+        optional_reply result }
 {
     optional_reply(encoded_join::get_numeric_upcast_supertype_lossless(left, right, out))
 }

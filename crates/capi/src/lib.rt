@@ -36,7 +36,8 @@ pub extern "C" fn lz_check(encoded: &[u8]) -> Reply
 pub extern "C" fn lz_decode(encoded: &[u8], kinds: &mut [u8], args: &mut [u64]) -> Reply
     ensures { let ks = kinds.old in
         let xs = args.old in
-        let found = fitting (length ks) (length xs) (decoding Encoding.ARGUMENT_BYTES Flat.MAX_NODES Flat.MAX_DEPTH encoded.now) in
+        let found = fitting (length ks) (length xs)
+        (decoding Encoding.ARGUMENT_BYTES Flat.MAX_NODES Flat.MAX_DEPTH encoded.now) in
         Replies (Writes found ks xs kinds.new args.new) written_reply result }
 {
     written_reply(encoded::decode(encoded, kinds, args))
@@ -46,7 +47,8 @@ pub extern "C" fn lz_decode(encoded: &[u8], kinds: &mut [u8], args: &mut [u64]) 
 #[unsafe(no_mangle)]
 pub extern "C" fn lz_encode(kinds: &[u8], args: &[u64], out: &mut [u8]) -> Reply
     ensures { let held = out.old in
-        let found = fitting_bytes Encoding.ARGUMENT_BYTES (length held) (reading Flat.MAX_NODES Flat.MAX_DEPTH kinds.now args.now) in
+        let found = fitting_bytes Encoding.ARGUMENT_BYTES (length held)
+        (reading Flat.MAX_NODES Flat.MAX_DEPTH kinds.now args.now) in
         Replies (Encodes Encoding.ARGUMENT_BYTES found held out.new) encoded_reply result }
 {
     encoded_reply(encoded::encode(kinds, args, out))

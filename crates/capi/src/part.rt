@@ -18,8 +18,12 @@ use flat::Flat;
 #[unsafe(no_mangle)]
 pub extern "C" fn lz_inner_dtype(encoded: &[u8], out: &mut [u8]) -> Reply
     ensures { let held = out.old in
-        let part = part_reading inner_dtype (decoding Encoding.ARGUMENT_BYTES Flat.MAX_NODES Flat.MAX_DEPTH encoded.now) in
-        Replies (EncodesFound Encoding.ARGUMENT_BYTES (fitting_found_bytes Encoding.ARGUMENT_BYTES (length held) part) held out.new) optional_reply result }
+        let part = part_reading inner_dtype
+        (decoding Encoding.ARGUMENT_BYTES Flat.MAX_NODES Flat.MAX_DEPTH encoded.now) in
+        Replies
+        (EncodesFound Encoding.ARGUMENT_BYTES
+        (fitting_found_bytes Encoding.ARGUMENT_BYTES (length held) part) held out.new)
+        optional_reply result }
 {
     optional_reply(encoded_dtype::part_of(Part::Inner, encoded, out))
 }
@@ -28,8 +32,12 @@ pub extern "C" fn lz_inner_dtype(encoded: &[u8], out: &mut [u8]) -> Reply
 #[unsafe(no_mangle)]
 pub extern "C" fn lz_leaf_dtype(encoded: &[u8], out: &mut [u8]) -> Reply
     ensures { let held = out.old in
-        let part = part_reading (λ t. some (leaf_dtype t)) (decoding Encoding.ARGUMENT_BYTES Flat.MAX_NODES Flat.MAX_DEPTH encoded.now) in
-        Replies (EncodesFound Encoding.ARGUMENT_BYTES (fitting_found_bytes Encoding.ARGUMENT_BYTES (length held) part) held out.new) optional_reply result }
+        let part = part_reading (λ t. some (leaf_dtype t))
+        (decoding Encoding.ARGUMENT_BYTES Flat.MAX_NODES Flat.MAX_DEPTH encoded.now) in
+        Replies
+        (EncodesFound Encoding.ARGUMENT_BYTES
+        (fitting_found_bytes Encoding.ARGUMENT_BYTES (length held) part) held out.new)
+        optional_reply result }
 {
     optional_reply(encoded_dtype::part_of(Part::Leaf, encoded, out))
 }
@@ -38,8 +46,12 @@ pub extern "C" fn lz_leaf_dtype(encoded: &[u8], out: &mut [u8]) -> Reply
 #[unsafe(no_mangle)]
 pub extern "C" fn lz_array_leaf_dtype(encoded: &[u8], out: &mut [u8]) -> Reply
     ensures { let held = out.old in
-        let part = part_reading array_leaf_dtype (decoding Encoding.ARGUMENT_BYTES Flat.MAX_NODES Flat.MAX_DEPTH encoded.now) in
-        Replies (EncodesFound Encoding.ARGUMENT_BYTES (fitting_found_bytes Encoding.ARGUMENT_BYTES (length held) part) held out.new) optional_reply result }
+        let part = part_reading array_leaf_dtype
+        (decoding Encoding.ARGUMENT_BYTES Flat.MAX_NODES Flat.MAX_DEPTH encoded.now) in
+        Replies
+        (EncodesFound Encoding.ARGUMENT_BYTES
+        (fitting_found_bytes Encoding.ARGUMENT_BYTES (length held) part) held out.new)
+        optional_reply result }
 {
     optional_reply(encoded_dtype::part_of(Part::ArrayLeaf, encoded, out))
 }
@@ -47,7 +59,8 @@ pub extern "C" fn lz_array_leaf_dtype(encoded: &[u8], out: &mut [u8]) -> Reply
 // The widths down an Array's consecutive Arrays.
 #[unsafe(no_mangle)]
 pub extern "C" fn lz_get_shape(encoded: &[u8]) -> Shape
-    ensures { result ≡ shape_of Flat.MAX_DEPTH (decoding Encoding.ARGUMENT_BYTES Flat.MAX_NODES Flat.MAX_DEPTH encoded.now) }
+    ensures { result ≡ shape_of Flat.MAX_DEPTH
+        (decoding Encoding.ARGUMENT_BYTES Flat.MAX_NODES Flat.MAX_DEPTH encoded.now) }
 {
     encoded_dtype::get_shape(encoded)
 }

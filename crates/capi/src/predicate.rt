@@ -1,7 +1,8 @@
 // The predicates of a type, on an encoded one.
 ghost use Rattle.std.specs.Prelude.{◌≡◌};
 ghost use Rattle.encoded.specs.Encoding.{decoding};
-ghost use Rattle.dtype.specs.Predicate.{root, is_temporal, is_float, is_signed_integer, is_unsigned_integer, is_integer};
+ghost use Rattle.dtype.specs.Predicate.{root, is_temporal, is_float, is_signed_integer, is_unsigned_integer};
+ghost use Rattle.dtype.specs.Predicate.{is_integer};
 ghost use Rattle.dtype.specs.Predicate.{is_primitive_numeric, is_primitive, is_nested, is_string, is_unknown};
 ghost use Rattle.dtype.specs.Recursive.{is_known, is_logical, contains_list_recursive, contains_unknown};
 ghost use Rattle.dtype.specs.Predicates.{predicate_of};

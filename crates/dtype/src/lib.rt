@@ -13,7 +13,8 @@ pub mod time_units;
 
 ghost use Rattle.std.specs.Prelude.{◌≡◌};
 ghost use Rattle.flat.specs.Reading.{reading};
-ghost use Rattle.dtype.specs.Predicate.{root, is_temporal, is_float, is_signed_integer, is_unsigned_integer, is_integer};
+ghost use Rattle.dtype.specs.Predicate.{root, is_temporal, is_float, is_signed_integer, is_unsigned_integer};
+ghost use Rattle.dtype.specs.Predicate.{is_integer};
 ghost use Rattle.dtype.specs.Predicate.{is_primitive_numeric, is_primitive, is_nested, is_string, is_unknown};
 ghost use Rattle.dtype.specs.Recursive.{is_known, is_logical, contains_list_recursive, contains_unknown};
 ghost use Rattle.dtype.specs.Predicates.{predicate_of};
@@ -53,7 +54,8 @@ pub fn is_primitive(kinds: &[u8], args: &[u64]) -> Answer
 
 // Whether it is a float or an integer; a Decimal is neither.
 pub fn is_primitive_numeric(kinds: &[u8], args: &[u64]) -> Answer
-    ensures { result ≡ answer_of (root is_primitive_numeric) (reading Flat.MAX_NODES Flat.MAX_DEPTH kinds.now args.now) }
+    ensures { result ≡ answer_of (root is_primitive_numeric)
+        (reading Flat.MAX_NODES Flat.MAX_DEPTH kinds.now args.now) }
 {
     ask(Predicate::IsPrimitiveNumeric, kinds, args)
 }

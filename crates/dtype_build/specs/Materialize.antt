@@ -25,7 +25,8 @@ or_kept false t none = none
 -- materialize_unknown: none where the source gives an error
 unfoldable mutual
   pub materialize_unknown : Bool → DataType → Option DataType
-  materialize_unknown allow (leaf k a) = cond (is_unknown k) (or_kept allow (leaf k a) (materialize k a)) (some (leaf k a))
+  materialize_unknown allow (leaf k a) =
+      cond (is_unknown k) (or_kept allow (leaf k a) (materialize k a)) (some (leaf k a))
   materialize_unknown allow (list t) = map_o list (materialize_unknown allow t)
   materialize_unknown allow (array w t) = map_o (array w) (materialize_unknown allow t)
   materialize_unknown allow (struct fs) = map_o struct (materialize_fields allow fs)

@@ -43,4 +43,5 @@ unfoldable mutual
   -- fields left to right; names don't count
   pub fields_cast : Fields → Fields → Option Bool
   fields_cast empty gs = some true
-  fields_cast (field name t fs) gs = if_field (some true) (λ other u hs. and_then (can_cast_to t u) (fields_cast fs hs)) gs
+  fields_cast (field name t fs) gs =
+      if_field (some true) (λ other u hs. and_then (can_cast_to t u) (fields_cast fs hs)) gs

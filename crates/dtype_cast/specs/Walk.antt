@@ -46,8 +46,8 @@ abbrev pub decided : Bool → Early
 decided true = early.Yes
 decided false = early.No
 
--- What two roots decide: `before_nested`, but for the test of equal types, which is left to the arms where the types are
--- nested (proofs/Arms.antt).
+-- What two roots decide: `before_nested`, but for the test of equal types, which is left to the arms where the types
+-- are nested (proofs/Arms.antt).
 unfoldable pub early_of : ℕ → ℕ → ℕ → ℕ → Early
 early_of k a l b =
     cond (equal_leaves k a l b) early.Yes

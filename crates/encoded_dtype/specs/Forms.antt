@@ -14,7 +14,8 @@ use Rattle.dtype_build.specs.declared.leaf.Form.{Form}
 -- keeps it.
 unfoldable pub form_of : Form → Bool → Reading → Reading
 form_of form allow (refused e) = refused e
-form_of form allow (type t) = cond (has_any (kinds_of t) && not allow) (refused Unknown) (type (map_leaves (leaf_of form) t))
+form_of form allow (type t) =
+    cond (has_any (kinds_of t) && not allow) (refused Unknown) (type (map_leaves (leaf_of form) t))
 
 -- n nodes have room in the arrays: the arguments, then the kinds and the arguments of the type that is built
 pub record RoomFor (n : ℕ) (xs K A : List ℕ) : Type 0 where

@@ -28,7 +28,8 @@ use flat::{Checked, Flat, Optional, Written};
 
 // What a predicate says of any type, told by the kinds where they stand.
 fn ask_nodes(p: Predicate, encoded: &[u8]) -> Answer
-    ensures { result ≡ answer_of (predicate_of p) (decoding Encoding.ARGUMENT_BYTES Flat.MAX_NODES Flat.MAX_DEPTH encoded.now) }
+    ensures { result ≡ answer_of (predicate_of p)
+        (decoding Encoding.ARGUMENT_BYTES Flat.MAX_NODES Flat.MAX_DEPTH encoded.now) }
 {
     match encoded::check(encoded) {
         Checked::Valid => {
@@ -41,7 +42,8 @@ fn ask_nodes(p: Predicate, encoded: &[u8]) -> Answer
 
 // What a predicate says of the type: refusals 1 to 5.
 pub fn ask(p: Predicate, encoded: &[u8]) -> Answer
-    ensures { result ≡ answer_of (predicate_of p) (decoding Encoding.ARGUMENT_BYTES Flat.MAX_NODES Flat.MAX_DEPTH encoded.now) }
+    ensures { result ≡ answer_of (predicate_of p)
+        (decoding Encoding.ARGUMENT_BYTES Flat.MAX_NODES Flat.MAX_DEPTH encoded.now) }
 {
     if encoded::is_plain(encoded) {
         return yes_no(told_by(p, &encoded[2..3]));
@@ -71,7 +73,8 @@ fn part_nodes(part: Part, kinds: &[u8]) -> usize
 // Encodes the part, which stands at the type's end, to the front of out.
 fn part_in(part: Part, encoded: &[u8], args: &mut [u64], out: &mut [u8]) -> Optional
     requires { nodes_in Encoding.ARGUMENT_BYTES Flat.MAX_NODES encoded.now ≤ length args.old }
-    ensures { let part = part_reading (part_of part) (decoding Encoding.ARGUMENT_BYTES Flat.MAX_NODES Flat.MAX_DEPTH encoded.now) in
+    ensures { let part = part_reading (part_of part)
+        (decoding Encoding.ARGUMENT_BYTES Flat.MAX_NODES Flat.MAX_DEPTH encoded.now) in
         let fitting = fitting_found_bytes Encoding.ARGUMENT_BYTES (length out.old) part in
         let left = args_opened Encoding.ARGUMENT_BYTES Flat.MAX_NODES encoded.now args.old in
         EncodesFound Encoding.ARGUMENT_BYTES fitting out.old out.new result × (args.new ≡ left) }
@@ -93,7 +96,8 @@ fn part_in(part: Part, encoded: &[u8], args: &mut [u64], out: &mut [u8]) -> Opti
 
 // Encodes a part of the type to the front of out: refusals 1 to 5, then 8. None where the type has no such part.
 pub fn part_of(part: Part, encoded: &[u8], out: &mut [u8]) -> Optional
-    ensures { let part = part_reading (part_of part) (decoding Encoding.ARGUMENT_BYTES Flat.MAX_NODES Flat.MAX_DEPTH encoded.now) in
+    ensures { let part = part_reading (part_of part)
+        (decoding Encoding.ARGUMENT_BYTES Flat.MAX_NODES Flat.MAX_DEPTH encoded.now) in
         let fitting = fitting_found_bytes Encoding.ARGUMENT_BYTES (length out.old) part in
         EncodesFound Encoding.ARGUMENT_BYTES fitting out.old out.new result }
 {
@@ -109,7 +113,8 @@ pub fn part_of(part: Part, encoded: &[u8], out: &mut [u8]) -> Optional
 fn shape_in(encoded: &[u8], args: &mut [u64]) -> Shape
     requires { nodes_in Encoding.ARGUMENT_BYTES Flat.MAX_NODES encoded.now ≤ length args.old }
     ensures { let left = args_opened Encoding.ARGUMENT_BYTES Flat.MAX_NODES encoded.now args.old in
-        (result ≡ shape_of Flat.MAX_DEPTH (decoding Encoding.ARGUMENT_BYTES Flat.MAX_NODES Flat.MAX_DEPTH encoded.now)) × (args.new ≡ left) }
+        (result ≡ shape_of Flat.MAX_DEPTH (decoding Encoding.ARGUMENT_BYTES Flat.MAX_NODES Flat.MAX_DEPTH encoded.now))
+        × (args.new ≡ left) }
 {
     match encoded::open(encoded, args) {
         Written::Nodes(n) => dtype_inner::array_shape(&encoded[2..2 + n], &args[..n]),
@@ -119,7 +124,8 @@ fn shape_in(encoded: &[u8], args: &mut [u64]) -> Shape
 
 // The widths down an Array's consecutive Arrays: refusals 1 to 5.
 pub fn get_shape(encoded: &[u8]) -> Shape
-    ensures { result ≡ shape_of Flat.MAX_DEPTH (decoding Encoding.ARGUMENT_BYTES Flat.MAX_NODES Flat.MAX_DEPTH encoded.now) }
+    ensures { result ≡ shape_of Flat.MAX_DEPTH
+        (decoding Encoding.ARGUMENT_BYTES Flat.MAX_NODES Flat.MAX_DEPTH encoded.now) }
 {
     if encoded::node_count(encoded) <= Encoding::FEW {
         let mut args = [0u64; Encoding::FEW];
@@ -150,7 +156,8 @@ fn form_in(
     new_args: &mut [u64],
     out: &mut [u8],
 ) -> Encoded
-    requires { RoomFor (nodes_in Encoding.ARGUMENT_BYTES Flat.MAX_NODES encoded.now) args.old new_kinds.old new_args.old }
+    requires { RoomFor (nodes_in Encoding.ARGUMENT_BYTES Flat.MAX_NODES encoded.now) args.old new_kinds.old
+        new_args.old }
     ensures { let s = encoded.now in
         let formed = form_of form allow_unknown (decoding Encoding.ARGUMENT_BYTES Flat.MAX_NODES Flat.MAX_DEPTH s) in
         let kinds = new_kinds.new in
@@ -174,7 +181,8 @@ fn form_in(
 // so that no call has both on its stack.
 fn form_few(form: Form, allow_unknown: bool, encoded: &[u8], out: &mut [u8]) -> Encoded
     requires { nodes_in Encoding.ARGUMENT_BYTES Flat.MAX_NODES encoded.now ≤ Encoding.FEW }
-    ensures { let formed = form_of form allow_unknown (decoding Encoding.ARGUMENT_BYTES Flat.MAX_NODES Flat.MAX_DEPTH encoded.now) in
+    ensures { let formed = form_of form allow_unknown
+        (decoding Encoding.ARGUMENT_BYTES Flat.MAX_NODES Flat.MAX_DEPTH encoded.now) in
         let fitting = fitting_bytes Encoding.ARGUMENT_BYTES (length out.old) formed in
         Encodes Encoding.ARGUMENT_BYTES fitting out.old out.new result }
 {
@@ -194,7 +202,8 @@ fn form_few(form: Form, allow_unknown: bool, encoded: &[u8], out: &mut [u8]) -> 
 
 // Encodes any type in the given form to the front of out.
 fn form_many(form: Form, allow_unknown: bool, encoded: &[u8], out: &mut [u8]) -> Encoded
-    ensures { let formed = form_of form allow_unknown (decoding Encoding.ARGUMENT_BYTES Flat.MAX_NODES Flat.MAX_DEPTH encoded.now) in
+    ensures { let formed = form_of form allow_unknown
+        (decoding Encoding.ARGUMENT_BYTES Flat.MAX_NODES Flat.MAX_DEPTH encoded.now) in
         let fitting = fitting_bytes Encoding.ARGUMENT_BYTES (length out.old) formed in
         Encodes Encoding.ARGUMENT_BYTES fitting out.old out.new result }
 {
@@ -214,7 +223,8 @@ fn form_many(form: Form, allow_unknown: bool, encoded: &[u8], out: &mut [u8]) ->
 
 // Encodes the type in the given form to the front of out, with arrays that have room for its nodes.
 fn form_of(form: Form, allow_unknown: bool, encoded: &[u8], out: &mut [u8]) -> Encoded
-    ensures { let formed = form_of form allow_unknown (decoding Encoding.ARGUMENT_BYTES Flat.MAX_NODES Flat.MAX_DEPTH encoded.now) in
+    ensures { let formed = form_of form allow_unknown
+        (decoding Encoding.ARGUMENT_BYTES Flat.MAX_NODES Flat.MAX_DEPTH encoded.now) in
         let fitting = fitting_bytes Encoding.ARGUMENT_BYTES (length out.old) formed in
         Encodes Encoding.ARGUMENT_BYTES fitting out.old out.new result }
 {
@@ -226,7 +236,8 @@ fn form_of(form: Form, allow_unknown: bool, encoded: &[u8], out: &mut [u8]) -> E
 
 // The type with each unknown type made known: refusals 1 to 5, 7, then 8.
 pub fn materialize_unknown(encoded: &[u8], allow_unknown: bool, out: &mut [u8]) -> Encoded
-    ensures { let known = materialized allow_unknown (decoding Encoding.ARGUMENT_BYTES Flat.MAX_NODES Flat.MAX_DEPTH encoded.now) in
+    ensures { let known = materialized allow_unknown
+        (decoding Encoding.ARGUMENT_BYTES Flat.MAX_NODES Flat.MAX_DEPTH encoded.now) in
         let fitting = fitting_bytes Encoding.ARGUMENT_BYTES (length out.old) known in
         Encodes Encoding.ARGUMENT_BYTES fitting out.old out.new result }
 {

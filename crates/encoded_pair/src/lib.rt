@@ -81,7 +81,8 @@ fn open_both(left: &[u8], right: &[u8], left_args: &mut [u64], right_args: &mut 
         let t = right.now in
         let xs = left_args.old in
         let ys = right_args.old in
-        OpensBoth Encoding.ARGUMENT_BYTES Flat.MAX_NODES Flat.MAX_DEPTH s t xs ys left_args.new right_args.new pair_of result }
+        OpensBoth Encoding.ARGUMENT_BYTES Flat.MAX_NODES Flat.MAX_DEPTH s t xs ys left_args.new right_args.new pair_of
+        result }
 {
     let l = encoded::open(left, left_args);
     let r = encoded::open(right, right_args);
@@ -108,7 +109,8 @@ fn ask_in(
         let xs = left_args.old in
         let ys = right_args.old in
         let rule = pair_verdict question in
-        OpensBoth Encoding.ARGUMENT_BYTES Flat.MAX_NODES Flat.MAX_DEPTH s t xs ys left_args.new right_args.new rule result }
+        OpensBoth Encoding.ARGUMENT_BYTES Flat.MAX_NODES Flat.MAX_DEPTH s t xs ys left_args.new right_args.new rule
+        result }
 {
     match open_both(left, right, left_args, right_args) {
         Pair::Refused(e) => Verdict::Refused(e),

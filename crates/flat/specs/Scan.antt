@@ -26,7 +26,12 @@ settled s =
 -- under a List or an Array: one level more
 unfoldable pub wrapped : Scan → Scan
 wrapped s =
-    record { owed = (settled s).owed; outer = (settled s).outer; base = (settled s).base; depth = suc (settled s).depth }
+    record {
+      owed = (settled s).owed;
+      outer = (settled s).outer;
+      base = (settled s).base;
+      depth = suc (settled s).depth;
+    }
 
 -- under a Struct of m fields, whose types are two levels deeper; where nothing is owed it is the outermost
 unfoldable pub opened : ℕ → Scan → Scan

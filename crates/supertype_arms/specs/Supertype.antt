@@ -247,7 +247,8 @@ Call = Node → Node → Supertype
 
 -- `UnknownKind::Int(v) if dt.is_primitive_numeric()`, where dt is no dyn int: the smallest fitting type
 unfoldable pub smallest_fitting : ℕ → ℤ → ℕ
-smallest_fitting dt v = cond (is_unsigned_integer dt && non_neg v) (materialize_dyn_int_pos v) (materialize_smallest_dyn_int v)
+smallest_fitting dt v =
+    cond (is_unsigned_integer dt && non_neg v) (materialize_dyn_int_pos v) (materialize_smallest_dyn_int v)
 
 -- what the smallest fitting type is joined to
 unfoldable pub dyn_number : Call → Node → ℤ → Supertype
@@ -298,7 +299,8 @@ unfoldable pub inner : Call → Bool → Node → Node → Supertype
 inner get_supertype to_string l r = pick (same l r) (Some l) (run get_supertype (plan_of to_string l.kind r.kind) l r)
 
 unfoldable pub supertype_with : Call → Bool → Node → Node → Supertype
-supertype_with get_supertype to_string l r = or_else (inner get_supertype to_string l r) (inner get_supertype to_string r l)
+supertype_with get_supertype to_string l r =
+    or_else (inner get_supertype to_string l r) (inner get_supertype to_string r l)
 
 -- `get_supertype`, its flags the default, of two types of which neither is Unknown, so that no arm calls it again
 unfoldable pub known_supertype : Call

@@ -14,4 +14,5 @@ pub record LosslessLaws : Type 0 where
   pub none : (l r : ℕ) → Listed l → Listed r → (l ≡ r → ⊥) → (upcast_of l r ≡ Nothing) ↔ (Room (l ∷ r ∷ []) → ⊥)
   -- of two unequal floats: a format that has every finite number of both
   pub floats : (l r : ℕ) (f g : Format) → format_of l ≡ some f → format_of r ≡ some g → (l ≡ r → ⊥)
-      → (t : ℕ) × (h : Format) × (upcast_of l r ≡ To t) × (format_of t ≡ some h) × FormatIncludes h f × FormatIncludes h g
+      → (t : ℕ) × (h : Format) × (upcast_of l r ≡ To t) × (format_of t ≡ some h)
+      × FormatIncludes h f × FormatIncludes h g

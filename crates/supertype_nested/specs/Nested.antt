@@ -62,7 +62,8 @@ union_fields get_supertype longest shortest = enter_all get_supertype (from_iter
 -- `union_struct_fields`: of two with as many fields the left is the longest
 unfoldable pub union_struct_fields : TreeCall → Fields → Fields → Option DataType
 union_struct_fields get_supertype fs gs =
-    map_o struct (cond (leb (count gs) (count fs)) (union_fields get_supertype fs gs) (union_fields get_supertype gs fs))
+    map_o struct (cond (leb (count gs) (count fs)) (union_fields get_supertype fs gs)
+    (union_fields get_supertype gs fs))
 
 -- ---- Structs field by field
 
@@ -132,7 +133,8 @@ run_tree get_supertype (roots p) l r = tree_of (run (at_roots get_supertype) p (
 run_tree get_supertype lists l r =
     bind_o (inner_dtype l) (λ t. bind_o (inner_dtype r) (λ u. map_o list (get_supertype t u)))
 run_tree get_supertype arrays l r =
-    bind_o (inner_dtype l) (λ t. bind_o (inner_dtype r) (λ u. map_o (of_widths (head_arg l) (head_arg r)) (get_supertype t u)))
+    bind_o (inner_dtype l) (λ t. bind_o (inner_dtype r) (λ u.
+    map_o (of_widths (head_arg l) (head_arg r)) (get_supertype t u)))
 run_tree get_supertype implode_left l r = bind_o (inner_dtype l) (λ t. map_o list (get_supertype t r))
 run_tree get_supertype implode_right l r = bind_o (inner_dtype r) (λ u. map_o list (get_supertype u l))
 run_tree get_supertype first_field l r = if_struct none (if_field none (λ name t fs. get_supertype t r)) l

@@ -1,4 +1,4 @@
--- round_ties_to_even is what its name says, and two numbers of which Float64 makes one. Assumes nothing.
+-- roundTiesToEven is what its name says, and two numbers of which Float64 makes one. Assumes nothing.
 use mathlib.Core.Path.{◌≡◌, refl, sym, ap, subst, ◌∙◌}
 use mathlib.Core.Bool.{Bool, true, false, cond, ◌&&◌, ◌||◌}
 use mathlib.Core.Option.{some}

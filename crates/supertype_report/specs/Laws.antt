@@ -71,4 +71,5 @@ pub record NumberLaws : Type 0 where
       → ((z : ℤ) → Holds k z → DecimalHolds (precision t) (scale t) z) ↔ (digits_of k ≤ dec128_max_prec - scale n)
   -- where it has more, the largest number is lost, and no Decimal of that scale could hold it
   pub decimal_misses : (k prec scale : ℕ) → Listed k → scale ≤ prec → prec ≤ dec128_max_prec
-      → dec128_max_prec - scale < digits_of k → Holds k (pos (max_of k)) × (DecimalHolds prec scale (pos (max_of k)) → ⊥)
+      → dec128_max_prec - scale < digits_of k
+      → Holds k (pos (max_of k)) × (DecimalHolds prec scale (pos (max_of k)) → ⊥)
