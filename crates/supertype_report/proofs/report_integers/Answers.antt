@@ -33,7 +33,7 @@ lost : (j : Joined-t-le-INT128) → let a = j.args in Kept a.a a.b → ⊥
 lost j =
     let w = joined (goal.at.Joined-t-le-INT128 j).After-integer_supertype-t in
     elim j.if-t-le-INT128.branch [
-      then-t-le-INT128+then-includes+else-includes-2 x ↦
+      | then-t-le-INT128+then-includes+else-includes-2 x ↦
           misses w x.if-t-le-INT128.true (λ f g. no x.includes-then-includes.ensures x.if-includes-2.false g)
       | then-t-le-INT128+else-includes x ↦ misses w x.if-t-le-INT128.true (λ f g. no x.includes.ensures x.if-includes.false f)
       | else-t-le-INT128 x ↦ rounds w x.if-t-le-INT128.false

@@ -14,7 +14,7 @@ use Rattle.dtype.proofs.scan.any_between.Goals.{then-low-k+then-k-high, then-low
 pub loop-i-preserved : goal.loop-i-preserved
 loop-i-preserved c =
     elim c.if-low-k.branch [
-      then-low-k+then-k-high w ↦ rw w.found-is (search (any_found, is_between))
+      | then-low-k+then-k-high w ↦ rw w.found-is (search (any_found, is_between))
       | then-low-k+else-k-high w ↦ rw w.found-is (search (any_on, is_above))
       | else-low-k w ↦ rw w.found-is (search (any_on, is_below))
     ]

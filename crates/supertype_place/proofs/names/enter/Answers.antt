@@ -61,11 +61,10 @@ loop-left-preserved c =
     let g = c.loop-left.invariant in
     let p : c.loop-left.left ≡ 0 → ⊥ = omega arith in
     elim c.if-table-slot-eq0.branch [
-      then-table-slot-eq0 w ↦ enter_free g p _ c.after-here.ensures w.if-table-slot-eq0.true w.table-is
+      | then-table-slot-eq0 w ↦ enter_free g p _ c.after-here.ensures w.if-table-slot-eq0.true w.table-is
       | else-table-slot-eq0+else-has w ↦
           enter_taken g p _ c.after-here.ensures w.if-table-slot-eq0.false w.has.ensures w.if-has.false w.table-is
     ]
-
 
 pub returns : goal.returns
 returns c = enter_end c.loop-left.invariant (omega arith)

@@ -26,10 +26,9 @@ pub loop-left-preserved : goal.loop-left-preserved
 loop-left-preserved c =
     let i = c.loop-left.invariant in
     elim c.if-args-here.branch [
-      then-args-here w ↦ latest_yes i (omega arith) w.if-args-here.true _ _ w.last-is c.after-here.ensures
+      | then-args-here w ↦ latest_yes i (omega arith) w.if-args-here.true _ _ w.last-is c.after-here.ensures
       | else-args-here w ↦ latest_no i (omega arith) w.if-args-here.false _ _ w.last-is c.after-here.ensures
     ]
-
 
 pub returns : goal.returns
 returns c = latest_end c.loop-left.invariant (omega arith)
