@@ -17,7 +17,8 @@ use Rattle.flat.specs.declared.Root.{Root}
 use Rattle.flat.proofs.Rules.{in_run, and_left, and_right, is_zero}
 use Rattle.flat.proofs.Truths.{never}
 use Rattle.dtype.specs.Match.{among}
-use Rattle.dtype.specs.Predicate.{is_float, is_unknown_int, is_signed_integer, is_unsigned_integer, is_integer, is_unknown}
+use Rattle.dtype.specs.Predicate.{is_float, is_unknown_int, is_signed_integer, is_unsigned_integer, is_integer}
+use Rattle.dtype.specs.Predicate.{is_unknown}
 use Rattle.dtype.specs.Equality.{equal, equal_node}
 use Rattle.dtype.proofs.Runs.{says, of_run}
 use Rattle.supertype_answer.specs.Join.{joining, joining_roots}
