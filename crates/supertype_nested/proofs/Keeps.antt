@@ -15,7 +15,8 @@ use Rattle.supertype_arms.specs.Supertype.{lists, arrays, implode_left, implode_
 use Rattle.supertype_arms.specs.declared.plan.Plan.{Plan}
 use Rattle.supertype_nested.specs.Nested.{SuperTypeOptions, TreeCall, insert, from_iter, join_held, enter, enter_all}
 use Rattle.supertype_nested.specs.Nested.{union_fields, union_struct_fields, Zip, names_differ, no_join, joined, zip_on}
-use Rattle.supertype_nested.specs.Nested.{zip_fields, zip_end, super_type_structs, join_each, of_widths, tree_of, at_roots}
+use Rattle.supertype_nested.specs.Nested.{zip_fields, zip_end, super_type_structs, join_each, of_widths, tree_of}
+use Rattle.supertype_nested.specs.Nested.{at_roots}
 use Rattle.supertype_nested.specs.Nested.{run_tree, tree_plan, inner_tree, supertype_tree_with, get_supertype_in}
 use Rattle.supertype_nested.specs.Nested.{supertype_tree}
 use Rattle.supertype_nested.specs.Laws.{Each, Eachs}

@@ -26,7 +26,8 @@ use Rattle.supertype_arms.proofs.Areas.{alike}
 use Rattle.supertype_arms.proofs.Recursive.{quiet, quiet_run, dyn_run, runs_same}
 use Rattle.supertype_nested.specs.Nested.{SuperTypeOptions, TreeCall, from_iter, enter, enter_all}
 use Rattle.supertype_nested.specs.Nested.{union_fields, union_struct_fields, zip_on, zip_fields, zip_end}
-use Rattle.supertype_nested.specs.Nested.{super_type_structs, join_each, of_widths, tree_of, root_found, at_roots, run_tree}
+use Rattle.supertype_nested.specs.Nested.{super_type_structs, join_each, of_widths, tree_of, root_found, at_roots}
+use Rattle.supertype_nested.specs.Nested.{run_tree}
 use Rattle.supertype_nested.specs.Nested.{tree_plan, inner_tree, or_else_tree, supertype_tree_with, get_supertype_in}
 use Rattle.supertype_nested.specs.Nested.{supertype_tree}
 use Rattle.supertype_nested.proofs.Found.{if_weaken, bind_same, cond_same}

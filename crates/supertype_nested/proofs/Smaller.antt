@@ -17,7 +17,8 @@ use Rattle.supertype_arms.specs.Supertype.{TreePlan, left_type, right_type, root
 use Rattle.supertype_arms.specs.Supertype.{lists, arrays, implode_left, implode_right, first_field, structs, each_field}
 use Rattle.supertype_nested.specs.Nested.{SuperTypeOptions, TreeCall, insert, from_iter, join_held, enter, enter_all}
 use Rattle.supertype_nested.specs.Nested.{union_fields, union_struct_fields, Zip, names_differ, no_join, joined, zip_on}
-use Rattle.supertype_nested.specs.Nested.{zip_fields, zip_end, super_type_structs, join_each, of_widths, tree_of, at_roots}
+use Rattle.supertype_nested.specs.Nested.{zip_fields, zip_end, super_type_structs, join_each, of_widths, tree_of}
+use Rattle.supertype_nested.specs.Nested.{at_roots}
 use Rattle.supertype_nested.specs.Nested.{run_tree, tree_plan, inner_tree, supertype_tree_with, get_supertype_in}
 use Rattle.supertype_nested.specs.Nested.{supertype_tree}
 use Rattle.supertype_nested.proofs.Found.{If, if_cond, if_weaken, if_map, if_bind, if_or}

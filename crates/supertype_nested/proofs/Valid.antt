@@ -16,7 +16,8 @@ use Rattle.flat.proofs.Rules.{and_left, and_right}
 use Rattle.flat.proofs.Sizes.{size_pos}
 use Rattle.flat.proofs.Truths.{never, is_true, both_true}
 use Rattle.dtype.specs.Match.{among}
-use Rattle.dtype.specs.Predicate.{is_float, is_unknown_int, is_signed_integer, is_unsigned_integer, is_integer, is_primitive_numeric}
+use Rattle.dtype.specs.Predicate.{is_float, is_unknown_int, is_signed_integer, is_unsigned_integer, is_integer}
+use Rattle.dtype.specs.Predicate.{is_primitive_numeric}
 use Rattle.supertype_answer.specs.Join.{Node, Supertype, Some, Nothing, root_node, type_of}
 use Rattle.supertype_arms.specs.Node.{zone, fits}
 use Rattle.supertype_arms.specs.Supertype.{is, arms, unknown_arms, choose, run}
