@@ -1,8 +1,7 @@
 -- `supertype_place::names::enter` meets its contract. Assumes nothing.
 use mathlib.Core.Path.{◌≡◌}
-use mathlib.Core.Logic.{⊎_elim}
 use native.Mathlib.Omega.{arith}
-use Rattle.supertype_place.proofs.Tables.{Entering, enter_start, enter_length, enter_end}
+use Rattle.supertype_place.proofs.Tables.{enter_start, enter_end}
 use Rattle.supertype_place.proofs.Tables.{enter_field, enter_again, enter_free, enter_taken}
 use Rattle.supertype_place.proofs.names.enter.Goals as goal
 use Rattle.supertype_place.proofs.names.enter.Goals.{then-table-slot-eq0, else-table-slot-eq0+else-has}
@@ -61,11 +60,10 @@ loop-left-preserved c =
     let g = c.loop-left.invariant in
     let p : c.loop-left.left ≡ 0 → ⊥ = omega arith in
     elim c.if-table-slot-eq0.branch [
-      then-table-slot-eq0 w ↦ enter_free g p _ c.after-here.ensures w.if-table-slot-eq0.true w.table-is
+      | then-table-slot-eq0 w ↦ enter_free g p _ c.after-here.ensures w.if-table-slot-eq0.true w.table-is
       | else-table-slot-eq0+else-has w ↦
           enter_taken g p _ c.after-here.ensures w.if-table-slot-eq0.false w.has.ensures w.if-has.false w.table-is
     ]
-
 
 pub returns : goal.returns
 returns c = enter_end c.loop-left.invariant (omega arith)

@@ -1,9 +1,7 @@
 -- `supertype_place::run::last_of` meets its contract. Assumes nothing.
-use mathlib.Core.Logic.{⊎_elim}
 use native.Mathlib.Omega.{arith}
 use Rattle.supertype_place.proofs.Places.{field_in}
-use Rattle.supertype_place.proofs.Seeks.{Latest, latest_start, latest_yes, latest_no, latest_end}
-use borrow.Author.Rules.{rules}
+use Rattle.supertype_place.proofs.Seeks.{latest_start, latest_yes, latest_no, latest_end}
 use Rattle.supertype_place.proofs.run.last_of.Goals as goal
 use Rattle.supertype_place.proofs.run.last_of.Goals.{then-args-here, else-args-here}
 
@@ -26,10 +24,9 @@ pub loop-left-preserved : goal.loop-left-preserved
 loop-left-preserved c =
     let i = c.loop-left.invariant in
     elim c.if-args-here.branch [
-      then-args-here w ↦ latest_yes i (omega arith) w.if-args-here.true _ _ w.last-is c.after-here.ensures
+      | then-args-here w ↦ latest_yes i (omega arith) w.if-args-here.true _ _ w.last-is c.after-here.ensures
       | else-args-here w ↦ latest_no i (omega arith) w.if-args-here.false _ _ w.last-is c.after-here.ensures
     ]
-
 
 pub returns : goal.returns
 returns c = latest_end c.loop-left.invariant (omega arith)
