@@ -23,8 +23,7 @@ use Rattle.dtype.specs.Equality.{equal, equal_node}
 use Rattle.dtype.proofs.Runs.{says, of_run}
 use Rattle.supertype_answer.specs.Join.{joining, joining_roots}
 use Rattle.supertype_answer.proofs.Nodes.{no_argument}
-use Rattle.supertype_lossless.specs.Lossless.{upcast_where, upcast_of, lossless, found_upcast, root_upcast}
-use Rattle.supertype_lossless.specs.Lossless.{lossless_of}
+use Rattle.supertype_lossless.specs.Lossless.{upcast_where, upcast_of, lossless, found_upcast, root_upcast, lossless_of}
 use Rattle.supertype_lossless.proofs.Upcasts.{other, other_none}
 
 -- a leaf's kind is in no class of numbers, or it has the argument 0 and is no Unknown int
