@@ -12,8 +12,7 @@ use Rattle.dtype.specs.Predicate.{is_primitive_numeric, is_primitive, is_string,
 use Rattle.dtype.specs.Physical.{physical_leaf, physical_kind}
 use Rattle.flat.specs.Kind.{Boolean}
 use Rattle.flat.specs.Tree.{head_kind}
-use Rattle.supertype_arms.specs.Supertype.{Arm, is, arms, unknown_arms, choose}
-use Rattle.supertype_arms.specs.Supertype.{TreePlan, left_type, right_type, roots}
+use Rattle.supertype_arms.specs.Supertype.{Arm, is, arms, unknown_arms, choose, TreePlan, left_type, right_type, roots}
 use Rattle.supertype_arms.specs.Supertype.{lists, arrays, implode_left, implode_right, first_field, structs, each_field}
 use Rattle.supertype_arms.specs.declared.plan.Plan.{Plan}
 use Rattle.supertype_arms.specs.declared.plan.Plan.TheVariants.{No, DynNumber}
