@@ -4,8 +4,7 @@ use mathlib.Core.Path.{refl}
 use lib.ListN.{length-drop}
 use borrow.Author.Rules.{part_to_end}
 use Rattle.flat.proofs.Truths.{Fact, fact}
-use Rattle.encoded.proofs.Answers.{encoded_form, decodes_refused, decodes_few_kinds, decodes_few_args}
-use Rattle.encoded.proofs.Answers.{decodes_type}
+use Rattle.encoded.proofs.Answers.{encoded_form, decodes_refused, decodes_few_kinds, decodes_few_args, decodes_type}
 use Rattle.encoded.proofs.decode.Goals as goal
 use Rattle.encoded.proofs.decode.Goals.{After-count-n}
 
