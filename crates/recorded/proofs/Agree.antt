@@ -13,17 +13,13 @@ use Rattle.supertype_numbers.specs.DynInt.{value_of, materialize_dyn_int, materi
 use Rattle.supertype_numbers.specs.DynInt.{materialize_smallest_dyn_int}
 use Rattle.supertype_numbers.specs.Decimal.{fits_dec128}
 use Rattle.supertype_arms.specs.Supertype.{unknown_arms, arms, smallest_fitting, dyn_number, fits_orig_prec_scale}
-use Rattle.supertype_arms.specs.Supertype.{beside_integer}
-use Rattle.supertype_arms.specs.Supertype.{run}
+use Rattle.supertype_arms.specs.Supertype.{beside_integer, run}
 use Rattle.supertype_nested.specs.Nested.{insert, from_iter, enter, enter_all, union_fields, union_struct_fields}
-use Rattle.supertype_nested.specs.Nested.{zip_fields}
-use Rattle.supertype_nested.specs.Nested.{super_type_structs, join_each, run_tree, tree_plan, inner_tree}
-use Rattle.supertype_nested.specs.Nested.{supertype_tree_with}
-use Rattle.supertype_nested.specs.Nested.{get_supertype_in, supertype_tree}
+use Rattle.supertype_nested.specs.Nested.{zip_fields, super_type_structs, join_each, run_tree, tree_plan, inner_tree}
+use Rattle.supertype_nested.specs.Nested.{supertype_tree_with, get_supertype_in, supertype_tree}
 use Rattle.recorded.specs.Recorded.{same_numbers, same_nodes, agrees, all_agree, all_lists_agree}
 use Rattle.recorded.specs.Rows.{rows, rows0, rows1, rows2, rows3, rows4, rows5, rows6, rows7, rows8, rows9, rows10}
-use Rattle.recorded.specs.Rows.{rows11}
-use Rattle.recorded.specs.Rows.{rows12, rows13, rows14, rows15, rows16, rows17, rows18, rows19, rows20}
+use Rattle.recorded.specs.Rows.{rows11, rows12, rows13, rows14, rows15, rows16, rows17, rows18, rows19, rows20}
 
 pub agree : T (all_lists_agree rows)
 unfolding rows0 rows1 rows2 rows3 rows4 rows5 rows6 rows7 rows8 rows9 rows10 rows11 rows12 rows13 rows14 rows15 rows16
