@@ -1,7 +1,8 @@
 -- Encoded types, document 01's stored sheets: the node count in 2 bytes, low byte first, then a kind byte for each
 -- node, then an argument for each node, of w bytes, low byte first. The width w and the two limits are parameters.
 -- Assumes nothing: these are definitions.
-use Rattle.std.specs.Prelude.{Bool, ◌&&◌, List, [], ◌∷◌, ◌++◌, ℕ, zero, suc, ◌+◌, ◌*◌, ◌/◌, ◌%◌, leb, ltb, eqb, length, take, drop}
+use Rattle.std.specs.Prelude.{Bool, ◌&&◌, List, [], ◌∷◌, ◌++◌, ℕ, zero, suc, ◌+◌, ◌*◌, ◌/◌, ◌%◌, leb, ltb, eqb, length}
+use Rattle.std.specs.Prelude.{take, drop}
 use Rattle.flat.specs.Reading.{Reading, unless, reading}
 use Rattle.flat.specs.declared.error.Error.TheVariants.{Length}
 

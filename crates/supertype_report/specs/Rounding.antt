@@ -1,5 +1,6 @@
 -- What becomes of a whole number in a float format: IEEE 754's round_ties_to_even. Assumes nothing: these are definitions.
-use Rattle.std.specs.Prelude.{◌≡◌, true, false, cond, ◌&&◌, ◌||◌, ℕ, zero, suc, ◌+◌, ◌-◌, ◌*◌, ◌/◌, ◌%◌, ◌^◌, ◌≤◌, ◌<◌, ltb, eqb, ℤ, pos, negsuc, neg_ℤ}
+use Rattle.std.specs.Prelude.{◌≡◌, true, false, cond, ◌&&◌, ◌||◌, ℕ, zero, suc, ◌+◌, ◌-◌, ◌*◌, ◌/◌, ◌%◌, ◌^◌, ◌≤◌, ◌<◌}
+use Rattle.std.specs.Prelude.{ltb, eqb, ℤ, pos, negsuc, neg_ℤ}
 use Rattle.std.proofs.Math.Option.{some}
 use Rattle.flat.specs.Kind.{Float64}
 use Rattle.supertype_numbers.specs.Range.{Holds}
