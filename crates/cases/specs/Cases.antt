@@ -12,11 +12,10 @@ use Rattle.flat.specs.Tree.{DataType, leaf, list, array, struct, Fields, empty, 
 use Rattle.flat.specs.Reading.{type}
 use Rattle.flat.specs.Limits.{lists, fields_of}
 use Rattle.supertype_nested.specs.Nested.{SuperTypeOptions, options}
-use Rattle.cases.specs.Question.{Limits, answer_to}
-use Rattle.cases.specs.Question.{FlatCall, check, check_encoded, get_supertype_call, materialize_unknown_call, merge}
-use Rattle.cases.specs.Question.{Asked, supertype, nested_supertype, lossless, smallest_dyn_int, can_cast}
-use Rattle.cases.specs.Question.{materialize, merge_all_call, number_of, root, encoded, decoded, codes}
-use Rattle.cases.specs.Question.{Answered, joined, kind, verdict, result, merged, number, numbers}
+use Rattle.cases.specs.Question.{Limits, answer_to, FlatCall, check, check_encoded, get_supertype_call}
+use Rattle.cases.specs.Question.{materialize_unknown_call, merge, Asked, supertype, nested_supertype, lossless}
+use Rattle.cases.specs.Question.{smallest_dyn_int, can_cast, materialize, merge_all_call, number_of, root, encoded}
+use Rattle.cases.specs.Question.{decoded, codes, Answered, joined, kind, verdict, result, merged, number, numbers}
 
 -- a place in document 01: the corner of that number, "Why a call is turned down", or "Flat types and stored sheets"; or
 -- document 02's request of that number

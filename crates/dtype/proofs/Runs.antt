@@ -22,7 +22,8 @@ are_same false false t = refl
 
 -- p says b of the n kinds from lo on: `unfold says in tt` computes it, whichever predicate p is
 unfoldable pub says : (ℕ → Bool) → Bool → ℕ → ℕ → Bool
-unfolding among is_temporal is_float is_unknown_int is_signed_integer is_unsigned_integer is_integer is_primitive_numeric is_primitive is_nested is_string is_unknown
+unfolding among is_temporal is_float is_unknown_int is_signed_integer is_unsigned_integer is_integer
+    is_primitive_numeric is_primitive is_nested is_string is_unknown
 says p b lo n = run (λ k. same b (p k)) lo n
 
 -- p says b of each kind in such a run

@@ -14,7 +14,8 @@ use Rattle.dtype.specs.Match.{among, if_leaf}
 use Rattle.dtype.specs.Predicate.{is_temporal, is_unknown_int, is_unknown}
 use Rattle.dtype.specs.Equality.{equal_node, equal, equal_fields}
 use Rattle.dtype.specs.Physical.{physical_leaf, to_physical, physical_fields}
-use Rattle.dtype.specs.Recursive.{is_known, all_known, is_logical, contains_list_recursive, any_contains_list, contains_unknown, any_contains_unknown}
+use Rattle.dtype.specs.Recursive.{is_known, all_known, is_logical, contains_list_recursive, any_contains_list}
+use Rattle.dtype.specs.Recursive.{contains_unknown, any_contains_unknown}
 use Rattle.dtype.specs.Scan.{any_of, is_list_kind, is_decimal_kind, is_logical_kind}
 use Rattle.dtype.proofs.Pairs.{nodes_same, right_known}
 

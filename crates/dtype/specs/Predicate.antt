@@ -1,5 +1,5 @@
 -- The predicates of dtype.rs that look at a type's root alone, by its kind. Assumes nothing: these are definitions.
-use Rattle.std.specs.Prelude.{Bool, ◌||◌, List, [], ◌∷◌, ℕ}
+use Rattle.std.specs.Prelude.{Bool, ◌||◌, [], ◌∷◌, ℕ}
 use Rattle.flat.specs.Kind
 use Rattle.flat.specs.Tree.{DataType, head_kind}
 use Rattle.dtype.specs.Match.{among}

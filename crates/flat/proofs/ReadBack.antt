@@ -15,8 +15,7 @@ use Rattle.flat.specs.Tree.{DataType, leaf, list, array, struct, Fields, empty, 
 use Rattle.flat.specs.Tree.{kinds_of, kinds_ofs, args_of, args_ofs}
 use Rattle.flat.specs.Reader.{Children, no-child, under_list, under_array, fields, no_type, children, map_o, bind_o}
 use Rattle.flat.specs.Reader.{Reads, under_node, step_node, under_field, step_fields, never, node_in, fields_in}
-use Rattle.flat.specs.Reader.{node_at}
-use Rattle.flat.specs.Reader.{fields_at}
+use Rattle.flat.specs.Reader.{node_at, fields_at}
 use Rattle.flat.proofs.Sizes.{length_kinds, length_kindss, length_args, count_le}
 
 -- each leaf has a leaf's kind

@@ -72,7 +72,9 @@ alike_eq p q t = sym (back p) ∙ ap plans (eqb→eq (code_of p) (code_of q) t) 
 
 -- f is the plan of a and b, by the flag
 unfoldable pub right_at : (Bool → ℕ → ℕ → Plan) → Bool → ℕ → ℕ → Bool
-unfolding rule_of plan_of arms unknown_arms plain skip among is_float is_unknown_int is_signed_integer is_unsigned_integer is_integer is_primitive_numeric is_primitive is_string is_unknown head_kind physical_leaf physical_kind
+unfolding rule_of plan_of arms unknown_arms plain skip among is_float is_unknown_int is_signed_integer
+    is_unsigned_integer is_integer is_primitive_numeric is_primitive is_string is_unknown head_kind physical_leaf
+    physical_kind
 right_at f s a b = alike (f s a b) (rule_of s a b)
 
 -- f is the plan of a and b, the flag on and off

@@ -1,6 +1,6 @@
 -- What holds of the supertype of any two types that are not nested. Assumes nothing: these are statements, proved in
 -- proofs/Recursive.antt and proofs/Decimals.antt.
-use Rattle.std.specs.Prelude.{◌≡◌, Bool, true, false, cond, ℕ, ◌-◌, leb, ℤ, ◌≤ℤ◌}
+use Rattle.std.specs.Prelude.{◌≡◌, Bool, true, cond, ℕ, ◌-◌, leb, ℤ, ◌≤ℤ◌}
 use Rattle.flat.specs.Kind.{Decimal}
 use Rattle.flat.specs.Argument.{dec128_max_prec}
 use Rattle.dtype.specs.Predicate.{is_unknown_int}

@@ -17,13 +17,13 @@ use Rattle.flat.specs.declared.Root.{Root}
 use Rattle.flat.proofs.Rules.{in_run, and_left, and_right, is_zero}
 use Rattle.flat.proofs.Truths.{never}
 use Rattle.dtype.specs.Match.{among}
-use Rattle.dtype.specs.Predicate.{is_float, is_unknown_int, is_signed_integer, is_unsigned_integer, is_integer, is_unknown}
+use Rattle.dtype.specs.Predicate.{is_float, is_unknown_int, is_signed_integer, is_unsigned_integer, is_integer}
+use Rattle.dtype.specs.Predicate.{is_unknown}
 use Rattle.dtype.specs.Equality.{equal, equal_node}
 use Rattle.dtype.proofs.Runs.{says, of_run}
 use Rattle.supertype_answer.specs.Join.{joining, joining_roots}
 use Rattle.supertype_answer.proofs.Nodes.{no_argument}
-use Rattle.supertype_lossless.specs.Lossless.{upcast_where, upcast_of, lossless, found_upcast, root_upcast}
-use Rattle.supertype_lossless.specs.Lossless.{lossless_of}
+use Rattle.supertype_lossless.specs.Lossless.{upcast_where, upcast_of, lossless, found_upcast, root_upcast, lossless_of}
 use Rattle.supertype_lossless.proofs.Upcasts.{other, other_none}
 
 -- a leaf's kind is in no class of numbers, or it has the argument 0 and is no Unknown int

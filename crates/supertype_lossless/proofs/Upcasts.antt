@@ -29,7 +29,8 @@ alike_eq Nothing Nothing t = refl
 
 -- f is the upcast of two kinds; unfolding `right` unfolds all that the upcast is computed by
 unfoldable pub right : (ℕ → ℕ → Upcast) → ℕ → ℕ → Bool
-unfolding upcast_of upcast_where upcast_by floats signed unsigned mixed among is_float is_unknown_int is_signed_integer is_unsigned_integer is_integer is_nested is_unknown
+unfolding upcast_of upcast_where upcast_by floats signed unsigned mixed among is_float is_unknown_int is_signed_integer
+    is_unsigned_integer is_integer is_nested is_unknown
 right f l r = alike (f l r) (upcast_of l r)
 
 -- f is the upcast all over an area

@@ -12,8 +12,7 @@ use Rattle.dtype.specs.Predicate.{is_primitive_numeric, is_primitive, is_string,
 use Rattle.dtype.specs.Physical.{physical_leaf, physical_kind}
 use Rattle.flat.specs.Kind.{Boolean}
 use Rattle.flat.specs.Tree.{head_kind}
-use Rattle.supertype_arms.specs.Supertype.{Arm, is, arms, unknown_arms, choose}
-use Rattle.supertype_arms.specs.Supertype.{TreePlan, left_type, right_type, roots}
+use Rattle.supertype_arms.specs.Supertype.{Arm, is, arms, unknown_arms, choose, TreePlan, left_type, right_type, roots}
 use Rattle.supertype_arms.specs.Supertype.{lists, arrays, implode_left, implode_right, first_field, structs, each_field}
 use Rattle.supertype_arms.specs.declared.plan.Plan.{Plan}
 use Rattle.supertype_arms.specs.declared.plan.Plan.TheVariants.{No, DynNumber}
@@ -78,7 +77,8 @@ right_first (x ∷ xs) a b = go (x.left a) (x.right b) (right_first xs a b)
 
 -- the plan of two kinds by it: `unfolding plan_at` computes it at a known right kind, whichever the flags
 unfoldable pub plan_at : SuperTypeOptions → ℕ → ℕ → TreePlan
-unfolding arms unknown_arms among is_float is_unknown_int is_signed_integer is_unsigned_integer is_integer is_primitive_numeric is_primitive is_string is_unknown physical_leaf physical_kind head_kind
+unfolding arms unknown_arms among is_float is_unknown_int is_signed_integer is_unsigned_integer is_integer
+    is_primitive_numeric is_primitive is_string is_unknown physical_leaf physical_kind head_kind
 plan_at o a b = choose_right (arms o.allow_implode_list o.allow_primitive_to_string) a b
 
 pub at_plan : (o : SuperTypeOptions) (a b : ℕ) → tree_plan o a b ≡ plan_at o a b

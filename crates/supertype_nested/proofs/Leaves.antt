@@ -13,13 +13,14 @@ use Rattle.flat.proofs.Rules.{and_left, and_right}
 use Rattle.dtype.specs.Equality.{equal_node, equal}
 use Rattle.dtype_inner.specs.Inner.{inner_dtype}
 use Rattle.supertype_answer.specs.Join.{Node, node, Supertype, Some, Nothing}
-use Rattle.supertype_arms.specs.Supertype.{Arm, is, arms, unknown_arms, choose, plan_of, pick, or_else, run, inner, supertype_with}
-use Rattle.supertype_arms.specs.Supertype.{leaf_plan, known_supertype, supertype}
-use Rattle.supertype_arms.specs.Supertype.{TreePlan, left_type, right_type, roots}
-use Rattle.supertype_arms.specs.Supertype.{lists, arrays, implode_left, implode_right, first_field, structs, each_field}
+use Rattle.supertype_arms.specs.Supertype.{Arm, is, arms, unknown_arms, choose, plan_of, pick, or_else, run, inner}
+use Rattle.supertype_arms.specs.Supertype.{supertype_with, leaf_plan, known_supertype, supertype, TreePlan, left_type}
+use Rattle.supertype_arms.specs.Supertype.{right_type, roots, lists, arrays, implode_left, implode_right, first_field}
+use Rattle.supertype_arms.specs.Supertype.{structs, each_field}
 use Rattle.supertype_arms.proofs.Recursive.{known_with, over_call}
-use Rattle.supertype_nested.specs.Nested.{SuperTypeOptions, TreeCall, tree_of, root_found, at_roots, run_tree, tree_plan}
-use Rattle.supertype_nested.specs.Nested.{inner_tree, or_else_tree, supertype_tree_with, get_supertype_in, supertype_tree}
+use Rattle.supertype_nested.specs.Nested.{SuperTypeOptions, TreeCall, tree_of, root_found, at_roots, run_tree}
+use Rattle.supertype_nested.specs.Nested.{tree_plan, inner_tree, or_else_tree, supertype_tree_with, get_supertype_in}
+use Rattle.supertype_nested.specs.Nested.{supertype_tree}
 use Rattle.supertype_nested.proofs.Chosen.{all_arms}
 
 -- ---- the implode flag

@@ -17,17 +17,16 @@ use Rattle.dtype.specs.Equality.{equal}
 use Rattle.dtype.proofs.Runs.{says, of_run}
 use Rattle.dtype_inner.specs.Inner.{inner_dtype}
 use Rattle.supertype_answer.specs.Join.{Node, root_node}
-use Rattle.supertype_arms.specs.Supertype.{run}
-use Rattle.supertype_arms.specs.Supertype.{TreePlan, left_type, right_type, roots}
-use Rattle.supertype_arms.specs.Supertype.{lists, arrays, implode_left, implode_right, first_field, structs, each_field}
+use Rattle.supertype_arms.specs.Supertype.{run, TreePlan, left_type, right_type, roots, lists, arrays, implode_left}
+use Rattle.supertype_arms.specs.Supertype.{implode_right, first_field, structs, each_field}
 use Rattle.supertype_arms.specs.declared.plan.Plan.{Plan}
 use Rattle.supertype_arms.specs.declared.plan.Plan.TheVariants.{DynNumber}
 use Rattle.supertype_arms.proofs.Areas.{alike}
 use Rattle.supertype_arms.proofs.Recursive.{quiet, quiet_run, dyn_run, runs_same}
-use Rattle.supertype_nested.specs.Nested.{SuperTypeOptions, TreeCall, from_iter, enter, enter_all}
-use Rattle.supertype_nested.specs.Nested.{union_fields, union_struct_fields, zip_on, zip_fields, zip_end}
-use Rattle.supertype_nested.specs.Nested.{super_type_structs, join_each, of_widths, tree_of, root_found, at_roots, run_tree}
-use Rattle.supertype_nested.specs.Nested.{tree_plan, inner_tree, or_else_tree, supertype_tree_with, get_supertype_in}
+use Rattle.supertype_nested.specs.Nested.{SuperTypeOptions, TreeCall, from_iter, enter, enter_all, union_fields}
+use Rattle.supertype_nested.specs.Nested.{union_struct_fields, zip_on, zip_fields, zip_end, super_type_structs}
+use Rattle.supertype_nested.specs.Nested.{join_each, of_widths, tree_of, root_found, at_roots, run_tree, tree_plan}
+use Rattle.supertype_nested.specs.Nested.{inner_tree, or_else_tree, supertype_tree_with, get_supertype_in}
 use Rattle.supertype_nested.specs.Nested.{supertype_tree}
 use Rattle.supertype_nested.proofs.Found.{if_weaken, bind_same, cond_same}
 use Rattle.supertype_nested.proofs.Smaller.{Below, AtMost, Smaller, from_sizes, enter_sizes, inner_size, in_smaller}

@@ -12,14 +12,13 @@ use Rattle.dtype.specs.Match.{if_leaf, if_struct, if_field}
 use Rattle.dtype.specs.Equality.{equal}
 use Rattle.dtype_inner.specs.Inner.{inner_dtype}
 use Rattle.supertype_answer.specs.Join.{Supertype, Some, Nothing, root_node}
-use Rattle.supertype_arms.specs.Supertype.{run}
-use Rattle.supertype_arms.specs.Supertype.{TreePlan, left_type, right_type, roots}
-use Rattle.supertype_arms.specs.Supertype.{lists, arrays, implode_left, implode_right, first_field, structs, each_field}
+use Rattle.supertype_arms.specs.Supertype.{run, TreePlan, left_type, right_type, roots, lists, arrays, implode_left}
+use Rattle.supertype_arms.specs.Supertype.{implode_right, first_field, structs, each_field}
 use Rattle.supertype_nested.specs.Nested.{SuperTypeOptions, TreeCall, insert, from_iter, join_held, enter, enter_all}
 use Rattle.supertype_nested.specs.Nested.{union_fields, union_struct_fields, Zip, names_differ, no_join, joined, zip_on}
-use Rattle.supertype_nested.specs.Nested.{zip_fields, zip_end, super_type_structs, join_each, of_widths, tree_of, at_roots}
-use Rattle.supertype_nested.specs.Nested.{run_tree, tree_plan, inner_tree, supertype_tree_with, get_supertype_in}
-use Rattle.supertype_nested.specs.Nested.{supertype_tree}
+use Rattle.supertype_nested.specs.Nested.{zip_fields, zip_end, super_type_structs, join_each, of_widths, tree_of}
+use Rattle.supertype_nested.specs.Nested.{at_roots, run_tree, tree_plan, inner_tree, supertype_tree_with}
+use Rattle.supertype_nested.specs.Nested.{get_supertype_in, supertype_tree}
 use Rattle.supertype_nested.proofs.Found.{If, if_cond, if_weaken, if_map, if_bind, if_or}
 
 -- fewer than n nodes, and fields of at most n

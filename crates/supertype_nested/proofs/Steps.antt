@@ -15,10 +15,10 @@ use Rattle.dtype.specs.Equality.{equal, equal_fields}
 use Rattle.dtype_inner.specs.Inner.{inner_dtype}
 use Rattle.supertype_answer.specs.Join.{type_of}
 use Rattle.supertype_arms.specs.Supertype.{TreePlan, left_type, lists, arrays, structs}
-use Rattle.supertype_nested.specs.Nested.{SuperTypeOptions, TreeCall, union_fields}
-use Rattle.supertype_nested.specs.Nested.{Zip, names_differ, no_join, joined, zip_on, zip_fields, zip_end}
-use Rattle.supertype_nested.specs.Nested.{super_type_structs, of_widths, root_found, run_tree, tree_plan, inner_tree, or_else_tree}
-use Rattle.supertype_nested.specs.Nested.{supertype_tree_with, supertype_tree}
+use Rattle.supertype_nested.specs.Nested.{SuperTypeOptions, TreeCall, union_fields, Zip, names_differ, no_join, joined}
+use Rattle.supertype_nested.specs.Nested.{zip_on, zip_fields, zip_end, super_type_structs, of_widths, root_found}
+use Rattle.supertype_nested.specs.Nested.{run_tree, tree_plan, inner_tree, or_else_tree, supertype_tree_with}
+use Rattle.supertype_nested.specs.Nested.{supertype_tree}
 use Rattle.supertype_nested.specs.Step.{Fair, or_else_fields, zip_either}
 use Rattle.supertype_nested.proofs.Found.{no_some, map_none}
 use Rattle.supertype_nested.proofs.Chosen.{plan_at, at_plan}

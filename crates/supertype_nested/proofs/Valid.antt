@@ -16,18 +16,17 @@ use Rattle.flat.proofs.Rules.{and_left, and_right}
 use Rattle.flat.proofs.Sizes.{size_pos}
 use Rattle.flat.proofs.Truths.{never, is_true, both_true}
 use Rattle.dtype.specs.Match.{among}
-use Rattle.dtype.specs.Predicate.{is_float, is_unknown_int, is_signed_integer, is_unsigned_integer, is_integer, is_primitive_numeric}
+use Rattle.dtype.specs.Predicate.{is_float, is_unknown_int, is_signed_integer, is_unsigned_integer, is_integer}
+use Rattle.dtype.specs.Predicate.{is_primitive_numeric}
 use Rattle.supertype_answer.specs.Join.{Node, Supertype, Some, Nothing, root_node, type_of}
 use Rattle.supertype_arms.specs.Node.{zone, fits}
-use Rattle.supertype_arms.specs.Supertype.{is, arms, unknown_arms, choose, run}
-use Rattle.supertype_arms.specs.Supertype.{TreePlan}
+use Rattle.supertype_arms.specs.Supertype.{is, arms, unknown_arms, choose, run, TreePlan}
 use Rattle.supertype_arms.specs.declared.plan.Plan.{Plan}
 use Rattle.supertype_arms.specs.declared.plan.Plan.TheVariants.{No, Left, Right, Kind, Decimals, DecimalInteger}
 use Rattle.supertype_arms.specs.declared.plan.Plan.TheVariants.{DatetimeDuration, Datetimes, Durations}
 use Rattle.supertype_arms.specs.declared.plan.Plan.TheVariants.{DynNumber, DynBoolean, DynDecimal}
 use Rattle.supertype_arms.proofs.Decimals.{IsDecimal}
-use Rattle.supertype_nested.specs.Nested.{SuperTypeOptions, tree_of, root_found, at_roots, tree_plan}
-use Rattle.supertype_nested.specs.Nested.{supertype_tree}
+use Rattle.supertype_nested.specs.Nested.{SuperTypeOptions, tree_of, root_found, at_roots, tree_plan, supertype_tree}
 use Rattle.supertype_nested.specs.Laws.{Each, Eachs, LeavesFit, AnswersValid}
 use Rattle.supertype_nested.proofs.Found.{If, if_told}
 use Rattle.supertype_nested.proofs.Chosen.{every_of, all_true, or-false, chosen, on_roots}

@@ -12,7 +12,8 @@ use Rattle.flat.proofs.Rules.{and_left, and_right}
 use Rattle.dtype.specs.Match.{among}
 use Rattle.dtype.specs.Predicate.{is_signed_integer}
 use Rattle.supertype_numbers.specs.Integer.{width_of, bits_of, holds, first_that_holds}
-use Rattle.supertype_numbers.specs.DynInt.{value_of, materialize_dyn_int, materialize_dyn_int_pos, materialize_smallest_dyn_int}
+use Rattle.supertype_numbers.specs.DynInt.{value_of, materialize_dyn_int, materialize_dyn_int_pos}
+use Rattle.supertype_numbers.specs.DynInt.{materialize_smallest_dyn_int}
 use Rattle.supertype_numbers.proofs.Integers.{is_in_range}
 
 -- f gives the first of the types that holds v, else the other

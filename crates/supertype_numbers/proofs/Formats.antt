@@ -7,7 +7,8 @@ use lib.Dec.{leb→le, le→leb}
 use lib.Pow.{pow_pos, pow_mono}
 use lib.IntN.{ℤ, pos, negsuc, neg_ℤ}
 use lib.Signed.{◌≤ℤ◌, le_z_yes, ≤ℤ_refl}
-use Rattle.supertype_numbers.specs.Format.{Format, format, binary16, binary32, binary64, format_of, FormatIncludes, Largest, FormatLaws}
+use Rattle.supertype_numbers.specs.Format.{Format, format, binary16, binary32, binary64, format_of, FormatIncludes}
+use Rattle.supertype_numbers.specs.Format.{Largest, FormatLaws}
 
 -- from a lower number on, and up to a higher one
 from_lower : (m n : ℕ) (q : ℤ) → n ≤ m → neg_ℤ (pos n) ≤ℤ q → neg_ℤ (pos m) ≤ℤ q

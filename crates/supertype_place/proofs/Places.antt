@@ -8,7 +8,7 @@ use native.Mathlib.Omega.{arith}
 use lib.ListN.{length, get_or, take, drop, set}
 use lib.Seq.{take_at}
 use Rattle.flat.specs.Kind as kind
-use Rattle.flat.specs.Tree.{DataType, leaf, Fields, empty, field, count, size, sizes, kinds_of, args_of}
+use Rattle.flat.specs.Tree.{DataType, leaf, empty, field, count, size, sizes, kinds_of, args_of}
 use Rattle.flat.specs.Walk.{Valid, type_at, run_at}
 use Rattle.flat.specs.Span.{span_within}
 use Rattle.flat.specs.declared.span.Span.TheVariants.{Ends, TooDeep}

@@ -1,7 +1,7 @@
--- `dtype::ask` meets its contract: a plain leaf, and any other type that was checked, are told by their kinds. The inner
--- `search` finds the predicate among the arguments. Assumes nothing.
+-- `dtype::ask` meets its contract: a plain leaf, and any other type that was checked, are told by their kinds.
+-- Assumes nothing.
 use borrow.Author.Rules.{rules}
-use Rattle.dtype.proofs.Answers.{plain_some, valid_some, plain_passed, valid_passed, answered, refused_answer}
+use Rattle.dtype.proofs.Answers.{plain_some, valid_some, plain_passed, valid_passed, answered}
 use Rattle.dtype.proofs.ask.Goals as goal
 
 pub told_by-requires : goal.told_by-requires

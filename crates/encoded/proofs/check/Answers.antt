@@ -1,5 +1,4 @@
 -- `encoded::check` meets its contract: one plain leaf, then any bytes. Assumes nothing.
-use borrow.Author.Rules.{rules}
 use mathlib.Core.Path.{sym, ap, ◌∙◌}
 use borrow.Author.Rules.{part_to_end}
 use Rattle.flat.specs.Reading.{checked_of}

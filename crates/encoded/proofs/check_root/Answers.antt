@@ -1,5 +1,4 @@
 -- `encoded::check_root` meets its contract: one plain leaf, then any bytes. Assumes nothing.
-use borrow.Author.Rules.{rules}
 use native.Mathlib.Omega.{arith}
 use mathlib.Core.Path.{sym, ◌∙◌}
 use borrow.Author.Rules.{part_to_end}

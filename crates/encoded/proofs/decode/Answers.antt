@@ -1,12 +1,10 @@
 -- `encoded::decode` meets its contract. Assumes nothing.
-use borrow.Author.Rules.{rules}
 use native.Mathlib.Omega.{arith}
 use mathlib.Core.Path.{refl}
 use lib.ListN.{length-drop}
 use borrow.Author.Rules.{part_to_end}
 use Rattle.flat.proofs.Truths.{Fact, fact}
-use Rattle.encoded.proofs.Answers.{encoded_form, decodes_refused, decodes_few_kinds, decodes_few_args}
-use Rattle.encoded.proofs.Answers.{decodes_type}
+use Rattle.encoded.proofs.Answers.{encoded_form, decodes_refused, decodes_few_kinds, decodes_few_args, decodes_type}
 use Rattle.encoded.proofs.decode.Goals as goal
 use Rattle.encoded.proofs.decode.Goals.{After-count-n}
 
@@ -25,7 +23,8 @@ pub returns-then-kinds-n : goal.returns-then-kinds-n
 returns-then-kinds-n c = decodes_few_kinds (form (goal.at.returns-then-kinds-n c).After-count-n).proof c.if-kinds-n.true
 
 pub returns-then-args-n : goal.returns-then-args-n
-returns-then-args-n c = decodes_few_args (form (goal.at.returns-then-args-n c).After-count-n).proof c.if-kinds-n.false c.if-args-n.true
+returns-then-args-n c =
+    decodes_few_args (form (goal.at.returns-then-args-n c).After-count-n).proof c.if-kinds-n.false c.if-args-n.true
 
 pub read_args-requires : goal.read_args-requires
 read_args-requires c =
@@ -40,7 +39,9 @@ pub slice_bounds-copy-end : goal.slice_bounds-copy-end
 slice_bounds-copy-end c = omega (arith, (form (goal.at.slice_bounds-copy-end c).After-count-n).proof.sized.size)
 
 pub slice_bounds-read_args-count : goal.slice_bounds-read_args-count
-slice_bounds-read_args-count c = omega (arith, (form (goal.at.slice_bounds-read_args-count c).After-count-n).proof.sized.size)
+slice_bounds-read_args-count c =
+    omega (arith, (form (goal.at.slice_bounds-read_args-count c).After-count-n).proof.sized.size)
 
 pub slice_bounds-read_args-start : goal.slice_bounds-read_args-start
-slice_bounds-read_args-start c = omega (arith, (form (goal.at.slice_bounds-read_args-start c).After-count-n).proof.sized.size)
+slice_bounds-read_args-start c =
+    omega (arith, (form (goal.at.slice_bounds-read_args-start c).After-count-n).proof.sized.size)

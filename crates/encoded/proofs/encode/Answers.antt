@@ -1,5 +1,4 @@
 -- `encoded::encode` meets its contract: a check, then `put`. Assumes nothing.
-use borrow.Author.Rules.{rules}
 use mathlib.Core.Path.{sym, ◌∙◌}
 use Rattle.flat.specs.Reading.{reading}
 use Rattle.flat.proofs.Truths.{Fact, fact}
@@ -14,7 +13,8 @@ abbrev passed : In-Valid → Fact
 passed c = fact (check_passed (sym c.in-Valid.is ∙ c.check.ensures))
 
 pub put-requires : goal.put-requires
-put-requires c = let p = (passed (goal.at.put-requires c).In-Valid).proof in (p.even, rw (← p.whole) p.form.is_type.within)
+put-requires c =
+    let p = (passed (goal.at.put-requires c).In-Valid).proof in (p.even, rw (← p.whole) p.form.is_type.within)
 
 pub returns-in-Valid : goal.returns-in-Valid
 returns-in-Valid c =
@@ -23,4 +23,5 @@ returns-in-Valid c =
 
 pub returns-in-Refused : goal.returns-in-Refused
 unfolding fitting_bytes
-returns-in-Refused c = encodes_refused (rw (checked_refused (reading _ _ _ _) _ (sym c.in-Refused.is ∙ c.check.ensures)))
+returns-in-Refused c =
+    encodes_refused (rw (checked_refused (reading _ _ _ _) _ (sym c.in-Refused.is ∙ c.check.ensures)))

@@ -1,5 +1,4 @@
 -- `encoded::is_plain` meets its contract: one node, or another number. Assumes nothing.
-use borrow.Author.Rules.{rules}
 use native.Mathlib.Omega.{arith}
 use Rattle.flat.proofs.Truths.{Fact, fact}
 use Rattle.encoded.proofs.Plain.{nodes_one, one_told, others_told}

@@ -1,5 +1,4 @@
 -- `encoded::open` meets its contract. Assumes nothing.
-use borrow.Author.Rules.{rules}
 use Rattle.flat.proofs.Truths.{Fact, fact}
 use Rattle.encoded.proofs.Answers.{nodes_some}
 use Rattle.encoded.proofs.Opening.{opens_none, opens_type, opens_refused}
@@ -19,8 +18,10 @@ sized c = fact (nodes_some c.node_count-n.ensures c.if-n-eq0.false)
 
 pub returns-in-Valid : goal.returns-in-Valid
 returns-in-Valid c =
-    opens_type (sized (goal.at.returns-in-Valid c).After-check_with).proof c.check_with.ensures.0 c.check_with.ensures.1 c.in-Valid.is
+    opens_type (sized (goal.at.returns-in-Valid c).After-check_with).proof c.check_with.ensures.0 c.check_with.ensures.1
+    c.in-Valid.is
 
 pub returns-in-Refused : goal.returns-in-Refused
 returns-in-Refused c =
-    opens_refused (sized (goal.at.returns-in-Refused c).After-check_with).proof c.check_with.ensures.0 c.check_with.ensures.1 c.in-Refused.is
+    opens_refused (sized (goal.at.returns-in-Refused c).After-check_with).proof c.check_with.ensures.0
+    c.check_with.ensures.1 c.in-Refused.is

@@ -1,5 +1,4 @@
 -- `encoded::put` meets its contract: three pieces written one after the other. Assumes nothing.
-use borrow.Author.Rules.{rules}
 use borrow.Author.Tests.{le-leb, lt-leb}
 use native.Mathlib.Omega.{arith}
 use Prim.Native.Nat.{◌+◌}
@@ -27,5 +26,7 @@ returns c =
     let n = length kinds in
     let head = little_endian 2 n in
     let two = write_next _ head out kinds _ 2 n c.put_count.ensures (little_endian_length 2 n) c.copy.ensures in
-    let three = write_next _ (head ++ kinds) out _ _ (2 + n) _ two (rw (length-append, little_endian_length)) c.write_args.ensures in
+    let three =
+    write_next _ (head ++ kinds) out _ _ (2 + n) _ two (rw (length-append, little_endian_length))
+    c.write_args.ensures in
     record { answers = rw fits; bytes = rw fits (three ∙ encoding_over _ kinds args out (sym c.requires.0)) }

@@ -1,5 +1,4 @@
 -- `encoded::root_of` meets its contract. Assumes nothing.
-use borrow.Author.Rules.{rules}
 use native.Mathlib.Omega.{arith}
 use mathlib.Core.Path.{refl, sym, ◌∙◌}
 use Rattle.flat.proofs.Truths.{Fact, fact}
@@ -24,10 +23,12 @@ pub bounds-encoded-2 : goal.bounds-encoded-2
 bounds-encoded-2 c = let z = (form (goal.at.bounds-encoded-2 c).In-Valid).proof.sized in omega (arith, z.some, z.size)
 
 pub word-requires : goal.word-requires
-word-requires c = let z = (counted (goal.at.word-requires c).After-node_count).proof.sized in omega (arith, z.some, z.size)
+word-requires c =
+    let z = (counted (goal.at.word-requires c).After-node_count).proof.sized in omega (arith, z.some, z.size)
 
 pub returns-in-Valid : goal.returns-in-Valid
 returns-in-Valid c = rw c.word.ensures (form_root (counted (goal.at.returns-in-Valid c).After-node_count).proof)
 
 pub overflow_add-node_count : goal.overflow_add-node_count
-overflow_add-node_count c = omega (arith, (counted (goal.at.overflow_add-node_count c).After-node_count).proof.sized.few)
+overflow_add-node_count c =
+    omega (arith, (counted (goal.at.overflow_add-node_count c).After-node_count).proof.sized.few)

@@ -1,7 +1,6 @@
 -- `supertype_answer::put` meets its contract. Assumes nothing.
 use mathlib.Core.Path.{refl, ap}
 use native.Mathlib.Omega.{arith}
-use borrow.Author.Rules.{rules}
 use Rattle.supertype_answer.specs.Join.{result_of}
 use Rattle.flat.proofs.Outputs.{found_nothing, found_refusal}
 use Rattle.supertype_answer.proofs.Joins.{kinds_too_short, args_too_short, one_node}

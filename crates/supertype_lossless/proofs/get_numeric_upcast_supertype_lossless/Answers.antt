@@ -1,5 +1,4 @@
 -- `supertype_lossless::get_numeric_upcast_supertype_lossless` meets its contract. Assumes nothing.
-use borrow.Author.Rules.{rules}
 use Rattle.flat.specs.Reading.{reading}
 use Rattle.supertype_lossless.proofs.Roots.{joined}
 use Rattle.supertype_lossless.proofs.get_numeric_upcast_supertype_lossless.Goals as goal

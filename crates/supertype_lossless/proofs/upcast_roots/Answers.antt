@@ -1,6 +1,5 @@
 -- `supertype_lossless::upcast_roots` meets its contract. Assumes nothing.
 use mathlib.Core.Path.{◌≡◌, sym, ap, ◌∙◌}
-use borrow.Author.Rules.{rules}
 use Rattle.flat.specs.Tree.{head_kind}
 use Rattle.supertype_answer.specs.Join.{joining_roots}
 use Rattle.supertype_answer.proofs.Joins.{left_refused, right_refused, both_roots}

@@ -1,5 +1,4 @@
 -- `supertype_report::join_report` meets its contract. Assumes nothing.
-use borrow.Author.Rules.{rules}
 use Rattle.supertype_report.proofs.Roots.{reported}
 use Rattle.supertype_report.proofs.join_report.Goals as goal
 

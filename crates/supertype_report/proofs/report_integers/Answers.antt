@@ -1,15 +1,15 @@
 -- `supertype_report::report_integers` meets its contract. Assumes nothing.
 use mathlib.Core.Path.{◌≡◌, sym, ap, ◌∙◌}
-use mathlib.Core.Logic.{⊎_elim}
 use native.Mathlib.Omega.{arith}
-use borrow.Author.Rules.{rules}
 use Rattle.supertype_report.specs.Kept.{Kept}
 use Rattle.supertype_report.specs.Report.{by_upcast, report_of}
 use Rattle.supertype_report.proofs.Keeping.{OfKind, no, keeps, listed, misses, rounds, lossy}
 use Rattle.supertype_report.proofs.Settled.{report_laws}
 use Rattle.supertype_report.proofs.report_integers.Goals as goal
-use Rattle.supertype_report.proofs.report_integers.Goals.{then-t-le-INT128+then-includes+else-includes-2, then-t-le-INT128+else-includes, else-t-le-INT128}
-use Rattle.supertype_report.proofs.report_integers.Goals.{After-integer_supertype-t, After-upcast_kinds, Joined-t-le-INT128}
+use Rattle.supertype_report.proofs.report_integers.Goals.{then-t-le-INT128+then-includes+else-includes-2}
+use Rattle.supertype_report.proofs.report_integers.Goals.{then-t-le-INT128+else-includes, else-t-le-INT128}
+use Rattle.supertype_report.proofs.report_integers.Goals.{After-integer_supertype-t, After-upcast_kinds}
+use Rattle.supertype_report.proofs.report_integers.Goals.{Joined-t-le-INT128}
 
 -- the kind of the supertype
 joined : (c : After-integer_supertype-t)
@@ -17,10 +17,12 @@ joined : (c : After-integer_supertype-t)
 joined c = record { integers = c.requires; is = c.integer_supertype-t.ensures }
 
 pub includes-requires : goal.includes-requires
-includes-requires c = (listed (joined (goal.at.includes-requires c).After-integer_supertype-t) (omega arith), omega arith)
+includes-requires c =
+    (listed (joined (goal.at.includes-requires c).After-integer_supertype-t) (omega arith), omega arith)
 
 pub includes-requires-then-includes : goal.includes-requires-then-includes
-includes-requires-then-includes c = (listed (joined (goal.at.includes-requires-then-includes c).After-integer_supertype-t) (omega arith), omega arith)
+includes-requires-then-includes c =
+    (listed (joined (goal.at.includes-requires-then-includes c).After-integer_supertype-t) (omega arith), omega arith)
 
 pub returns-then-includes-2 : goal.returns-then-includes-2
 returns-then-includes-2 c =
@@ -35,7 +37,8 @@ lost j =
     elim j.if-t-le-INT128.branch [
       | then-t-le-INT128+then-includes+else-includes-2 x ↦
           misses w x.if-t-le-INT128.true (λ f g. no x.includes-then-includes.ensures x.if-includes-2.false g)
-      | then-t-le-INT128+else-includes x ↦ misses w x.if-t-le-INT128.true (λ f g. no x.includes.ensures x.if-includes.false f)
+      | then-t-le-INT128+else-includes x ↦
+          misses w x.if-t-le-INT128.true (λ f g. no x.includes.ensures x.if-includes.false f)
       | else-t-le-INT128 x ↦ rounds w x.if-t-le-INT128.false
     ]
 
@@ -43,7 +46,9 @@ by-upcast : (c : After-upcast_kinds)
     → let a = c.args in by_upcast c.upcast_kinds.result ≡ report_of a.a a.b
 by-upcast c =
     ap by_upcast c.upcast_kinds.ensures
-    ∙ report_laws.only _ _ _ (lossy (joined (goal.at.After-upcast_kinds c).After-integer_supertype-t).integers (lost (goal.at.After-upcast_kinds c).Joined-t-le-INT128))
+    ∙ report_laws.only _ _ _
+    (lossy (joined (goal.at.After-upcast_kinds c).After-integer_supertype-t).integers
+    (lost (goal.at.After-upcast_kinds c).Joined-t-le-INT128))
 
 pub returns-in-To : goal.returns-in-To
 returns-in-To c = ap by_upcast (sym c.in-To.is) ∙ by-upcast (goal.at.returns-in-To c).After-upcast_kinds

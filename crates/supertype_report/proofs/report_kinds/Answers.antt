@@ -1,6 +1,5 @@
 -- `supertype_report::report_kinds` meets its contract. Assumes nothing.
 use native.Mathlib.Omega.{arith}
-use borrow.Author.Rules.{rules}
 use Rattle.supertype_report.proofs.Settled.{report_laws}
 use Rattle.supertype_report.proofs.report_kinds.Goals as goal
 

@@ -1,6 +1,5 @@
 -- `supertype_report::report_roots` meets its contract. Assumes nothing.
 use mathlib.Core.Path.{◌∙◌}
-use borrow.Author.Rules.{rules}
 use Rattle.flat.specs.Tree.{head_kind}
 use Rattle.supertype_answer.proofs.Joins.{left_refused, right_refused, both_roots}
 use Rattle.supertype_report.specs.Report.{types_report}

@@ -1,7 +1,6 @@
 -- `supertype_step::before` meets its contract. Assumes nothing.
 use mathlib.Core.Path.{sym, ◌∙◌}
 use native.Mathlib.Omega.{arith}
-use borrow.Author.Rules.{rules}
 use Rattle.supertype_step.proofs.Sides.{by_string, to_string_lem, by_turned}
 use Rattle.supertype_step.proofs.before.Goals as goal
 

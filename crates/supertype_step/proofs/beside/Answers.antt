@@ -1,7 +1,6 @@
 -- `supertype_step::beside` meets its contract. Assumes nothing.
 use mathlib.Core.Path.{sym, ◌∙◌}
 use native.Mathlib.Omega.{arith}
-use borrow.Author.Rules.{rules}
 use Rattle.supertype_step.proofs.Sides.{at_string, at_null, at_list, at_none, at_unknown}
 use Rattle.supertype_step.proofs.beside.Goals as goal
 

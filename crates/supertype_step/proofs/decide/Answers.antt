@@ -1,6 +1,5 @@
 -- `supertype_step::decide` meets its contract. Assumes nothing.
 use native.Mathlib.Omega.{arith}
-use borrow.Author.Rules.{rules}
 use Rattle.supertype_step.proofs.Leaf.{root_fits}
 use Rattle.supertype_step.proofs.Sides.{by_beside}
 use Rattle.supertype_step.proofs.decide.Goals as goal

@@ -1,5 +1,4 @@
 -- `supertype_step::leaves` meets its contract. Assumes nothing.
-use borrow.Author.Rules.{rules}
 use Rattle.supertype_step.proofs.Leaf.{by_leaves}
 use Rattle.supertype_step.proofs.leaves.Goals as goal
 

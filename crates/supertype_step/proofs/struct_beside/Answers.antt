@@ -1,7 +1,6 @@
 -- `supertype_step::struct_beside` meets its contract. Assumes nothing.
 use mathlib.Core.Path.{sym, ◌∙◌}
 use native.Mathlib.Omega.{arith}
-use borrow.Author.Rules.{rules}
 use Rattle.supertype_step.proofs.Sides.{at_each, at_empty, at_first, struct_nothing, struct_unknown}
 use Rattle.supertype_step.proofs.struct_beside.Goals as goal
 

@@ -1,7 +1,6 @@
 -- `supertype_step::turned` meets its contract. Assumes nothing.
 use Rattle.std.proofs.Common.{◌≡◌, refl}
 use Rattle.supertype_step.specs.declared.Step.{Step}
-use Rattle.supertype_step.specs.declared.Step.TheVariants as Step
 use Rattle.supertype_step.proofs.Sides.{turn_left, turn_within, turn_first, turn_each, turn_other}
 use Rattle.supertype_step.proofs.turned.Goals as goal
 

@@ -9,7 +9,7 @@ use Rattle.dtype.proofs.kind.is_string.Goals as goal
 
 pub returns-in_default : goal.returns-in_default
 unfolding is_string among
-returns-in_default c = simp (ne_eqb _ _ c.in_default.in_default-own.rest.0.1, ne_eqb _ _ c.in_default.in_default-own.rest.1)
+returns-in_default c = simp (ne_eqb c.args.kind 16 (omega arith), ne_eqb c.args.kind 24 (omega arith))
 
 pub returns-in-16 : goal.returns-in-16
 returns-in-16 c = of_run is_string true 16 1 (unfold says in tt) _ (omega arith)

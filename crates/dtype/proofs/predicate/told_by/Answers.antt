@@ -1,5 +1,4 @@
 -- `dtype::predicate::told_by` meets its contract: each arm is one call. Assumes nothing.
-use borrow.Author.Rules.{rules}
 use mathlib.Core.Path.{ap}
 use mathlib.Core.Bool.{not}
 use Rattle.dtype.proofs.predicate.told_by.Goals as goal

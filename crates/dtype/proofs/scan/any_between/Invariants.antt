@@ -1,13 +1,9 @@
 -- `dtype::scan::any_between` meets its contract: what was found in the first i kinds, or stands in the rest, decides.
 -- Assumes nothing.
 use Prim.Native.Nat.{◌-◌}
-use mathlib.Core.Path.{refl}
-use mathlib.Core.Logic.{⊎_elim}
-use native.Mathlib.Omega.{arith}
 use lib.ListN.{length}
-use borrow.Author.Rules.{rules}
 use Rattle.dtype.specs.Scan.{between}
-use Rattle.dtype.proofs.Scans.{Scanned, any_on, any_found, any_end, is_between, is_above, is_below}
+use Rattle.dtype.proofs.Scans.{Scanned}
 use Rattle.dtype.proofs.scan.any_between.Given as goal
 
 abbrev pub invariant-loop-i : goal.invariant-loop-i

@@ -1,5 +1,4 @@
 -- `dtype::scan::contains_list` meets its contract. Assumes nothing.
-use borrow.Author.Rules.{rules}
 use mathlib.Core.Path.{◌∙◌}
 use Rattle.dtype.proofs.Scans.{scan_list}
 use Rattle.dtype.proofs.scan.contains_list.Goals as goal

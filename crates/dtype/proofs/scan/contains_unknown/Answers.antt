@@ -1,5 +1,4 @@
 -- `dtype::scan::contains_unknown` meets its contract. Assumes nothing.
-use borrow.Author.Rules.{rules}
 use mathlib.Core.Path.{◌∙◌}
 use Rattle.dtype.proofs.Scans.{scan_unknown}
 use Rattle.dtype.proofs.scan.contains_unknown.Goals as goal

@@ -1,5 +1,4 @@
 -- `dtype::scan::is_logical` meets its contract. Assumes nothing.
-use borrow.Author.Rules.{rules}
 use Rattle.dtype.proofs.Scans.{logical_first, logical_second}
 use Rattle.dtype.proofs.scan.is_logical.Goals as goal
 

@@ -1,4 +1,5 @@
 -- `dtype::time_unit::unit_of` meets its contract. Assumes nothing.
+use native.Mathlib.Omega.{arith}
 use borrow.Author.Tests.{ne_eqb}
 use Rattle.dtype.specs.TimeUnit.{unit_of}
 use Rattle.dtype.proofs.time_unit.unit_of.Goals as goal
@@ -18,4 +19,9 @@ returns-in-2 c = rw c.in-2.is
 pub returns-in_default : goal.returns-in_default
 unfolding unit_of
 returns-in_default c =
-    rw (ne_eqb _ 0 c.in_default.in_default-own.rest.0.0.1, ne_eqb _ 1 c.in_default.in_default-own.rest.0.1, ne_eqb _ 2 c.in_default.in_default-own.rest.1)
+    rw (
+      ne_eqb c.args.number 0 (omega arith),
+      ne_eqb c.args.number 1 (omega arith),
+      ne_eqb c.args.number 2
+          (omega arith),
+    )

@@ -1,5 +1,4 @@
 -- `dtype::time_units::get_time_units` meets its contract. Assumes nothing.
-use borrow.Author.Rules.{rules}
 use mathlib.Core.Path.{refl}
 use Rattle.dtype.specs.TimeUnits.{get_time_units}
 use Rattle.dtype.specs.declared.time_unit.TimeUnit.TheVariants.{Nanoseconds, Microseconds, Milliseconds}

@@ -1,5 +1,4 @@
 -- `encoded::Encoded::found` meets its contract. Assumes nothing.
-use borrow.Author.Rules.{rules}
 use Rattle.encoded.proofs.Encoded.found.Goals as goal
 
 pub returns-in-Bytes : goal.returns-in-Bytes

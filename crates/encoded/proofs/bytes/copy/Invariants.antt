@@ -1,9 +1,7 @@
 -- `encoded::bytes::copy` meets its contract: the first i bytes are copied. Assumes nothing.
-use native.Mathlib.Omega.{arith}
 use Prim.Native.Nat.{◌-◌}
-use mathlib.Core.Path.{refl}
 use lib.ListN.{length}
-use Rattle.encoded.proofs.Laws.{Copied, copied_none, copied_one, copied_all}
+use Rattle.encoded.proofs.Laws.{Copied}
 use Rattle.encoded.proofs.bytes.copy.Given as goal
 
 abbrev pub invariant-loop-i : goal.invariant-loop-i

@@ -1,5 +1,4 @@
 -- `encoded::bytes::count` meets its contract. Assumes nothing.
-use borrow.Author.Rules.{rules}
 use native.Mathlib.Omega.{arith}
 use Rattle.encoded.specs.Encoding.{count_in}
 use Rattle.encoded.proofs.Laws.{number_bytes}

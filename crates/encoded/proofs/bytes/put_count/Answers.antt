@@ -1,5 +1,4 @@
 -- `encoded::bytes::put_count` meets its contract. Assumes nothing.
-use borrow.Author.Rules.{rules}
 use lib.Seq.{sets-eq}
 use Rattle.encoded.specs.Encoding.{little_endian}
 use Rattle.encoded.proofs.bytes.put_count.Goals as goal

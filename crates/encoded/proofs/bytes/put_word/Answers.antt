@@ -1,7 +1,4 @@
 -- `encoded::bytes::put_word` meets its contract. Assumes nothing.
-use borrow.Author.Rules.{rules}
-use native.Mathlib.Omega.{arith}
-use lib.ListN.{length-set}
 use lib.Seq.{sets-eq}
 use Rattle.encoded.specs.Encoding.{little_endian}
 use Rattle.encoded.proofs.bytes.put_word.Goals as goal

@@ -1,9 +1,7 @@
 -- `encoded::bytes::read_args` meets its contract: the first i arguments are read. Assumes nothing.
 use native.Mathlib.Omega.{arith}
-use Prim.Native.Nat.{◌-◌}
 use mathlib.Core.Path.{sym, ◌∙◌}
-use Rattle.encoded.specs.Encoding.{args_from}
-use Rattle.encoded.proofs.Laws.{Copied, copied_none, copied_one, copied_all, args_from_length, args_from_at}
+use Rattle.encoded.proofs.Laws.{copied_one, copied_all, args_from_length, args_from_at}
 use Rattle.encoded.proofs.bytes.read_args.Goals as goal
 
 pub loop-i-preserved : goal.loop-i-preserved

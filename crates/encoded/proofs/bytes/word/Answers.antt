@@ -1,5 +1,4 @@
 -- `encoded::bytes::word` meets its contract: the number, byte by byte. Assumes nothing.
-use borrow.Author.Rules.{rules}
 use native.Mathlib.Nat.{add-zero}
 use native.Mathlib.Omega.{arith}
 use Rattle.encoded.proofs.Laws.{number_bytes}

@@ -1,10 +1,8 @@
 -- `encoded::bytes::write_args` meets its contract: the first i arguments are written. Assumes nothing.
-use native.Mathlib.Omega.{arith}
 use Prim.Native.Nat.{◌≤◌, ◌-◌, ◌*◌}
-use lib.ListN.{length, length-drop}
-use borrow.Author.Rules.{part_to_end}
+use lib.ListN.{length}
 use Rattle.encoded.specs.Encoding.{arg_bytes}
-use Rattle.encoded.proofs.Laws.{Copied, copied_none, copied_all, arg_bytes_length, args_next}
+use Rattle.encoded.proofs.Laws.{Copied}
 use Rattle.encoded.proofs.bytes.write_args.Given as goal
 
 abbrev pub invariant-loop-i : goal.invariant-loop-i

@@ -2,10 +2,9 @@
 -- Assumes nothing.
 use mathlib.Core.Path.{sym, ◌∙◌}
 use native.Mathlib.Omega.{arith}
-use Rattle.flat.proofs.Scanning.{at_start, type_end, bad_type, NodeFits, past_leaf, UnderOne}
-use Rattle.flat.proofs.Scanning.{wrapped_asks, past_one, deep_one}
-use Rattle.flat.proofs.Scanning.{opened_asks, past_struct, deep_struct, Past, none_owed, field_missing, FieldDue}
-use Rattle.flat.proofs.Scanning.{bad_field, past_field}
+use Rattle.flat.proofs.Scanning.{at_start, type_end, bad_type, NodeFits, past_leaf, UnderOne, wrapped_asks, past_one}
+use Rattle.flat.proofs.Scanning.{deep_one, opened_asks, past_struct, deep_struct, Past, none_owed, field_missing}
+use Rattle.flat.proofs.Scanning.{FieldDue, bad_field, past_field}
 use Rattle.flat.proofs.scan.passes.Goals as goal
 use Rattle.flat.proofs.scan.passes.Goals.{in-0-to-27, in_default+else-s-deep-2, After-wrapped-s, Else-at-kinds}
 use Rattle.flat.proofs.scan.passes.Goals.{Else-not-type_fits, Joined-kind-lt28}

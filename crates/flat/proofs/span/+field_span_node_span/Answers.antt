@@ -6,10 +6,9 @@
 use native.Mathlib.Omega.{arith}
 use borrow.Author.Rules.{rules}
 use mathlib.Core.Path.{refl}
-use Rattle.flat.proofs.Spans.{start, fields_done, no_level, type_call}
-use Rattle.flat.proofs.Spans.{TypeSaid, field_deep, field_done}
-use Rattle.flat.proofs.Spans.{AtBottom, at_bottom, node_deep, node_leaf, fields_call}
-use Rattle.flat.proofs.Spans.{FieldsSaid, fields_inside, node_fields, node_deeper}
+use Rattle.flat.proofs.Spans.{start, fields_done, no_level, type_call, TypeSaid, field_deep, field_done, AtBottom}
+use Rattle.flat.proofs.Spans.{at_bottom, node_deep, node_leaf, fields_call, FieldsSaid, fields_inside, node_fields}
+use Rattle.flat.proofs.Spans.{node_deeper}
 use Rattle.flat.proofs.span.+field_span_node_span.Goals as goal
 
 -- ---- the walk of fields

@@ -1,7 +1,6 @@
 -- `supertype_arms::number::mixed` meets its contract. Assumes nothing.
 use Prim.Native.Nat.{◌+◌, max}
 use native.Mathlib.Omega.{arith}
-use borrow.Author.Rules.{rules}
 use Rattle.flat.specs.Kind.{UInt8, UInt64, UInt128, Int8, Int128, Float64}
 use Rattle.supertype_arms.specs.declared.plan.Plan.TheVariants.{Kind}
 use Rattle.supertype_arms.proofs.Areas.{right, rule}

@@ -1,7 +1,6 @@
 -- `supertype_arms::number::number_row` meets its contract. Assumes nothing.
 use mathlib.Core.Bool.{cond}
 use native.Mathlib.Omega.{arith}
-use borrow.Author.Rules.{rules}
 use Rattle.flat.specs.Kind.{Boolean, UInt8, Float16, Float64, Decimal, String, Binary, UnknownAny}
 use Rattle.supertype_arms.specs.declared.plan.Plan.TheVariants.{No, Kind, DecimalInteger}
 use Rattle.supertype_arms.proofs.Areas.{right, rule}

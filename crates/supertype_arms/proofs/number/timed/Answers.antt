@@ -34,7 +34,8 @@ pub returns-then-b-eq-DATE-2 : goal.returns-then-b-eq-DATE-2
 returns-then-b-eq-DATE-2 c s = rule (λ s a b. Kind Float32) Float16 2 Date 1 (unfold right in tt) s _ _ (omega arith)
 
 pub returns-else-b-eq-DATE-2 : goal.returns-else-b-eq-DATE-2
-returns-else-b-eq-DATE-2 c s = rule (λ s a b. Kind Float64) Float16 2 Datetime 3 (unfold right in tt) s _ _ (omega arith)
+returns-else-b-eq-DATE-2 c s =
+    rule (λ s a b. Kind Float64) Float16 2 Datetime 3 (unfold right in tt) s _ _ (omega arith)
 
 pub returns-in_default : goal.returns-in_default
 returns-in_default c s = rule (λ s a b. Kind Float64) Float64 1 Date 4 (unfold right in tt) s _ _ (omega arith)

@@ -1,7 +1,6 @@
 -- `supertype_arms::number::to_float` meets its contract. Assumes nothing.
 use Prim.Native.Nat.{max}
 use native.Mathlib.Omega.{arith}
-use borrow.Author.Rules.{rules}
 use Rattle.flat.specs.Kind.{Boolean, UInt16, UInt32, Int8, Int16, Int32, Float16, Float32, Float64}
 use Rattle.supertype_arms.specs.declared.plan.Plan.TheVariants.{Kind}
 use Rattle.supertype_arms.proofs.Areas.{right, right_apart, rule, rule_apart}
@@ -30,4 +29,5 @@ pub returns-in_default-2 : goal.returns-in_default-2
 returns-in_default-2 c s = rule (λ s a b. Kind b) Int8 1 Float16 3 (unfold right in tt) s _ _ (omega arith)
 
 pub returns-in_default-3 : goal.returns-in_default-3
-returns-in_default-3 c s = rule_apart (λ s a b. Kind b) Float16 3 Float16 3 (unfold right_apart in tt) s _ _ (omega arith) (cc)
+returns-in_default-3 c s =
+    rule_apart (λ s a b. Kind b) Float16 3 Float16 3 (unfold right_apart in tt) s _ _ (omega arith) (cc)

@@ -1,5 +1,4 @@
 -- `supertype_arms::plan::planned` meets its contract. Assumes nothing.
-use borrow.Author.Rules.{rules}
 use Rattle.supertype_arms.proofs.Areas.{apart_at}
 use Rattle.supertype_arms.proofs.plan.planned.Goals as goal
 

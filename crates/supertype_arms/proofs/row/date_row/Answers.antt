@@ -1,6 +1,5 @@
 -- `supertype_arms::row::date_row` meets its contract. Assumes nothing.
 use native.Mathlib.Omega.{arith}
-use borrow.Author.Rules.{rules}
 use Rattle.flat.specs.Kind.{Date, Duration}
 use Rattle.supertype_arms.specs.declared.plan.Plan.TheVariants.{Right, Kind}
 use Rattle.supertype_arms.proofs.Areas.{right, right_apart, rule, rule_apart, alone_right}

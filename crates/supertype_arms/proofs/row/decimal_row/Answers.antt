@@ -1,7 +1,6 @@
 -- `supertype_arms::row::decimal_row` meets its contract. Assumes nothing.
 use mathlib.Core.Bool.{cond}
 use native.Mathlib.Omega.{arith}
-use borrow.Author.Rules.{rules}
 use Rattle.flat.specs.Kind.{Null, Float64, Decimal, String, Binary, UnknownAny, UnknownFloat, UnknownIntPos}
 use Rattle.supertype_arms.specs.declared.plan.Plan.TheVariants.{No, Kind, Decimals, DynDecimal}
 use Rattle.supertype_arms.proofs.Areas.{right, right_apart, rule, rule_apart}
@@ -16,7 +15,8 @@ pub returns-in-25 : goal.returns-in-25
 returns-in-25 c = rule (λ s a b. Kind Float64) Decimal 1 UnknownFloat 1 (unfold right in tt) _ _ _ (omega arith)
 
 pub returns-in-0-to-15 : goal.returns-in-0-to-15
-returns-in-0-to-15 c = rule_apart (λ s a b. Decimals) Decimal 1 Null 16 (unfold right_apart in tt) _ _ _ (omega arith) (cc)
+returns-in-0-to-15 c =
+    rule_apart (λ s a b. Decimals) Decimal 1 Null 16 (unfold right_apart in tt) _ _ _ (omega arith) (cc)
 
 pub returns-in-17-to-22 : goal.returns-in-17-to-22
 returns-in-17-to-22 c = rule (λ s a b. No) Decimal 1 Binary 6 (unfold right in tt) _ _ _ (omega arith)

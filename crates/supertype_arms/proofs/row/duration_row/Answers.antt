@@ -1,6 +1,5 @@
 -- `supertype_arms::row::duration_row` meets its contract. Assumes nothing.
 use native.Mathlib.Omega.{arith}
-use borrow.Author.Rules.{rules}
 use Rattle.flat.specs.Kind.{Duration}
 use Rattle.supertype_arms.specs.declared.plan.Plan.TheVariants.{Durations}
 use Rattle.supertype_arms.proofs.Areas.{right, rule, alone_right}

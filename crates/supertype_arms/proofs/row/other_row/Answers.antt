@@ -2,7 +2,6 @@
 use mathlib.Core.Bool.{cond}
 use native.Mathlib.Omega.{arith}
 use lib.Dec.{ltb}
-use borrow.Author.Rules.{rules}
 use Rattle.flat.specs.Kind.{Binary, UnknownAny}
 use Rattle.supertype_arms.specs.declared.plan.Plan.TheVariants.{No, Kind}
 use Rattle.supertype_arms.proofs.Areas.{right_apart, rule_apart, apart_at, alone_right}

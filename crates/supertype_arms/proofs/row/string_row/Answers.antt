@@ -1,7 +1,6 @@
 -- `supertype_arms::row::string_row` meets its contract. Assumes nothing.
 use mathlib.Core.Bool.{cond}
 use native.Mathlib.Omega.{arith}
-use borrow.Author.Rules.{rules}
 use Rattle.flat.specs.Kind.{String, Binary, BinaryOffset, Date, UnknownAny, UnknownStr, UnknownFloat}
 use Rattle.supertype_arms.specs.declared.plan.Plan.TheVariants.{No, Left, Kind}
 use Rattle.supertype_arms.proofs.Areas.{right, right_apart, rule, rule_apart}
@@ -17,7 +16,8 @@ pub returns-in-24 : goal.returns-in-24
 returns-in-24 c = rule (λ s a b. Left) String 1 UnknownStr 1 (unfold right in tt) _ _ _ (omega arith)
 
 pub returns-in-0-to-17 : goal.returns-in-0-to-17
-returns-in-0-to-17 c = rule_apart (λ s a b. Kind Binary) String 1 String 2 (unfold right_apart in tt) _ _ _ (omega arith) (cc)
+returns-in-0-to-17 c =
+    rule_apart (λ s a b. Kind Binary) String 1 String 2 (unfold right_apart in tt) _ _ _ (omega arith) (cc)
 
 pub returns-in-19-to-22 : goal.returns-in-19-to-22
 returns-in-19-to-22 c =

@@ -1,7 +1,6 @@
 -- `supertype_arms::row::unknown_row` meets its contract. Assumes nothing.
 use mathlib.Core.Bool.{cond}
 use native.Mathlib.Omega.{arith}
-use borrow.Author.Rules.{rules}
 use Rattle.flat.specs.Kind.{UnknownAny, UnknownStr, UnknownFloat}
 use Rattle.supertype_arms.specs.declared.plan.Plan.TheVariants.{Left, Kind}
 use Rattle.supertype_arms.proofs.Areas.{right_apart, rule_apart}

@@ -1,7 +1,6 @@
 -- `supertype_lossless::upcast::mixed` meets its contract. Assumes nothing.
 use Prim.Native.Nat.{◌+◌, max}
 use native.Mathlib.Omega.{arith}
-use borrow.Author.Rules.{rules}
 use Rattle.flat.specs.Kind.{UInt8, UInt128, Int8}
 use Rattle.supertype_lossless.specs.declared.upcast.Upcast.TheVariants.{To, Nothing}
 use Rattle.supertype_lossless.proofs.Upcasts.{right, rule}

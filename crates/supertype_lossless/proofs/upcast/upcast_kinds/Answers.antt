@@ -2,7 +2,6 @@
 use mathlib.Core.Bool.{true}
 use Prim.Native.Nat.{max}
 use native.Mathlib.Omega.{arith}
-use borrow.Author.Rules.{rules}
 use Rattle.flat.specs.Kind.{Null, UInt8, Int8, Float16, Decimal}
 use Rattle.dtype.proofs.Runs.{says, of_run}
 use Rattle.supertype_lossless.specs.declared.upcast.Upcast.TheVariants.{To, Nothing}

@@ -14,7 +14,8 @@ returns-then-arg-lt-INT64_END c = if_any dyn_int_lem (2 ^ 31) (2 ^ 63) _ _ _ (om
 
 pub returns-then-kind-eq-UNKNOWN_INT_POS : goal.returns-then-kind-eq-UNKNOWN_INT_POS
 unfolding first
-returns-then-kind-eq-UNKNOWN_INT_POS c = if_pos dyn_int_lem (2 ^ 63) (2 ^ 64) _ _ _ (omega arith) (omega arith) (omega arith) tt
+returns-then-kind-eq-UNKNOWN_INT_POS c =
+    if_pos dyn_int_lem (2 ^ 63) (2 ^ 64) _ _ _ (omega arith) (omega arith) (omega arith) tt
 
 pub returns : goal.returns
 unfolding first

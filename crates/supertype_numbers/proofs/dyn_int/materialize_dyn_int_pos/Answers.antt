@@ -6,7 +6,8 @@ use Rattle.supertype_numbers.proofs.dyn_int.materialize_dyn_int_pos.Goals as goa
 
 pub returns-then-kind-ne-UNKNOWN_INT_POS : goal.returns-then-kind-ne-UNKNOWN_INT_POS
 unfolding first
-returns-then-kind-ne-UNKNOWN_INT_POS c = if_neg dyn_int_pos 0 (2 ^ 64) _ _ _ (omega arith) (omega arith) (omega arith) tt
+returns-then-kind-ne-UNKNOWN_INT_POS c =
+    if_neg dyn_int_pos 0 (2 ^ 64) _ _ _ (omega arith) (omega arith) (omega arith) tt
 
 pub returns-then-arg-lt256 : goal.returns-then-arg-lt256
 unfolding first
@@ -18,7 +19,8 @@ returns-then-arg-lt65536 c = if_pos dyn_int_pos (2 ^ 8) (2 ^ 16) _ _ _ (omega ar
 
 pub returns-then-arg-lt4294967296 : goal.returns-then-arg-lt4294967296
 unfolding first
-returns-then-arg-lt4294967296 c = if_pos dyn_int_pos (2 ^ 16) (2 ^ 32) _ _ _ (omega arith) (omega arith) (omega arith) tt
+returns-then-arg-lt4294967296 c =
+    if_pos dyn_int_pos (2 ^ 16) (2 ^ 32) _ _ _ (omega arith) (omega arith) (omega arith) tt
 
 pub returns : goal.returns
 unfolding first

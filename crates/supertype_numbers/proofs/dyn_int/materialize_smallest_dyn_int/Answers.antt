@@ -22,7 +22,8 @@ returns-then-arg-lt-INT64_END c = if_any smallest_dyn_int (2 ^ 31) (2 ^ 63) _ _ 
 
 pub returns-then-kind-eq-UNKNOWN_INT_POS : goal.returns-then-kind-eq-UNKNOWN_INT_POS
 unfolding first
-returns-then-kind-eq-UNKNOWN_INT_POS c = if_pos smallest_dyn_int (2 ^ 63) (2 ^ 64) _ _ _ (omega arith) (omega arith) (omega arith) tt
+returns-then-kind-eq-UNKNOWN_INT_POS c =
+    if_pos smallest_dyn_int (2 ^ 63) (2 ^ 64) _ _ _ (omega arith) (omega arith) (omega arith) tt
 
 pub returns : goal.returns
 unfolding first

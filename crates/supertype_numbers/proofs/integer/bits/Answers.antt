@@ -1,5 +1,4 @@
 -- `supertype_numbers::integer::bits` meets its contract. Assumes nothing.
-use borrow.Author.Rules.{rules}
 use Rattle.supertype_numbers.proofs.Rows.{not_zero, bits_of_lem}
 use Rattle.supertype_numbers.proofs.integer.bits.Goals as goal
 

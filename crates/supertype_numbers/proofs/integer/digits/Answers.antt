@@ -1,6 +1,5 @@
 -- `supertype_numbers::integer::digits` meets its contract. Assumes nothing.
 use native.Mathlib.Omega.{arith}
-use borrow.Author.Rules.{rules}
 use Rattle.supertype_numbers.proofs.Digits.{few, counted_by_bits}
 use Rattle.supertype_numbers.proofs.integer.digits.Goals as goal
 

@@ -1,5 +1,4 @@
 -- `supertype_numbers::integer::includes` meets its contract. Assumes nothing.
-use borrow.Author.Rules.{rules}
 use Rattle.supertype_numbers.proofs.Rows.{TwoRows, told}
 use Rattle.supertype_numbers.proofs.integer.includes.Goals as goal
 use Rattle.supertype_numbers.proofs.integer.includes.Goals.{After-integer-b}

@@ -1,5 +1,4 @@
 -- `supertype_numbers::integer::integer` meets its contract. Assumes nothing.
-use borrow.Author.Rules.{rules}
 use Rattle.dtype.specs.Match.{among}
 use Rattle.dtype.specs.Predicate.{is_signed_integer}
 use Rattle.supertype_numbers.specs.Table.{row_of}

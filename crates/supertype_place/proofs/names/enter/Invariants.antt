@@ -1,9 +1,5 @@
 -- `supertype_place::names::enter` meets its contract. Assumes nothing.
-use mathlib.Core.Path.{◌≡◌}
-use mathlib.Core.Logic.{⊎_elim}
-use native.Mathlib.Omega.{arith}
-use Rattle.supertype_place.proofs.Tables.{Entering, enter_start, enter_length, enter_end}
-use Rattle.supertype_place.proofs.Tables.{enter_field, enter_again, enter_free, enter_taken}
+use Rattle.supertype_place.proofs.Tables.{Entering}
 use Rattle.supertype_place.proofs.names.enter.Given as goal
 
 abbrev pub invariant-loop-left : goal.invariant-loop-left

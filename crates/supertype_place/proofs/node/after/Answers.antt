@@ -2,7 +2,6 @@
 use mathlib.Core.Path.{sym, ◌∙◌}
 use native.Mathlib.Omega.{arith}
 use Rattle.supertype_place.proofs.Places.{leaf_one, span_nodes, span_ends}
-use borrow.Author.Rules.{rules}
 use Rattle.supertype_place.proofs.node.after.Goals as goal
 
 pub returns-then-kinds-at-lt-LIST : goal.returns-then-kinds-at-lt-LIST

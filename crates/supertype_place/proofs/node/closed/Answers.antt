@@ -1,7 +1,6 @@
 -- `supertype_place::node::closed` meets its contract. Assumes nothing.
 use native.Mathlib.Omega.{arith}
 use Rattle.supertype_place.proofs.Places.{closed_fields, closed_apart, closed_nothing, fits_after}
-use borrow.Author.Rules.{rules}
 use Rattle.supertype_place.proofs.node.closed.Goals as goal
 
 pub overflow_add-result : goal.overflow_add-result

@@ -1,11 +1,8 @@
 -- `supertype_place::node::copy` meets its contract. Assumes nothing.
 use mathlib.Core.Path.{◌≡◌, refl}
-use Prim.Native.Nat.{◌-◌, ◌≤◌}
 use native.Mathlib.Omega.{arith}
-use lib.ListN.{length, take, drop, length-set}
-use Rattle.supertype_place.specs.Written.{Wrote}
+use lib.ListN.{length-set}
 use Rattle.supertype_place.proofs.Writes.{not_yet, copy_next}
-use borrow.Author.Rules.{rules}
 use Rattle.supertype_place.proofs.node.copy.Goals as goal
 
 pub loop-i-init : goal.loop-i-init

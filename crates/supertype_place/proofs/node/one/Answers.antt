@@ -1,6 +1,5 @@
 -- `supertype_place::node::one` meets its contract. Assumes nothing.
 use Rattle.supertype_place.proofs.Places.{leaf_joins}
-use borrow.Author.Rules.{rules}
 use Rattle.supertype_place.proofs.node.one.Goals as goal
 
 pub returns : goal.returns

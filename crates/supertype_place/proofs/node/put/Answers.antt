@@ -1,7 +1,6 @@
 -- `supertype_place::node::put` meets its contract. Assumes nothing.
 use native.Mathlib.Omega.{arith}
 use Rattle.supertype_place.proofs.Writes.{put_one}
-use borrow.Author.Rules.{rules}
 use Rattle.supertype_place.proofs.node.put.Goals as goal
 
 pub returns : goal.returns

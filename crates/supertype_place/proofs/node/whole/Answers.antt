@@ -1,7 +1,6 @@
 -- `supertype_place::node::whole` meets its contract. Assumes nothing.
 use native.Mathlib.Omega.{arith}
 use Rattle.supertype_place.proofs.Places.{copied}
-use borrow.Author.Rules.{rules}
 use Rattle.supertype_place.proofs.node.whole.Goals as goal
 
 pub returns : goal.returns

@@ -1,8 +1,7 @@
 -- `supertype_place::run::first_of` meets its contract. Assumes nothing.
 use native.Mathlib.Omega.{arith}
 use Rattle.supertype_place.proofs.Places.{field_in}
-use Rattle.supertype_place.proofs.Seeks.{Seeking, seek_start, seek_found, seek_next, seek_missing}
-use borrow.Author.Rules.{rules}
+use Rattle.supertype_place.proofs.Seeks.{seek_start, seek_found, seek_next, seek_missing}
 use Rattle.supertype_place.proofs.run.first_of.Goals as goal
 
 pub loop-left-init : goal.loop-left-init

@@ -1,7 +1,6 @@
 -- `supertype_place::run::has` meets its contract. Assumes nothing.
 use Rattle.supertype_place.specs.Place.{run_in}
 use Rattle.supertype_place.proofs.Seeks.{found_seen, missing_seen}
-use borrow.Author.Rules.{rules}
 use Rattle.supertype_place.proofs.run.has.Goals as goal
 
 pub returns-in-At : goal.returns-in-At

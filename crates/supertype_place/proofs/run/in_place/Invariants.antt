@@ -1,8 +1,5 @@
 -- `supertype_place::run::in_place` meets its contract. Assumes nothing.
-use native.Mathlib.Omega.{arith}
-use Rattle.supertype_place.proofs.Places.{field_in}
-use Rattle.supertype_place.proofs.Seeks.{Along, along_start, along_next, along_stop, along_end}
-use borrow.Author.Rules.{rules}
+use Rattle.supertype_place.proofs.Seeks.{Along}
 use Rattle.supertype_place.proofs.run.in_place.Given as goal
 
 abbrev pub invariant-loop-left : goal.invariant-loop-left

@@ -1,9 +1,5 @@
 -- `supertype_place::run::last_of` meets its contract. Assumes nothing.
-use mathlib.Core.Logic.{⊎_elim}
-use native.Mathlib.Omega.{arith}
-use Rattle.supertype_place.proofs.Places.{field_in}
-use Rattle.supertype_place.proofs.Seeks.{Latest, latest_start, latest_yes, latest_no, latest_end}
-use borrow.Author.Rules.{rules}
+use Rattle.supertype_place.proofs.Seeks.{Latest}
 use Rattle.supertype_place.proofs.run.last_of.Given as goal
 
 abbrev pub invariant-loop-left : goal.invariant-loop-left

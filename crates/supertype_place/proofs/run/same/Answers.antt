@@ -1,6 +1,5 @@
 -- `supertype_place::run::same` meets its contract. Assumes nothing.
 use Rattle.supertype_place.proofs.Places.{same_types}
-use borrow.Author.Rules.{rules}
 use Rattle.supertype_place.proofs.run.same.Goals as goal
 
 pub returns : goal.returns
