@@ -12,7 +12,7 @@ use flat::Flat;
 
 // The reply to a merge, beside the types as it leaves them.
 #[repr(C)]
-#[derive(Drop)]
+#[derive(Clone, Copy)]
 pub struct TypesReply {
     pub reply: Reply,
     pub types: ChannelTypes,

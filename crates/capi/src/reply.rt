@@ -13,7 +13,7 @@ use supertype_report::Report;
 
 // 0 and a value, or a refusal's number and 0.
 #[repr(C)]
-#[derive(Drop)]
+#[derive(Clone, Copy)]
 pub struct Reply {
     pub number: u64,
     pub value: u64,

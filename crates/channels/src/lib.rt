@@ -18,7 +18,7 @@ use supertype_numbers::integer::is_listed;
 
 // For each channel the kind of the integer type that it holds, or 0 while it is empty.
 #[repr(C)]
-#[derive(Drop)]
+#[derive(Clone, Copy)]
 pub struct ChannelTypes {
     pub codes: [u8; ChannelTypes::CHANNELS],
 }
@@ -31,7 +31,7 @@ pub enum Merged {
 }
 
 // The answer of a merge, beside the types as it leaves them.
-#[derive(Drop)]
+#[derive(Clone, Copy)]
 pub struct Outcome {
     pub types: ChannelTypes,
     pub answer: Merged,

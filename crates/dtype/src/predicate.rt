@@ -5,7 +5,7 @@ ghost use Rattle.dtype.specs.Predicates.{told_by};
 
 use crate::{kind, scan};
 
-#[derive(Drop)]
+#[derive(Clone, Copy)]
 pub enum Predicate {
     IsNested,
     IsKnown,

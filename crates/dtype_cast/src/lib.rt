@@ -52,8 +52,8 @@ impl Verdict {
 
 // The walk's verdict on two types that were checked, at the front of the arrays.
 fn walk_verdict(from_kinds: &[u8], from_args: &[u64], to_kinds: &[u8], to_args: &[u64]) -> Verdict
-    requires valid { Valid from_kinds.now from_args.now }
-    requires valid_2 { Valid to_kinds.now to_args.now }
+    requires from_valid { Valid from_kinds.now from_args.now }
+    requires to_valid { Valid to_kinds.now to_args.now }
     ensures { let from = type_at from_kinds.now from_args.now in
         let to = type_at to_kinds.now to_args.now in
         result ≡ verdict (can_cast_to from to) }
@@ -72,8 +72,8 @@ pub fn checked_cast(
     to_kinds: &[u8],
     to_args: &[u64],
 ) -> Verdict
-    requires valid { Valid from_kinds.now from_args.now }
-    requires valid_2 { Valid to_kinds.now to_args.now }
+    requires from_valid { Valid from_kinds.now from_args.now }
+    requires to_valid { Valid to_kinds.now to_args.now }
     ensures { let from = type_at from_kinds.now from_args.now in
         let to = type_at to_kinds.now to_args.now in
         result ≡ verdict (can_cast_to from to) }

@@ -9,7 +9,7 @@ use dtype::node::equal_node;
 use flat::kind::Kind;
 
 // The verdict that two roots give, or that they leave it open.
-#[derive(Drop)]
+#[derive(Clone, Copy)]
 pub enum Early {
     Yes,
     No,

@@ -9,7 +9,7 @@ use flat::kind::Kind;
 use flat::span::Span;
 
 // The verdict on a cast; a yes with the number of nodes of either type, so that a walk over fields can move on.
-#[derive(Drop)]
+#[derive(Clone, Copy)]
 pub enum Cast {
     Yes(usize, usize),
     No,
@@ -46,8 +46,8 @@ fn under(c: Cast) -> Cast
 // The types at the front of the arrays. Equality is tested of leaves only: equal nested types have yes from their arms.
 #[cycle(field_cast_node_cast)]
 pub fn node_cast(from_kinds: &[u8], from_args: &[u64], to_kinds: &[u8], to_args: &[u64]) -> Cast
-    requires valid { Valid from_kinds.now from_args.now }
-    requires valid_2 { Valid to_kinds.now to_args.now }
+    requires from_valid { Valid from_kinds.now from_args.now }
+    requires to_valid { Valid to_kinds.now to_args.now }
     ensures { let from = type_at from_kinds.now from_args.now in
         let to = type_at to_kinds.now to_args.now in
         result ≡ cast_answer from to }

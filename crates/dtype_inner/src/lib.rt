@@ -15,7 +15,7 @@ use flat::{Checked, Flat, Optional};
 
 // The widths down an Array's consecutive Arrays; the number is 0 or a refusal's.
 #[repr(C)]
-#[derive(Drop)]
+#[derive(Clone, Copy)]
 pub struct Shape {
     pub number: u64,
     pub count: u64,

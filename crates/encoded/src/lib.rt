@@ -17,7 +17,7 @@ use flat::error::Error;
 use flat::{Checked, Flat, Optional, Root, Written, argument};
 
 // The layout of an encoded type.
-#[derive(Drop)]
+#[derive(Clone, Copy)]
 pub struct Encoding {}
 
 impl Encoding {

@@ -52,7 +52,7 @@ pub fn ask(p: Predicate, encoded: &[u8]) -> Answer
 }
 
 // Which part: the inner type, the leaf type, or the type under an Array's consecutive Arrays.
-#[derive(Drop)]
+#[derive(Clone, Copy)]
 pub enum Part {
     Inner,
     Leaf,

@@ -23,7 +23,7 @@ use flat::{Checked, Flat, Written};
 
 // What is asked of two types: whether they are equal, whether the left one contains the right one, whether the left one
 // casts to the right one.
-#[derive(Drop)]
+#[derive(Clone, Copy)]
 enum Question {
     Equal,
     Contains,
@@ -31,7 +31,7 @@ enum Question {
 }
 
 // The numbers of nodes of two types, or why one is refused.
-#[derive(Drop)]
+#[derive(Clone, Copy)]
 enum Pair {
     Nodes(usize, usize),
     Refused(Error),

@@ -1,6 +1,6 @@
 // The kinds of a node: document 01's codes, by the names of dtype.rs. `Unknown(Int(v))` has two codes, by the sign of
 // v; a field is a node of its own, over the type that it names.
-#[derive(Drop)]
+#[derive(Clone, Copy)]
 pub struct Kind {}
 
 impl Kind {

@@ -22,7 +22,7 @@ use kind::Kind;
 use span::Span;
 
 // A flat type, and its limits.
-#[derive(Drop)]
+#[derive(Clone, Copy)]
 pub struct Flat {}
 
 impl Flat {
@@ -125,7 +125,7 @@ impl Optional {
 }
 
 // The kind and the argument at the root of a type, which are all of it where it has no children.
-#[derive(Drop)]
+#[derive(Clone, Copy)]
 pub enum Root {
     Node(u8, u64),
     Refused(Error),

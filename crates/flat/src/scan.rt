@@ -10,7 +10,7 @@ use crate::argument::argument_fits;
 use crate::kind::Kind;
 
 // Where the scan stands.
-#[derive(Drop)]
+#[derive(Clone, Copy)]
 pub struct Scan {
     // The fields still owed: a Struct owes its fields, and each field that is met pays for one.
     pub owed: usize,

@@ -7,7 +7,7 @@ ghost use Rattle.flat.specs.Walk.{Valid, type_at, ValidRun, run_at};
 use crate::kind::Kind;
 
 // How many nodes the type at the front has, or that it is deeper than asked.
-#[derive(Drop)]
+#[derive(Clone, Copy)]
 pub enum Span {
     Ends(usize),
     TooDeep,

@@ -25,7 +25,7 @@ use std::io::Read;
 const BYTES: usize = 524288;
 
 // What a line is: the last one, or a call that is answered here as recorded, or otherwise.
-#[derive(Drop)]
+#[derive(Clone, Copy)]
 enum Line {
     Last,
     Same,

@@ -10,14 +10,14 @@ const KIND: u8 = 255;
 const ARG: u64 = 0x5EED_5EED_5EED_5EED;
 
 // Which type is built; the flag is `allow_unknown`.
-#[derive(Drop)]
+#[derive(Clone, Copy)]
 pub enum BuiltForm {
     Physical,
     Materialized(bool),
 }
 
 // Which rule joins two types; the flags are `allow_implode_list` and `allow_primitive_to_string`.
-#[derive(Drop)]
+#[derive(Clone, Copy)]
 pub enum JoinRule {
     Lossless,
     Supertype(bool, bool),

@@ -8,7 +8,7 @@ pub const NUMBERS: usize = 2048;
 pub const NODES: usize = Flat::MAX_NODES + 1;
 
 // A number and the place after it.
-#[derive(Drop)]
+#[derive(Clone, Copy)]
 enum Number {
     Is(u64, usize),
     Nothing,
@@ -76,7 +76,7 @@ pub fn read_numbers(text: &[u8], numbers: &mut [u64; NUMBERS]) -> usize {
 }
 
 // How many kinds a type has that stands at the front of a line, and where its arguments start and end.
-#[derive(Drop)]
+#[derive(Clone, Copy)]
 pub enum TypeRead {
     At(usize, usize, usize),
     Nothing,
@@ -121,7 +121,7 @@ pub fn read_type(line: &[u64], kinds: &mut [u8; NODES]) -> TypeRead {
     TypeRead::At(n, args, args + m)
 }
 
-#[derive(Drop)]
+#[derive(Clone, Copy)]
 pub enum Flag {
     Is(bool),
     Nothing,

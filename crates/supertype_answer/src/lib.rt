@@ -9,14 +9,14 @@ use flat::Optional;
 use flat::error::Error;
 
 // The source's Option: the type that two types have in common, as its kind and argument, where there is one.
-#[derive(Drop)]
+#[derive(Clone, Copy)]
 pub enum Common {
     Some(u8, u64),
     Nothing,
 }
 
 // What a call finds: the type that two types have in common, None, or the refusal of the call.
-#[derive(Drop)]
+#[derive(Clone, Copy)]
 pub enum Found {
     Some(u8, u64),
     Nothing,

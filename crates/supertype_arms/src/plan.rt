@@ -8,7 +8,7 @@ use flat::kind::Kind;
 
 // What an arm answers for two types: None, one of them, a type of a kind without an argument, or one made of their
 // arguments.
-#[derive(Drop)]
+#[derive(Clone, Copy)]
 pub enum Plan {
     No,
     Left,

@@ -6,7 +6,7 @@ ghost use Rattle.supertype_lossless.specs.Lossless.{upcast_of};
 use flat::kind::Kind;
 
 // The kind of the upcast, where there is one.
-#[derive(Drop)]
+#[derive(Clone, Copy)]
 pub enum Upcast {
     To(u8),
     Nothing,

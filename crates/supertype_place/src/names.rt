@@ -68,7 +68,7 @@ pub fn find(
 }
 
 // A field of the longest, by its name: one before it has the name, or the type that is kept stands at a place.
-#[derive(Drop)]
+#[derive(Clone, Copy)]
 pub enum LastType {
     Seen,
     At(usize),
@@ -86,9 +86,9 @@ pub fn keep(
     rest: u64,
     name: u64,
 ) -> LastType
-    requires run_in { RunIn done at kinds.now args.now × RunIn rest past kinds.now args.now }
-    requires type_in { TypeIn held kinds.now args.now }
-    requires fact { let before = run_in done at kinds.now args.now in
+    requires runs { RunIn done at kinds.now args.now × RunIn rest past kinds.now args.now }
+    requires held { TypeIn held kinds.now args.now }
+    requires once { let before = run_in done at kinds.now args.now in
         let behind = run_in rest past kinds.now args.now in
         (distinct ≡ true → Once name before behind) }
     ensures { let ks = kinds.now in
@@ -119,9 +119,9 @@ pub fn known(
     done: u64,
     name: u64,
 ) -> bool
-    requires fact { let fs = run_in m at lk.now la.now in
+    requires table { let fs = run_in m at lk.now la.now in
         RunIn m at lk.now la.now × TableOf distinct fs lk.now la.now table.now }
-    requires name_value { let before = run_in done by sk.now sa.now in
+    requires before { let before = run_in done by sk.now sa.now in
         let new = seen (with_names before []) name ≡ false in
         RunIn done by sk.now sa.now × (once ≡ true → new) }
     ensures { let fs = run_in m at lk.now la.now in

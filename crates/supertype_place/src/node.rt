@@ -9,14 +9,14 @@ use flat::kind::Kind;
 use flat::span::{Span, node_span};
 
 // How many nodes were written, or the source's None.
-#[derive(Drop)]
+#[derive(Clone, Copy)]
 pub enum Joined {
     Nodes(usize),
     Nothing,
 }
 
 // How many fields were written, and their nodes; or names that differ; or the source's None.
-#[derive(Drop)]
+#[derive(Clone, Copy)]
 pub enum Filled {
     Fields(u64, usize),
     Apart,

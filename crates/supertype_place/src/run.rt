@@ -10,7 +10,7 @@ use crate::node;
 use dtype_eq::nodes::starts_with;
 
 // A field of a run: where its type stands, and how many fields stand after it.
-#[derive(Drop)]
+#[derive(Clone, Copy)]
 pub enum Located {
     At(usize, u64),
     Missing,

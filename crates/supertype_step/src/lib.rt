@@ -25,7 +25,7 @@ pub struct Options {
 // One step: None, one node, either type, a node over the join of both inner types, a List of one's inner type with the
 // other type, the same with String where there is none, the first field with the other type, each field with it, or the
 // fields of both.
-#[derive(Drop)]
+#[derive(Clone, Copy)]
 pub enum Step {
     Nothing,
     Node(u8, u64),

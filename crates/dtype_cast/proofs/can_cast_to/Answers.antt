@@ -24,8 +24,8 @@ all_yes-requires c = record {
 
 pub walk_verdict-requires : goal.walk_verdict-requires
 walk_verdict-requires c = record {
-  valid = (from-passed (goal.at.walk_verdict-requires c).In-Valid).proof.valid;
-  valid_2 = (to-passed (goal.at.walk_verdict-requires c).In-Valid-check).proof.valid;
+  from_valid = (from-passed (goal.at.walk_verdict-requires c).In-Valid).proof.valid;
+  to_valid = (to-passed (goal.at.walk_verdict-requires c).In-Valid-check).proof.valid;
 }
 
 pub returns-then-all_yes : goal.returns-then-all_yes

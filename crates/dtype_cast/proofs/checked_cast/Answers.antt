@@ -4,4 +4,4 @@ use Rattle.dtype_cast.proofs.checked_cast.Goals as goal
 
 pub returns-then-all_yes : goal.returns-then-all_yes
 returns-then-all_yes c =
-    scanned c.requires.valid c.requires.valid_2 c.all_yes.ensures c.if-all_yes.true
+    scanned c.requires.from_valid c.requires.to_valid c.all_yes.ensures c.if-all_yes.true

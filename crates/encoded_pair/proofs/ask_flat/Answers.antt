@@ -9,7 +9,7 @@ pub occurs-requires : goal.occurs-requires
 occurs-requires c = both_even c.requires
 
 pub checked_cast-requires : goal.checked_cast-requires
-checked_cast-requires c = record { valid = (left_passed c.requires).valid; valid_2 = (right_passed c.requires).valid }
+checked_cast-requires c = record { from_valid = (left_passed c.requires).valid; to_valid = (right_passed c.requires).valid }
 
 pub returns-in-Equal : goal.returns-in-Equal
 returns-in-Equal c = rw c.in-Equal.is (asks_equal c.requires c.starts_with.ensures c.verdict_of.ensures)

@@ -82,42 +82,42 @@ field_cast-returns t c =
 -- ---- node_cast
 pub node_cast-returns-in-Yes : goal.node_cast-returns-in-Yes
 node_cast-returns-in-Yes t c =
-    let roots = entered c.requires.valid c.requires.valid_2 c.decreases (omega arith) (omega arith) c.in-Yes.ensures in
+    let roots = entered c.requires.from_valid c.requires.to_valid c.decreases (omega arith) (omega arith) c.in-Yes.ensures in
     roots_yes roots c.nodes.ensures
 
 pub node_cast-returns-in-No : goal.node_cast-returns-in-No
 node_cast-returns-in-No t c =
-    let roots = entered c.requires.valid c.requires.valid_2 c.decreases (omega arith) (omega arith) c.in-No.ensures in
+    let roots = entered c.requires.from_valid c.requires.to_valid c.decreases (omega arith) (omega arith) c.in-No.ensures in
     roots_no roots
 
 pub node_cast-returns-then-k-l : goal.node_cast-returns-then-k-l
 node_cast-returns-then-k-l t c =
-    let roots = entered c.requires.valid c.requires.valid_2 c.decreases (omega arith) (omega arith) c.in-Open.ensures in
+    let roots = entered c.requires.from_valid c.requires.to_valid c.decreases (omega arith) (omega arith) c.in-Open.ensures in
     other_kinds roots c.if-k-l.true
 
 pub node_cast-returns-in-0-to-27 : goal.node_cast-returns-in-0-to-27
 node_cast-returns-in-0-to-27 t c =
-    let roots = entered c.requires.valid c.requires.valid_2 c.decreases (omega arith) (omega arith) c.in-Open.ensures in
+    let roots = entered c.requires.from_valid c.requires.to_valid c.decreases (omega arith) (omega arith) c.in-Open.ensures in
     let same_kind : SameKind t _ _ _ _ = record { roots = roots; same_kind = c.if-k-l.false } in
     two_leaves same_kind (omega arith)
 
 pub node_cast-returns-then-a-eq0 : goal.node_cast-returns-then-a-eq0
 node_cast-returns-then-a-eq0 t c =
-    let roots = entered c.requires.valid c.requires.valid_2 c.decreases (omega arith) (omega arith) c.in-Open.ensures in
+    let roots = entered c.requires.from_valid c.requires.to_valid c.decreases (omega arith) (omega arith) c.in-Open.ensures in
     let same_kind : SameKind t _ _ _ _ = record { roots = roots; same_kind = c.if-k-l.false } in
     let structs : TwoStructs t _ _ _ _ = record { kinds = same_kind; is_struct = c.in-30.is } in
     no_field structs c.if-a-eq0.true c.nodes-then-a-eq0.ensures
 
 pub node_cast-returns-then-a-b : goal.node_cast-returns-then-a-b
 node_cast-returns-then-a-b t c =
-    let roots = entered c.requires.valid c.requires.valid_2 c.decreases (omega arith) (omega arith) c.in-Open.ensures in
+    let roots = entered c.requires.from_valid c.requires.to_valid c.decreases (omega arith) (omega arith) c.in-Open.ensures in
     let same_kind : SameKind t _ _ _ _ = record { roots = roots; same_kind = c.if-k-l.false } in
     let structs : TwoStructs t _ _ _ _ = record { kinds = same_kind; is_struct = c.in-30.is } in
     other_count structs c.if-a-eq0.false c.if-a-b.true
 
 pub node_cast-field_cast-requires : goal.node_cast-field_cast-requires
 node_cast-field_cast-requires t c =
-    let roots = entered c.requires.valid c.requires.valid_2 c.decreases (omega arith) (omega arith) c.in-Open.ensures in
+    let roots = entered c.requires.from_valid c.requires.to_valid c.decreases (omega arith) (omega arith) c.in-Open.ensures in
     let same_kind : SameKind t _ _ _ _ = record { roots = roots; same_kind = c.if-k-l.false } in
     let structs : TwoStructs t _ _ _ _ = record { kinds = same_kind; is_struct = c.in-30.is } in
     let as_many : AsMany t _ _ _ _ = record { structs = structs; some_field = c.if-a-eq0.false; same_count = c.if-a-b.false } in
@@ -125,7 +125,7 @@ node_cast-field_cast-requires t c =
 
 pub node_cast-under-requires : goal.node_cast-under-requires
 node_cast-under-requires t c =
-    let roots = entered c.requires.valid c.requires.valid_2 c.decreases (omega arith) (omega arith) c.in-Open.ensures in
+    let roots = entered c.requires.from_valid c.requires.to_valid c.decreases (omega arith) (omega arith) c.in-Open.ensures in
     let same_kind : SameKind t _ _ _ _ = record { roots = roots; same_kind = c.if-k-l.false } in
     let structs : TwoStructs t _ _ _ _ = record { kinds = same_kind; is_struct = c.in-30.is } in
     let as_many : AsMany t _ _ _ _ = record { structs = structs; some_field = c.if-a-eq0.false; same_count = c.if-a-b.false } in
@@ -133,7 +133,7 @@ node_cast-under-requires t c =
 
 pub node_cast-returns-else-a-b : goal.node_cast-returns-else-a-b
 node_cast-returns-else-a-b t c =
-    let roots = entered c.requires.valid c.requires.valid_2 c.decreases (omega arith) (omega arith) c.in-Open.ensures in
+    let roots = entered c.requires.from_valid c.requires.to_valid c.decreases (omega arith) (omega arith) c.in-Open.ensures in
     let same_kind : SameKind t _ _ _ _ = record { roots = roots; same_kind = c.if-k-l.false } in
     let structs : TwoStructs t _ _ _ _ = record { kinds = same_kind; is_struct = c.in-30.is } in
     let as_many : AsMany t _ _ _ _ = record { structs = structs; some_field = c.if-a-eq0.false; same_count = c.if-a-b.false } in
@@ -141,28 +141,28 @@ node_cast-returns-else-a-b t c =
 
 pub node_cast-returns-then-b-a : goal.node_cast-returns-then-b-a
 node_cast-returns-then-b-a t c =
-    let roots = entered c.requires.valid c.requires.valid_2 c.decreases (omega arith) (omega arith) c.in-Open.ensures in
+    let roots = entered c.requires.from_valid c.requires.to_valid c.decreases (omega arith) (omega arith) c.in-Open.ensures in
     let same_kind : SameKind t _ _ _ _ = record { roots = roots; same_kind = c.if-k-l.false } in
     let inners : TwoInner t _ _ _ _ = record { kinds = same_kind; nested = omega arith; no_struct = λ e. omega arith } in
     other_width inners c.if-b-a.true
 
 pub node_cast-node_cast-requires : goal.node_cast-node_cast-requires
 node_cast-node_cast-requires t c =
-    let roots = entered c.requires.valid c.requires.valid_2 c.decreases (omega arith) (omega arith) c.in-Open.ensures in
+    let roots = entered c.requires.from_valid c.requires.to_valid c.decreases (omega arith) (omega arith) c.in-Open.ensures in
     let same_kind : SameKind t _ _ _ _ = record { roots = roots; same_kind = c.if-k-l.false } in
     let inners : TwoInner t _ _ _ _ = record { kinds = same_kind; nested = omega arith; no_struct = λ e. omega arith } in
     inner_call inners
 
 pub node_cast-under-requires-in_default : goal.node_cast-under-requires-in_default
 node_cast-under-requires-in_default t c =
-    let roots = entered c.requires.valid c.requires.valid_2 c.decreases (omega arith) (omega arith) c.in-Open.ensures in
+    let roots = entered c.requires.from_valid c.requires.to_valid c.decreases (omega arith) (omega arith) c.in-Open.ensures in
     let same_kind : SameKind t _ _ _ _ = record { roots = roots; same_kind = c.if-k-l.false } in
     let inners : TwoInner t _ _ _ _ = record { kinds = same_kind; nested = omega arith; no_struct = λ e. omega arith } in
     inner_within inners c.node_cast.ensures
 
 pub node_cast-returns-else-b-a : goal.node_cast-returns-else-b-a
 node_cast-returns-else-b-a t c =
-    let roots = entered c.requires.valid c.requires.valid_2 c.decreases (omega arith) (omega arith) c.in-Open.ensures in
+    let roots = entered c.requires.from_valid c.requires.to_valid c.decreases (omega arith) (omega arith) c.in-Open.ensures in
     let same_kind : SameKind t _ _ _ _ = record { roots = roots; same_kind = c.if-k-l.false } in
     let inners : TwoInner t _ _ _ _ = record { kinds = same_kind; nested = omega arith; no_struct = λ e. omega arith } in
     c.under-in_default.ensures ∙ inner_cast inners c.node_cast.ensures c.if-b-a.false

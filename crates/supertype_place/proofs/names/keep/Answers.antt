@@ -6,8 +6,8 @@ use Rattle.supertype_place.proofs.names.keep.Goals as goal
 
 pub returns-then-distinct : goal.returns-then-distinct
 returns-then-distinct c =
-    let once = c.requires.fact c.if-distinct.true in
-    record { new = once.new; type = c.requires.type_in; last = sym (last_none _ _ _ once.last) }
+    let once = c.requires.once c.if-distinct.true in
+    record { new = once.new; type = c.requires.held; last = sym (last_none _ _ _ once.last) }
 
 pub has-requires : goal.has-requires
 has-requires c = search rules

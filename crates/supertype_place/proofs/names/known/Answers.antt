@@ -16,7 +16,7 @@ returns-then-once c =
     let a = c.args in
     let fs = run_in a.m a.at a.lk.now a.la.now in
     let done = run_in a.done a.by a.sk.now a.sa.now in
-    not_before a.name done (with_names fs []) (sym (c.requires.name_value.1 c.if-once.true))
+    not_before a.name done (with_names fs []) (sym (c.requires.before.1 c.if-once.true))
     (missing_seen a.name fs a.lk.now a.la.now _ c.find.ensures
     c.in-Missing.is)
 

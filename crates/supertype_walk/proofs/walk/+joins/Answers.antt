@@ -1075,8 +1075,8 @@ pub new-known-requires : goal.new-known-requires
 new-known-requires t c =
     let v = c.loop-left.invariant in
     record {
-      fact = (c.requires.stand.0, c.requires.tables.0);
-      name_value = (
+      table = (c.requires.stand.0, c.requires.tables.0);
+      before = (
         v.along.done,
         λ e. new_once v (omega (arith, c.loop-left-test.true)) _ c.after-past.ensures (c.requires.tables.1 e),
       );
@@ -1210,9 +1210,9 @@ old-keep-requires t c =
     let g = c.loop-left-test.true in
     let a = c.after-past.ensures in
     record {
-      run_in = (v.along.done, old_others v (omega (arith, g)) _ a);
-      type_in = field_in v.along.others (omega (arith, g));
-      fact = λ e. old_once v (omega (arith, g)) _ a (c.requires.tables.0 e);
+      runs = (v.along.done, old_others v (omega (arith, g)) _ a);
+      held = field_in v.along.others (omega (arith, g));
+      once = λ e. old_once v (omega (arith, g)) _ a (c.requires.tables.0 e);
     }
 
 pub old-loop-left-preserved-in-Seen : goal.old-loop-left-preserved-in-Seen
