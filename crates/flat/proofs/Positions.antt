@@ -14,7 +14,7 @@ use lib.Seq.{drop-cons, take_all}
 use borrow.Author.Tests.{le-leb, ne_eqb}
 use Rattle.flat.specs.Kind
 use Rattle.flat.specs.Tree.{DataType, list, array, struct, Fields, empty, field, size}
-use Rattle.flat.specs.Reader.{Children, no-child, under_list, under_array, fields, no_type, children, map_o, bind_o}
+use Rattle.flat.specs.Reader.{Children, no_child, under_list, under_array, fields, no_type, children, map_o, bind_o}
 use Rattle.flat.specs.Reader.{Reads, under_node, step_node, under_field, step_fields, node_in, fields_in, node_at}
 use Rattle.flat.specs.Reader.{fields_at}
 
@@ -22,7 +22,7 @@ use Rattle.flat.specs.Reader.{fields_at}
 same_under :
     (p p' : Reads DataType) (f f' : ℕ → Reads Fields) (s : Children) (k a : ℕ) (ks xs : List ℕ) → p ks xs ≡ p' ks xs
     → f a ks xs ≡ f' a ks xs → under_node p f s k a ks xs ≡ under_node p' f' s k a ks xs
-same_under p p' f f' no-child k a ks xs e g = refl
+same_under p p' f f' no_child k a ks xs e g = refl
 same_under p p' f f' under_list k a ks xs e g = ap (map_o list) e
 same_under p p' f f' under_array k a ks xs e g = ap (map_o (array a)) e
 same_under p p' f f' fields k a ks xs e g = ap (map_o struct) g
@@ -107,7 +107,7 @@ module _ (m : ℕ) (ks xs : List ℕ) (at : ℕ) (p : 0 < m) (h : at < length ks
       go (suc n) q = fields_step (suc n) _ _ ∙ rw (sub-one (suc n))
 
 -- what a kind and its argument have under them
-pub children_leaf : (k a : ℕ) → k ≤ Kind.UnknownIntNeg → children k a ≡ no-child
+pub children_leaf : (k a : ℕ) → k ≤ Kind.UnknownIntNeg → children k a ≡ no_child
 unfolding children
 children_leaf k a h = rw (le-leb k Kind.UnknownIntNeg h)
 

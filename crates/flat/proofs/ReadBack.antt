@@ -13,7 +13,7 @@ use borrow.Author.Tests.{le-leb, leb-true, eqb-true}
 use Rattle.flat.specs.Kind
 use Rattle.flat.specs.Tree.{DataType, leaf, list, array, struct, Fields, empty, field, size, sizes, count}
 use Rattle.flat.specs.Tree.{kinds_of, kinds_ofs, args_of, args_ofs}
-use Rattle.flat.specs.Reader.{Children, no-child, under_list, under_array, fields, no_type, children, map_o, bind_o}
+use Rattle.flat.specs.Reader.{Children, no_child, under_list, under_array, fields, no_type, children, map_o, bind_o}
 use Rattle.flat.specs.Reader.{Reads, under_node, step_node, under_field, step_fields, never, node_in, fields_in}
 use Rattle.flat.specs.Reader.{node_at, fields_at}
 use Rattle.flat.proofs.Sizes.{length_kinds, length_kindss, length_args, count_le}
@@ -64,7 +64,7 @@ mutual
 
 -- what `children` says of a kind and its argument
 pub data View : ℕ → ℕ → Children → Type 0 where
-  is_leaf : {k a : ℕ} → k ≤ Kind.UnknownIntNeg → View k a no-child
+  is_leaf : {k a : ℕ} → k ≤ Kind.UnknownIntNeg → View k a no_child
   is_list : View Kind.List 0 under_list
   is_array : {a : ℕ} → View Kind.Array a under_array
   is_struct : {a : ℕ} → View Kind.Struct a fields
@@ -93,7 +93,7 @@ view k a = by_leaf (leb k Kind.UnknownIntNeg) refl
     by_list true p = by_zero (eqb-true k Kind.List p) (eqb a 0) refl
     by_list false p = by_array (eqb k Kind.Array) refl
 
-    by_leaf : (b : Bool) → leb k Kind.UnknownIntNeg ≡ b → View k a (cond b no-child (cond (eqb k Kind.List) (cond (eqb a 0) under_list no_type) (cond (eqb k Kind.Array) under_array (cond (eqb k Kind.Struct) fields no_type))))
+    by_leaf : (b : Bool) → leb k Kind.UnknownIntNeg ≡ b → View k a (cond b no_child (cond (eqb k Kind.List) (cond (eqb a 0) under_list no_type) (cond (eqb k Kind.Array) under_array (cond (eqb k Kind.Struct) fields no_type))))
     by_leaf true p = is_leaf (leb-true k Kind.UnknownIntNeg p)
     by_leaf false p = by_list (eqb k Kind.List) refl
 
@@ -134,7 +134,7 @@ module _ (node : Reads DataType) (fs : ℕ → Reads Fields) (node-sound : (ks x
   under_sound :
       {k a : ℕ} (s : Children) → View k a s → (ks xs : List ℕ) → Sound (k ∷ ks) (a ∷ xs) (under_node node fs s k a ks xs)
   unfolding size kinds_of args_of Good
-  under_sound no-child (is_leaf h) ks xs = (refl, refl, h)
+  under_sound no_child (is_leaf h) ks xs = (refl, refl, h)
   under_sound under_list is_list ks xs = sound_list ks xs (node ks xs) (node-sound ks xs)
   under_sound under_array (is_array {a}) ks xs = sound_array a ks xs (node ks xs) (node-sound ks xs)
   under_sound fields (is_struct {a}) ks xs = sound_struct a ks xs (fs a ks xs) (fs-sound a ks xs)

@@ -11,7 +11,7 @@ use Rattle.flat.specs.Kind
 use Rattle.flat.specs.Argument.{argument_fits}
 use Rattle.flat.specs.Tree.{DataType, leaf, list, array, struct, Fields, empty, field, count, depth, depths}
 use Rattle.flat.specs.Tree.{kinds_of, kinds_ofs, args_of, args_ofs}
-use Rattle.flat.specs.Reader.{Children, no-child, under_list, under_array, fields, no_type, children}
+use Rattle.flat.specs.Reader.{Children, no_child, under_list, under_array, fields, no_type, children}
 use Rattle.flat.specs.Reading.{length_fits, reading, checked_of, one_plain, Ruled, RuledFields}
 use Rattle.flat.specs.Refusals.{FlatForm}
 use Rattle.flat.specs.Scan.{NoDeeper, start, settled, wrapped, opened, paid, type_fits, field_fits, after, scan_type}
@@ -244,7 +244,7 @@ module _ (deep : ℕ) (s : Scan) (w : NoDeeper deep s) (ks xs : List ℕ) (x y z
       → after c x y z ≡ true
       → TypeThen deep s (k ∷ ks) (a ∷ xs)
   unfolding kinds_of args_of Ruled depth
-  one_node no-child (is_leaf {k} {a} h) f X Y Z e =
+  one_node no_child (is_leaf {k} {a} h) f X Y Z e =
       record { tree = leaf k a; kinds_left = ks; args_left = xs; kinds = refl; args = refl; ruled = (h, f); room = omega (arith, settled_within w); owed = X e }
   one_node under_list is_list f X Y Z e =
       let r = Y e in

@@ -13,7 +13,7 @@ use lib.ListN.{length, get_or, drop, drop_of_length-le}
 use lib.Seq.{drop-cons}
 use Rattle.flat.specs.Kind
 use Rattle.flat.specs.Tree.{DataType, struct, Fields, size, sizes, depth, depths}
-use Rattle.flat.specs.Reader.{Children, no-child, under_list, under_array, fields, no_type, children}
+use Rattle.flat.specs.Reader.{Children, no_child, under_list, under_array, fields, no_type, children}
 use Rattle.flat.specs.Walk.{FrontType, Valid, ValidRun, type_at, run_at}
 use Rattle.flat.specs.Span.{span_within, spans_within, wrapping, wrappers_of}
 use Rattle.flat.specs.declared.span.Span.{Span}
@@ -125,7 +125,7 @@ module _ {ks xs : List ℕ} {at : ℕ} (s : WrappersSeen ks xs at) where
         go :
             {j b : ℕ} (c : Children) → View j b c → (j ≡ Kind.List → ⊥) → (j ≡ Kind.Array → ⊥)
             → wrapping c (wrappers_of (drop (at + 1) ks) (drop (at + 1) xs)) ≡ 0
-        go no-child (is_leaf h) l r = refl
+        go no_child (is_leaf h) l r = refl
         go under_list View.is_list l r = absurd (l refl)
         go under_array View.is_array l r = absurd (r refl)
         go fields is_struct l r = refl

@@ -13,7 +13,7 @@ use borrow.Author.Tests.{eqb-true}
 use Rattle.flat.specs.Kind
 use Rattle.flat.specs.Tree.{DataType, leaf, list, array, struct, Fields, empty, field, size, sizes, count}
 use Rattle.flat.specs.Tree.{head_kind, head_arg}
-use Rattle.flat.specs.Reader.{Children, no-child, under_list, under_array, fields, no_type, children, map_o, bind_o}
+use Rattle.flat.specs.Reader.{Children, no_child, under_list, under_array, fields, no_type, children, map_o, bind_o}
 use Rattle.flat.specs.Reader.{under_node, under_field, node_at, fields_at}
 use Rattle.flat.specs.Walk.{FrontType, FrontFields, with_default, type_at, run_at, Valid, ValidRun}
 use Rattle.flat.proofs.Truths.{impossible}
@@ -76,7 +76,7 @@ at_node ks xs t n =
     go :
         {k a : ℕ} (s : Children) → View k a s → get_or ks 0 0 ≡ k → get_or xs 0 0 ≡ a
         → under_node node_at fields_at s (get_or ks 0 0) (get_or xs 0 0) (drop 1 ks) (drop 1 xs) ≡ some t → AtNode ks xs t
-    go no-child (is_leaf h) p q e =
+    go no_child (is_leaf h) p q e =
         subst (λ (z : DataType). AtNode ks xs z) (let y : leaf (get_or ks 0 0) (get_or xs 0 0) ≡ t = cc in y)
         (at_leaf (omega arith))
     go under_list View.is_list p q e = one list (rw (p, q) Unary.is_list) e

@@ -6,14 +6,14 @@ use Rattle.flat.specs.Tree.{DataType, leaf, list, array, struct, Fields, empty, 
 
 -- what a node has under it
 pub data Children : Type 0 where
-  no-child under_list under_array fields : Children
+  no_child under_list under_array fields : Children
   no_type : Children
 
 -- List and Array have one child, a Struct has fields; a List's argument is 0, so that it can be left out of the tree.
 -- A field is no type.
 unfoldable pub children : ℕ → ℕ → Children
 children k a =
-    cond (leb k Kind.UnknownIntNeg) no-child
+    cond (leb k Kind.UnknownIntNeg) no_child
     (cond (eqb k Kind.List) (cond (eqb a 0) under_list no_type)
     (cond (eqb k Kind.Array) under_array
     (cond (eqb k Kind.Struct) fields no_type)))
@@ -34,7 +34,7 @@ Reads A = List ℕ → List ℕ → Option A
 
 -- a node of the kind k and the argument a, given readers for what stands under it
 abbrev pub under_node : Reads DataType → (ℕ → Reads Fields) → Children → ℕ → ℕ → Reads DataType
-under_node node fs no-child k a ks xs = some (leaf k a)
+under_node node fs no_child k a ks xs = some (leaf k a)
 under_node node fs under_list k a ks xs = map_o list (node ks xs)
 under_node node fs under_array k a ks xs = map_o (array a) (node ks xs)
 under_node node fs fields k a ks xs = map_o struct (fs a ks xs)

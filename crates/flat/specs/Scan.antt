@@ -5,7 +5,7 @@
 use Rattle.std.specs.Prelude.{Bool, false, cond, not, ◌&&◌, List, [], ◌∷◌, ℕ, suc, ◌+◌, ◌-◌, ◌≤◌, leb, ltb, eqb}
 use Rattle.flat.specs.Kind
 use Rattle.flat.specs.Argument.{argument_fits}
-use Rattle.flat.specs.Reader.{Children, no-child, under_list, under_array, fields, no_type, children}
+use Rattle.flat.specs.Reader.{Children, no_child, under_list, under_array, fields, no_type, children}
 use Rattle.flat.specs.Reading.{length_fits}
 use Rattle.flat.specs.declared.scan.Scan.{Scan}
 
@@ -60,7 +60,7 @@ field_fits k a = eqb k Kind.Field && argument_fits k a
 -- which of three answers counts after a node: that for the fields still owed, for the type under it, or for its own
 -- fields and then those still owed
 abbrev pub after : Children → Bool → Bool → Bool → Bool
-after no-child x y z = x
+after no_child x y z = x
 after under_list x y z = y
 after under_array x y z = y
 after fields x y z = z

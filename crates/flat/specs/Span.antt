@@ -1,7 +1,7 @@
 -- The answers of the walk that the check makes. Assumes nothing: these are definitions.
 use Rattle.std.specs.Prelude.{cond, List, [], ◌∷◌, ℕ, suc, leb}
 use Rattle.flat.specs.Tree.{DataType, Fields, size, sizes, depth, depths}
-use Rattle.flat.specs.Reader.{Children, no-child, under_list, under_array, fields, no_type, children}
+use Rattle.flat.specs.Reader.{Children, no_child, under_list, under_array, fields, no_type, children}
 use Rattle.flat.specs.declared.span.Span.{Span}
 use Rattle.flat.specs.declared.span.Span.TheVariants.{Ends, TooDeep}
 
@@ -15,7 +15,7 @@ spans_within levels fs = cond (leb (depths fs) levels) (Ends (sizes fs)) TooDeep
 
 -- one List or Array more than n, where the node is one of them, else none
 abbrev pub wrapping : Children → ℕ → ℕ
-wrapping no-child n = 0
+wrapping no_child n = 0
 wrapping under_list n = suc n
 wrapping under_array n = suc n
 wrapping fields n = 0

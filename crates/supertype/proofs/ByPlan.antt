@@ -68,8 +68,8 @@ among_kinds p q s a b = not (alike (rule_of s a b) p) || q a b
 only : {s : Bool} {l r : Node} {p : Plan} → Planned s l r p → (q : ℕ → ℕ → Bool) → T (everywhere (among_kinds p q))
     → T (q l.kind r.kind)
 only {s} {l} {r} {p} w q t =
-    let same-plan : alike (rule_of s l.kind r.kind) p ≡ true = rw (← w.is) (eq-eqb (code_of p) (code_of p) refl) in
-    or_right (q l.kind r.kind) (ap not same-plan) (at_apart (among_kinds p q) t s l.kind r.kind w.apart)
+    let same_plan : alike (rule_of s l.kind r.kind) p ≡ true = rw (← w.is) (eq-eqb (code_of p) (code_of p) refl) in
+    or_right (q l.kind r.kind) (ap not same_plan) (at_apart (among_kinds p q) t s l.kind r.kind w.apart)
 
 -- both kinds, where the plan is that of one pair
 pair : {s : Bool} {l r : Node} {p : Plan} → Planned s l r p → (a b : ℕ)

@@ -39,9 +39,9 @@ pub all_true : (xs : List Bool) → AllTrue xs → T (every_of xs)
 all_true [] h = tt
 all_true (x ∷ xs) h = and_both x (every_of xs) h.0 (all_true xs h.1)
 
-pub or-false : (p : Bool) → T (p || false) → T p
-or-false true u = tt
-or-false false u = u
+pub or_false : (p : Bool) → T (p || false) → T p
+or_false true u = tt
+or_false false u = u
 
 pub chosen : (ok : TreePlan → Bool) (a b : ℕ) (xs : List Arm) → T (ok (roots No)) → T (all_arms ok a b xs)
     → T (ok (choose xs a b))
@@ -52,7 +52,7 @@ chosen ok a b (x ∷ xs) o t =
   where
     go : (takes : Bool) → T (ok x.plan || not takes) → T (ok (choose xs a b))
         → T (ok (elim takes as (λ z. TreePlan) [ true ↦ x.plan | false ↦ choose xs a b ]))
-    go true u v = or-false (ok x.plan) u
+    go true u v = or_false (ok x.plan) u
     go false u v = v
 
 -- one step of `choose`: an arm's plan where it takes the kinds, else that of the others
@@ -102,9 +102,9 @@ off : (p q : Bool) → q ≡ false → T (not (p && q))
 off true q e = rw e tt
 off false q e = tt
 
-or-true : (p : Bool) → T (p || true)
-or-true true = tt
-or-true false = tt
+or_true : (p : Bool) → T (p || true)
+or_true true = tt
+or_true false = tt
 
 -- only a dyn int on the right is joined by an inner call, with a number or Boolean
 pub no_call : (o : SuperTypeOptions) (a b : ℕ) → is_unknown_int b ≡ false → T (on_roots quiet (tree_plan o a b))
@@ -132,7 +132,7 @@ dyn_discards o a b = go o.allow_implode_list o.allow_primitive_to_string
   where
     no_boolean : (c : Bool) → eqb a Boolean ≡ c → T (not (is_unknown_int a) || not (c && is_unknown_int b))
     no_boolean true e = rw (eqb-true a Boolean e) tt
-    no_boolean false e = or-true (not (is_unknown_int a))
+    no_boolean false e = or_true (not (is_unknown_int a))
 
     facts : List Bool
     facts = (not (is_unknown_int a) || not (is Boolean a && is_unknown_int b)) ∷ []

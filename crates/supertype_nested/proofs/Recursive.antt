@@ -30,7 +30,7 @@ use Rattle.supertype_nested.specs.Nested.{inner_tree, or_else_tree, supertype_tr
 use Rattle.supertype_nested.specs.Nested.{supertype_tree}
 use Rattle.supertype_nested.proofs.Found.{if_weaken, bind_same, cond_same}
 use Rattle.supertype_nested.proofs.Smaller.{Below, AtMost, Smaller, from_sizes, enter_sizes, inner_size, in_smaller}
-use Rattle.supertype_nested.proofs.Chosen.{or-false, on_roots, no_call, discards, dyn_discards}
+use Rattle.supertype_nested.proofs.Chosen.{or_false, on_roots, no_call, discards, dyn_discards}
 
 -- ---- two roots that are no dyn ints
 
@@ -165,7 +165,7 @@ module _ (c d : TreeCall) (s : Smaller c) (n : ℕ) (g : Agree n c d) where
     where
       go : (b : Bool) → is_unknown_int l.kind ≡ b → T ((quiet p || alike p DynNumber) || not b)
           → run (at_roots c) p l r ≡ run (at_roots d) p l r
-      go true e u = dyn_run (at_roots c) (at_roots d) l r e p (or-false (quiet p || alike p DynNumber) u)
+      go true e u = dyn_run (at_roots c) (at_roots d) l r e p (or_false (quiet p || alike p DynNumber) u)
       go false e u =
           runs_same (at_roots c) (at_roots d) l r
           (λ k h. ap root_found (g.leaves l.kind l.arg k 0 e (below_known k h))) p

@@ -29,7 +29,7 @@ use Rattle.supertype_arms.proofs.Decimals.{IsDecimal}
 use Rattle.supertype_nested.specs.Nested.{SuperTypeOptions, tree_of, root_found, at_roots, tree_plan, supertype_tree}
 use Rattle.supertype_nested.specs.Laws.{Each, Eachs, LeavesFit, AnswersValid}
 use Rattle.supertype_nested.proofs.Found.{If, if_told}
-use Rattle.supertype_nested.proofs.Chosen.{every_of, all_true, or-false, chosen, on_roots}
+use Rattle.supertype_nested.proofs.Chosen.{every_of, all_true, or_false, chosen, on_roots}
 use Rattle.supertype_nested.proofs.Keeps.{RootsKeep, tree_keeps}
 use Rattle.supertype_nested.proofs.Fits.{Fitting, Suits, zone_below, run_fits}
 
@@ -178,7 +178,7 @@ roots_suit l r h g DatetimeDuration t = go (is kind.Datetime (head_kind l)) refl
     go true e u = datetime_root l h e
     go false e u =
         datetime_root r g (is_true _ (and_right (is kind.Duration (head_kind l)) (is kind.Datetime (head_kind r))
-        (or-false (is kind.Duration (head_kind l) && is kind.Datetime (head_kind r)) u)))
+        (or_false (is kind.Duration (head_kind l) && is kind.Datetime (head_kind r)) u)))
 roots_suit l r h g Datetimes t =
     datetime_root r g (is_true _ (and_right (is kind.Datetime (head_kind l)) (is kind.Datetime (head_kind r)) t))
 roots_suit l r h g Durations t = tt
