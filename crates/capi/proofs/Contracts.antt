@@ -1,5 +1,5 @@
 -- A step of a run is what the contracts say: the `ensures` of the calls that merge, as the checker reads them, say at
--- the limits of the code that the reply is the number and the value of the answer of a step of channels' `Run`
+-- the limits of the code that the reply is that to the answer of a step of channels' `Run`
 -- (crates/channels/specs/Rule.antt), whatever is left of the arguments that a call drops. Assumes nothing.
 use mathlib.Core.Path.{◌≡◌, refl, ap}
 use mathlib.Core.List.{List, ◌∷◌}
@@ -17,14 +17,15 @@ use Rattle.flat.specs.declared.TheConstants.Flat.{MAX_NODES, MAX_DEPTH}
 use Rattle.encoded.specs.declared.TheConstants.Encoding.{ARGUMENT_BYTES}
 use Rattle.encoded.specs.Encoding.{decoding}
 use Rattle.channels.specs.declared.ChannelTypes.{ChannelTypes}
-use Rattle.channels.specs.declared.Merged.{Merged}
 use Rattle.channels.specs.declared.Outcome.{Outcome}
 use Rattle.channels.specs.declared.TheConstants.ChannelTypes.{CHANNELS}
-use Rattle.channels.specs.Merge.{merged_number, merged_value, outcome_of}
+use Rattle.channels.specs.Merge.{outcome_of}
 use Rattle.channels.specs.Model.{Merge, flat_merge}
 use Rattle.channels.specs.Rule.{Run}
-use Rattle.capi.specs.Reply.{outcome_reply}
-use Rattle.capi.specs.declared.reply.Reply.{Reply}
+use Rattle.std.specs.Prelude.{Result}
+use Rattle.flat.specs.declared.error.Error.{Error}
+use Rattle.capi.specs.Reply.{merged_reply, outcome_reply}
+use Rattle.flat.specs.declared.reply.Reply.{Reply}
 use Rattle.capi.specs.declared.channel.TypesReply.{TypesReply}
 use Rattle.capi.specs.contracts.channel.lz_channel_merge as merge
 use Rattle.capi.specs.contracts.channel.lz_flat_channel_merge as lent
@@ -35,17 +36,16 @@ abbrev pub RepliesTo : (channels : ℕ) → ChannelTypes → Merge → ChannelTy
 RepliesTo channels s m s' r =
     record { reply = r; types = s' } ≡ outcome_reply (outcome_of channels s m.channel m.column)
 
--- It is a step from where a run ended, and has the number and the value of the step's answer.
-pub steps : {channels : ℕ} {ms : List Merge} {xs : List Merged} {s₀ s : ChannelTypes} → Run channels s₀ ms xs s
+-- It is a step from where a run ended, and is the reply to the step's answer.
+pub steps : {channels : ℕ} {ms : List Merge} {xs : List (Result ℕ Error)} {s₀ s : ChannelTypes} → Run channels s₀ ms xs s
     → (m : Merge) (s' : ChannelTypes) (r : Reply) → RepliesTo channels s m s' r
-    → (a : Merged) × Run channels s₀ (m ∷ ms) (a ∷ xs) s' × (r.number ≡ merged_number a) × (r.value ≡ merged_value a)
+    → (a : Result ℕ Error) × Run channels s₀ (m ∷ ms) (a ∷ xs) s' × (r ≡ merged_reply a)
 steps {channels} {s = s} run m s' r e =
     let a = (outcome_of channels s m.channel m.column).answer in
     let o : Outcome = record { types = s'; answer = a } in (
       a,
       Run.next {m = m} {o = o} run (λ i. record { types = (e i).types; answer = a }),
-      ap (λ (t : TypesReply). t.reply.number) e,
-      ap (λ (t : TypesReply). t.reply.value) e,
+      ap (λ (t : TypesReply). t.reply) e,
     )
 
 module _ {M : Type 1} {𝓤 : Ura M} (𝓛 : Logic 𝓤) (mem : Memory → SProp 𝓤) (run : Routine → Fun 𝓤)

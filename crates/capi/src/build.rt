@@ -3,11 +3,11 @@ ghost use Rattle.std.specs.Prelude.{not, eqb, length};
 ghost use Rattle.encoded.specs.Encoding.{decoding};
 ghost use Rattle.encoded.specs.Answer.{fitting_bytes, Encodes};
 ghost use Rattle.dtype_build.specs.Build.{materialized, physical};
-ghost use Rattle.capi.specs.Reply.{Replies, encoded_reply};
+ghost use Rattle.capi.specs.Reply.{Replies, written_reply};
 
-use crate::reply::{Reply, encoded_reply};
 use encoded::Encoding;
 use flat::Flat;
+use flat::reply::Reply;
 
 // The type with each unknown type made known; where the flag is 0, an `Unknown(Any)` refuses the call.
 #[unsafe(no_mangle)]
@@ -17,9 +17,9 @@ pub extern "C" fn lz_materialize_unknown(encoded: &[u8], allow_unknown: u8, out:
         (decoding Encoding.ARGUMENT_BYTES Flat.MAX_NODES Flat.MAX_DEPTH encoded.now) in
         Replies
         (Encodes Encoding.ARGUMENT_BYTES (fitting_bytes Encoding.ARGUMENT_BYTES (length held) known) held out.new)
-        encoded_reply result }
+        written_reply result }
 {
-    encoded_reply(encoded_dtype::materialize_unknown(encoded, allow_unknown != 0, out))
+    Reply::from(encoded_dtype::materialize_unknown(encoded, allow_unknown != 0, out))
 }
 
 // The type's physical form.
@@ -29,7 +29,7 @@ pub extern "C" fn lz_to_physical(encoded: &[u8], out: &mut [u8]) -> Reply
         let form = physical (decoding Encoding.ARGUMENT_BYTES Flat.MAX_NODES Flat.MAX_DEPTH encoded.now) in
         Replies
         (Encodes Encoding.ARGUMENT_BYTES (fitting_bytes Encoding.ARGUMENT_BYTES (length held) form) held out.new)
-        encoded_reply result }
+        written_reply result }
 {
-    encoded_reply(encoded_dtype::to_physical(encoded, out))
+    Reply::from(encoded_dtype::to_physical(encoded, out))
 }

@@ -5,14 +5,14 @@ ghost use Rattle.encoded.specs.Encoding.{decoding};
 ghost use Rattle.channels.specs.Merge.{outcome_of};
 ghost use Rattle.capi.specs.Reply.{outcome_reply};
 
-use crate::reply::{Reply, merged_reply};
 use channels::ChannelTypes;
 use encoded::Encoding;
 use flat::Flat;
+use flat::reply::Reply;
 
 // The reply to a merge, beside the types as it leaves them.
 #[repr(C)]
-#[derive(Clone, Copy)]
+#[derive(Clone, Copy, Debug, PartialEq, Eq)]
 pub struct TypesReply {
     pub reply: Reply,
     pub types: ChannelTypes,
@@ -29,7 +29,7 @@ pub extern "C" fn lz_channel_merge(
         let outcome = outcome_of ChannelTypes.CHANNELS (record { codes = codes.old }) channel given in
         record { reply = result; types = record { codes = codes.new } } ≡ outcome_reply outcome }
 {
-    merged_reply(encoded_join::merge(codes, channel, column))
+    Reply::from(encoded_join::merge(codes, channel, column))
 }
 
 // Merges a column of a flat type into a channel of the lent types. Gives the code that the channel now holds.
@@ -44,8 +44,7 @@ pub extern "C" fn lz_flat_channel_merge(
         let outcome = outcome_of ChannelTypes.CHANNELS types.old channel given in
         record { reply = result; types = types.new } ≡ outcome_reply outcome }
 {
-    let answer = channels::merge_in_place(types, channel, kinds, args);
-    merged_reply(answer)
+    Reply::from(channels::merge_in_place(types, channel, kinds, args))
 }
 
 // Merges a column of a flat type into a channel, with the types by value. Gives the code that the channel now holds.
@@ -60,11 +59,8 @@ pub extern "C" fn lz_flat_channel_merged(
         result ≡ outcome_reply (outcome_of ChannelTypes.CHANNELS types channel given) }
 {
     let next = types.merge(channel, kinds, args);
-    let answer = next.answer;
-    let reply = merged_reply(answer);
-    let after = next.types;
     TypesReply {
-        reply,
-        types: after,
+        reply: Reply::from(next.answer),
+        types: next.types,
     }
 }

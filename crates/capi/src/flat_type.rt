@@ -1,6 +1,6 @@
 // The rules of dtype.rs on flat types, for callers that keep types in two arrays.
 ghost use Rattle.std.specs.Prelude.{◌≡◌, not, eqb, length};
-ghost use Rattle.std.proofs.Math.Option.{some};
+ghost use Rattle.std.specs.Prelude.{Some};
 ghost use Rattle.flat.specs.Reading.{reading};
 ghost use Rattle.flat.specs.Output.{fitting, Writes};
 ghost use Rattle.dtype.specs.Equality.{equal};
@@ -12,8 +12,8 @@ ghost use Rattle.dtype_cast.specs.Verdict.{cast_of};
 ghost use Rattle.dtype_build.specs.Build.{materialized, physical};
 ghost use Rattle.capi.specs.Reply.{Replies, answer_reply, verdict_reply, optional_reply, written_reply};
 
-use crate::reply::{Reply, answer_reply, optional_reply, verdict_reply, written_reply};
 use flat::Flat;
+use flat::reply::Reply;
 
 // Whether no type in it is unknown.
 #[unsafe(no_mangle)]
@@ -21,7 +21,7 @@ pub extern "C" fn lz_flat_is_known(kinds: &[u8], args: &[u64]) -> Reply
     ensures { let given = reading Flat.MAX_NODES Flat.MAX_DEPTH kinds.now args.now in
         result ≡ answer_reply (answer_of is_known given) }
 {
-    answer_reply(dtype::is_known(kinds, args))
+    Reply::from(dtype::is_known(kinds, args))
 }
 
 // Whether two types are equal.
@@ -36,7 +36,7 @@ pub extern "C" fn lz_flat_equal(
         let other = reading Flat.MAX_NODES Flat.MAX_DEPTH right_kinds.now right_args.now in
         result ≡ answer_reply (answers_of equal one other) }
 {
-    answer_reply(dtype_eq::equal(left_kinds, left_args, right_kinds, right_args))
+    Reply::from(dtype_eq::equal(left_kinds, left_args, right_kinds, right_args))
 }
 
 // Whether the cast makes sense.
@@ -51,7 +51,7 @@ pub extern "C" fn lz_flat_can_cast_to(
         let to = reading Flat.MAX_NODES Flat.MAX_DEPTH to_kinds.now to_args.now in
         result ≡ verdict_reply (cast_of from to) }
 {
-    verdict_reply(dtype_cast::can_cast_to(from_kinds, from_args, to_kinds, to_args))
+    Reply::from(dtype_cast::can_cast_to(from_kinds, from_args, to_kinds, to_args))
 }
 
 // The type under a List or an Array: how many nodes it has, which stand at the end of kinds and args; 0 for None.
@@ -60,16 +60,16 @@ pub extern "C" fn lz_flat_inner_dtype(kinds: &[u8], args: &[u64]) -> Reply
     ensures { let given = reading Flat.MAX_NODES Flat.MAX_DEPTH kinds.now args.now in
         result ≡ optional_reply (inner_of inner_dtype given) }
 {
-    optional_reply(dtype_inner::inner_dtype(kinds, args))
+    Reply::from(dtype_inner::inner_dtype(kinds, args))
 }
 
 // The type under all Lists and Arrays: how many nodes it has, which stand at the end of kinds and args.
 #[unsafe(no_mangle)]
 pub extern "C" fn lz_flat_leaf_dtype(kinds: &[u8], args: &[u64]) -> Reply
     ensures { let given = reading Flat.MAX_NODES Flat.MAX_DEPTH kinds.now args.now in
-        result ≡ optional_reply (inner_of (λ t. some (leaf_dtype t)) given) }
+        result ≡ optional_reply (inner_of (λ t. Some (leaf_dtype t)) given) }
 {
-    optional_reply(dtype_inner::leaf_dtype(kinds, args))
+    Reply::from(dtype_inner::leaf_dtype(kinds, args))
 }
 
 // The type under an Array's consecutive Arrays: how many nodes it has, which stand at the end of kinds and args; 0 for
@@ -79,7 +79,7 @@ pub extern "C" fn lz_flat_array_leaf_dtype(kinds: &[u8], args: &[u64]) -> Reply
     ensures { let given = reading Flat.MAX_NODES Flat.MAX_DEPTH kinds.now args.now in
         result ≡ optional_reply (inner_of array_leaf_dtype given) }
 {
-    optional_reply(dtype_inner::array_leaf_dtype(kinds, args))
+    Reply::from(dtype_inner::array_leaf_dtype(kinds, args))
 }
 
 // The type with each unknown type made known, to the front of out_kinds and out_args; any is allowed unless
@@ -99,7 +99,7 @@ pub extern "C" fn lz_flat_materialize_unknown(
         let fits = fitting (length ks) (length xs) new in
         Replies (Writes fits ks xs out_kinds.new out_args.new) written_reply result }
 {
-    written_reply(dtype_build::materialize_unknown(
+    Reply::from(dtype_build::materialize_unknown(
         kinds,
         args,
         allow_unknown != 0,
@@ -123,5 +123,5 @@ pub extern "C" fn lz_flat_to_physical(
         let fits = fitting (length ks) (length xs) new in
         Replies (Writes fits ks xs out_kinds.new out_args.new) written_reply result }
 {
-    written_reply(dtype_build::to_physical(kinds, args, out_kinds, out_args))
+    Reply::from(dtype_build::to_physical(kinds, args, out_kinds, out_args))
 }

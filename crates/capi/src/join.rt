@@ -10,9 +10,9 @@ ghost use Rattle.supertype.specs.Pair.{supertype_of};
 ghost use Rattle.supertype_report.specs.Report.{types_report};
 ghost use Rattle.capi.specs.Reply.{Replies, optional_reply, report_reply};
 
-use crate::reply::{Reply, optional_reply, report_reply};
 use encoded::Encoding;
 use flat::Flat;
+use flat::reply::Reply;
 
 // The type that two columns get when they are joined, encoded to the front of out; each flag is off where it is 0.
 // Gives the number of bytes, 0 for None.
@@ -34,7 +34,7 @@ pub extern "C" fn lz_get_supertype_with_options(
         (fitting_found_bytes Encoding.ARGUMENT_BYTES (length held) found) held out.new)
         optional_reply result }
 {
-    optional_reply(encoded_join::get_supertype_with_options(
+    Reply::from(encoded_join::get_supertype_with_options(
         left,
         right,
         allow_implode_list != 0,
@@ -60,7 +60,7 @@ pub extern "C" fn lz_get_numeric_upcast_supertype_lossless(
         (fitting_found_bytes Encoding.ARGUMENT_BYTES (length held) found) held out.new)
         optional_reply result }
 {
-    optional_reply(encoded_join::get_numeric_upcast_supertype_lossless(left, right, out))
+    Reply::from(encoded_join::get_numeric_upcast_supertype_lossless(left, right, out))
 }
 
 // What joining does to the whole numbers of two columns: 0 the supertype keeps all of both, 1 it doesn't and an integer
@@ -71,7 +71,7 @@ pub extern "C" fn lz_join_report(left: &[u8], right: &[u8]) -> Reply
         let other = decoding Encoding.ARGUMENT_BYTES Flat.MAX_NODES Flat.MAX_DEPTH right.now in
         result ≡ report_reply (types_report one other) }
 {
-    report_reply(encoded_join::join_report(left, right))
+    Reply::from(encoded_join::join_report(left, right))
 }
 
 // The supertype of two flat types, to the front of out_kinds and out_args. Gives the number of nodes, 0 for None.
@@ -95,7 +95,7 @@ pub extern "C" fn lz_flat_get_supertype_with_options(
         let fits = fitting_found (length ks) (length xs) found in
         Replies (WritesFound fits ks xs out_kinds.new out_args.new) optional_reply result }
 {
-    optional_reply(supertype::get_supertype_with_options(
+    Reply::from(supertype::get_supertype_with_options(
         left_kinds,
         left_args,
         right_kinds,
@@ -125,7 +125,7 @@ pub extern "C" fn lz_flat_get_numeric_upcast_supertype_lossless(
         let fits = fitting_found (length ks) (length xs) found in
         Replies (WritesFound fits ks xs out_kinds.new out_args.new) optional_reply result }
 {
-    optional_reply(supertype_lossless::get_numeric_upcast_supertype_lossless(
+    Reply::from(supertype_lossless::get_numeric_upcast_supertype_lossless(
         left_kinds,
         left_args,
         right_kinds,

@@ -8,7 +8,6 @@ mod join;
 mod pair;
 mod part;
 mod predicate;
-pub mod reply;
 mod time_unit;
 
 ghost use Rattle.std.specs.Prelude.{◌≡◌, length};
@@ -16,11 +15,11 @@ ghost use Rattle.flat.specs.Output.{fitting, Writes};
 ghost use Rattle.flat.specs.Reading.{reading, checked_of};
 ghost use Rattle.encoded.specs.Encoding.{decoding};
 ghost use Rattle.encoded.specs.Answer.{fitting_bytes, Encodes};
-ghost use Rattle.capi.specs.Reply.{Replies, check_reply, written_reply, encoded_reply};
+ghost use Rattle.capi.specs.Reply.{Replies, check_reply, written_reply};
 
 use encoded::Encoding;
 use flat::Flat;
-use reply::{Reply, check_reply, encoded_reply, written_reply};
+use flat::reply::Reply;
 
 // Whether bytes are an encoded type.
 #[unsafe(no_mangle)]
@@ -28,7 +27,7 @@ pub extern "C" fn lz_check(encoded: &[u8]) -> Reply
     ensures { let given = decoding Encoding.ARGUMENT_BYTES Flat.MAX_NODES Flat.MAX_DEPTH encoded.now in
         result ≡ check_reply (checked_of given) }
 {
-    check_reply(encoded::check(encoded))
+    Reply::from(encoded::check(encoded))
 }
 
 // Decodes a type to the front of kinds and args, and gives its number of nodes.
@@ -40,7 +39,7 @@ pub extern "C" fn lz_decode(encoded: &[u8], kinds: &mut [u8], args: &mut [u64]) 
         (decoding Encoding.ARGUMENT_BYTES Flat.MAX_NODES Flat.MAX_DEPTH encoded.now) in
         Replies (Writes found ks xs kinds.new args.new) written_reply result }
 {
-    written_reply(encoded::decode(encoded, kinds, args))
+    Reply::from(encoded::decode(encoded, kinds, args))
 }
 
 // Encodes a flat type to the front of out, and gives the number of bytes.
@@ -49,7 +48,7 @@ pub extern "C" fn lz_encode(kinds: &[u8], args: &[u64], out: &mut [u8]) -> Reply
     ensures { let held = out.old in
         let found = fitting_bytes Encoding.ARGUMENT_BYTES (length held)
         (reading Flat.MAX_NODES Flat.MAX_DEPTH kinds.now args.now) in
-        Replies (Encodes Encoding.ARGUMENT_BYTES found held out.new) encoded_reply result }
+        Replies (Encodes Encoding.ARGUMENT_BYTES found held out.new) written_reply result }
 {
-    encoded_reply(encoded::encode(kinds, args, out))
+    Reply::from(encoded::encode(kinds, args, out))
 }

@@ -7,9 +7,9 @@ ghost use Rattle.dtype_eq.specs.Contains.{contains_dtype_recursive};
 ghost use Rattle.dtype_cast.specs.Verdict.{cast_of};
 ghost use Rattle.capi.specs.Reply.{answer_reply, verdict_reply};
 
-use crate::reply::{Reply, answer_reply, verdict_reply};
 use encoded::Encoding;
 use flat::Flat;
+use flat::reply::Reply;
 
 // Whether two types are equal. `Unknown(Int(_))` are, whatever they hold; field names count.
 #[unsafe(no_mangle)]
@@ -18,7 +18,7 @@ pub extern "C" fn lz_equal(left: &[u8], right: &[u8]) -> Reply
         let other = decoding Encoding.ARGUMENT_BYTES Flat.MAX_NODES Flat.MAX_DEPTH right.now in
         result ≡ answer_reply (answers_of equal one other) }
 {
-    answer_reply(encoded_pair::equal(left, right))
+    Reply::from(encoded_pair::equal(left, right))
 }
 
 // Whether the left type is the right one, or a type under it is.
@@ -28,7 +28,7 @@ pub extern "C" fn lz_contains_dtype_recursive(left: &[u8], right: &[u8]) -> Repl
         let other = decoding Encoding.ARGUMENT_BYTES Flat.MAX_NODES Flat.MAX_DEPTH right.now in
         result ≡ answer_reply (answers_of contains_dtype_recursive one other) }
 {
-    answer_reply(encoded_pair::contains_dtype_recursive(left, right))
+    Reply::from(encoded_pair::contains_dtype_recursive(left, right))
 }
 
 // Whether the cast from the left type to the right one makes sense.
@@ -38,5 +38,5 @@ pub extern "C" fn lz_can_cast_to(left: &[u8], right: &[u8]) -> Reply
         let other = decoding Encoding.ARGUMENT_BYTES Flat.MAX_NODES Flat.MAX_DEPTH right.now in
         result ≡ verdict_reply (cast_of one other) }
 {
-    verdict_reply(encoded_pair::can_cast_to(left, right))
+    Reply::from(encoded_pair::can_cast_to(left, right))
 }

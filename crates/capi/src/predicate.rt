@@ -9,17 +9,17 @@ ghost use Rattle.dtype.specs.Predicates.{predicate_of};
 ghost use Rattle.dtype.specs.Answer.{answer_of};
 ghost use Rattle.capi.specs.Reply.{answer_reply};
 
-use crate::reply::{Reply, answer_reply};
 use dtype::predicate::Predicate;
 use encoded::Encoding;
 use flat::Flat;
+use flat::reply::Reply;
 
 // What a predicate says of the type.
 fn tell(p: Predicate, encoded: &[u8]) -> Reply
     ensures { let given = decoding Encoding.ARGUMENT_BYTES Flat.MAX_NODES Flat.MAX_DEPTH encoded.now in
         result ≡ answer_reply (answer_of (predicate_of p) given) }
 {
-    answer_reply(encoded_dtype::ask(p, encoded))
+    Reply::from(encoded_dtype::ask(p, encoded))
 }
 
 // Whether it is a List, an Array or a Struct.

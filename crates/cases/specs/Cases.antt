@@ -6,7 +6,7 @@
 use Rattle.std.specs.Prelude.{◌≡◌, Bool, true, false, cond, ◌&&◌, ℕ, ◌+◌, ◌-◌, ◌*◌, ◌^◌, ℤ, pos, negsuc, neg_ℤ}
 use Rattle.std.specs.Prelude.{replicate}
 use mathlib.Core.List.{List, [], ◌∷◌, ◌++◌, map, flatten}
-use Rattle.std.proofs.Math.Option.{none, some}
+use Rattle.std.specs.Prelude.{None, Some}
 use Rattle.flat.specs.Kind
 use Rattle.flat.specs.Tree.{DataType, leaf, list, array, struct, Fields, empty, field, kinds_of, args_of}
 use Rattle.flat.specs.Reading.{type}
@@ -46,25 +46,25 @@ abbrev pub requested : ℕ → Asked → Answered → Case
 requested n q a = record { place = request n; asked = q; answered = a }
 
 abbrev pub joins : DataType → Answered
-joins t = joined (some (type t))
+joins t = joined (Some (type t))
 
 abbrev pub no_type : Answered
-no_type = joined none
+no_type = joined None
 
 abbrev pub yes : Answered
-yes = verdict (some true)
+yes = verdict (Some true)
 
 abbrev pub no : Answered
-no = verdict (some false)
+no = verdict (Some false)
 
 abbrev pub no_verdict : Answered
-no_verdict = verdict none
+no_verdict = verdict None
 
 abbrev pub gives : DataType → Answered
-gives t = result 0 (some t)
+gives t = result 0 (Some t)
 
 abbrev pub refused_by : ℕ → Answered
-refused_by n = result n none
+refused_by n = result n None
 
 -- a type without an argument: one node
 abbrev pub lone : ℕ → DataType

@@ -1,12 +1,14 @@
 -- What a row of the table asks of the definitions, and what they answer. Assumes nothing: these are definitions.
 use Rattle.std.specs.Prelude.{Bool, List, [], ◌∷◌, ℕ, ℤ, get_or, replicate}
-use Rattle.std.proofs.Math.Option.{Option, none, some}
+use Rattle.std.specs.Prelude.{Option, None, Some}
 use Rattle.flat.specs.Tree.{DataType, kinds_of, args_of}
 use Rattle.flat.specs.Reader.{map_o}
-use Rattle.flat.specs.Reading.{Reading, refused, type, reading, checked_of, checked_number}
-use Rattle.flat.specs.Reading.{root_of, root_number, root_kind, root_arg}
+use Rattle.flat.specs.Reading.{Reading, refused, type, reading, checked_of}
+use Rattle.flat.specs.Reading.{root_of}
+use Rattle.flat.specs.Refusal.{answer_number}
+use Rattle.flat.specs.Reply.{value_in}
 use Rattle.flat.specs.Refusals.{number_given}
-use Rattle.flat.specs.Output.{fitting, written_of, written_number, fitting_found, optional_of, optional_number}
+use Rattle.flat.specs.Output.{fitting, written_of, fitting_found, optional_of}
 use Rattle.encoded.specs.Encoding.{encoding, decoding}
 use Rattle.dtype_cast.specs.Cast.{can_cast_to}
 use Rattle.supertype_numbers.specs.DynInt.{materialize_smallest_dyn_int}
@@ -15,7 +17,7 @@ use Rattle.supertype_answer.specs.Join.{joining}
 use Rattle.supertype_lossless.specs.Lossless.{lossless_of}
 use Rattle.supertype.specs.Pair.{supertype_of}
 use Rattle.supertype_nested.specs.Nested.{SuperTypeOptions, supertype_tree}
-use Rattle.channels.specs.Merge.{merged_of, merged_number, merged_value, codes_after}
+use Rattle.channels.specs.Merge.{merged_of, codes_after}
 
 -- The limits that the code sets: the most nodes, the most nodes above a node, the number of channels, and the bytes of
 -- an encoded argument.
@@ -46,14 +48,14 @@ reading_of l t = reading l.nodes l.deep (kinds_of t) (args_of t)
 -- the number of a call's answer, by the definitions that its contract cites
 abbrev pub call_number : Limits → FlatCall → ℕ
 call_number l (check ks xs) = number_given l.nodes l.deep ks xs
-call_number l (check_encoded s) = checked_number (checked_of (decoding l.width l.nodes l.deep s))
+call_number l (check_encoded s) = answer_number (checked_of (decoding l.width l.nodes l.deep s))
 call_number l (get_supertype_call implode to_string t u room) =
     let found = joining (supertype_of implode to_string) (reading_of l t) (reading_of l u) in
-    optional_number (optional_of (fitting_found room room found))
+    answer_number (optional_of (fitting_found room room found))
 call_number l (materialize_unknown_call allow t room) =
-    written_number (written_of (fitting room room (materialized allow (reading_of l t))))
+    answer_number (written_of (fitting room room (materialized allow (reading_of l t))))
 call_number l (merge held channel t) =
-    merged_number (merged_of l.channels (replicate l.channels held) channel (reading_of l t))
+    answer_number (merged_of l.channels (replicate l.channels held) channel (reading_of l t))
 
 -- what is asked
 pub data Asked : Type 0 where
@@ -93,12 +95,12 @@ pub data Answered : Type 0 where
 
 -- the type, where there is one
 abbrev pub type_read : Reading → Option DataType
-type_read (refused e) = none
-type_read (type t) = some t
+type_read (refused e) = None
+type_read (type t) = Some t
 
 -- what a call comes to that writes a type
 abbrev pub written_result : Reading → Answered
-written_result r = result (written_number (written_of r)) (type_read r)
+written_result r = result (answer_number (written_of r)) (type_read r)
 
 -- what `merge_all_call` answers, from these codes
 abbrev pub merge_all : Limits → List ℕ → List DataType → List (ℕ × ℕ) × ℕ
@@ -106,7 +108,7 @@ merge_all l cs [] = ([], get_or cs 0 0)
 merge_all l cs (t ∷ ts) =
     let a = merged_of l.channels cs 0 (type t) in
     let rest = merge_all l (codes_after cs 0 a) ts in
-    ((merged_number a, merged_value a) ∷ rest.0, rest.1)
+    ((answer_number a, value_in (λ code. code) a) ∷ rest.0, rest.1)
 
 -- what the definitions answer
 abbrev pub answer_to : Limits → Asked → Answered
@@ -118,7 +120,9 @@ answer_to l (can_cast from to) = verdict (can_cast_to from to)
 answer_to l (materialize allow t) = written_result (materialized allow (type t))
 answer_to l (merge_all_call ts) = let a = merge_all l (replicate l.channels 0) ts in merged a.0 a.1
 answer_to l (number_of call) = number (call_number l call)
-answer_to l (root t) = let r = root_of (reading_of l t) in numbers (root_number r ∷ root_kind r ∷ root_arg r ∷ [])
+answer_to l (root t) =
+    let r = root_of (reading_of l t) in
+    numbers (answer_number r ∷ value_in (λ n. n.kind) r ∷ value_in (λ n. n.arg) r ∷ [])
 answer_to l (encoded t) = numbers (encoding l.width (kinds_of t) (args_of t))
 answer_to l (decoded s) = written_result (decoding l.width l.nodes l.deep s)
 answer_to l (codes ks) = numbers ks

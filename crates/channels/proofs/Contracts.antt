@@ -1,6 +1,8 @@
 -- A step of a run is what the contracts say: the `ensures` of `ChannelTypes::merge`, of `merge_in_place` and of
 -- `merge_codes`, as the checker reads them, are the step of specs/Rule.antt's `Run` at the limits of the code, whatever
 -- is left of the arguments that a call drops. Assumes nothing.
+use Rattle.std.specs.Prelude.{Result}
+use Rattle.channels.specs.Merge.{Merged}
 use mathlib.Core.Path.{◌≡◌, refl}
 use mathlib.Core.List.{List}
 use Prim.Native.Nat.{ℕ}
@@ -13,10 +15,10 @@ use types.Logic.{Logic}
 use contract.Monad.{Fun, fact}
 use denote.Ref.{Bor}
 use denote.MutBor.{MutBor}
-use Rattle.flat.specs.declared.Root.{Root}
+use Rattle.flat.specs.declared.error.Error.{Error}
+use Rattle.flat.specs.declared.Node.{Node}
 use Rattle.flat.specs.declared.TheConstants.Flat.{MAX_NODES, MAX_DEPTH}
 use Rattle.channels.specs.declared.ChannelTypes.{ChannelTypes}
-use Rattle.channels.specs.declared.Merged.{Merged}
 use Rattle.channels.specs.declared.Outcome.{Outcome}
 use Rattle.channels.specs.declared.TheConstants.ChannelTypes.{CHANNELS}
 use Rattle.flat.specs.Both.{root_reading}
@@ -46,7 +48,7 @@ module _ {M : Type 1} {𝓤 : Ura M} (𝓛 : Logic 𝓤) (mem : Memory → SProp
     by_lending s s' ch' ks' xs' a = refl
 
   -- the contract of a merge into lent codes, of a column told by its root
-  pub by_codes : (cs cs' : MutBor (List ℕ)) (ch' : ℕ) (column column' : Root) (a : Merged)
+  pub by_codes : (cs cs' : MutBor (List ℕ)) (ch' : ℕ) (column column' : Result Node Error) (a : Merged)
       → (codes.clauses 𝓛 mem run (κ, tt) (cs, (ch, (column, tt)))).ensures tt a (cs', (ch', (column', tt)))
       ≡ fact 𝓤 (record { types = record { codes = cs'.now }; answer = a }
       ≡ outcome_of CHANNELS (record { codes = cs.now }) ch (root_reading column))

@@ -1,5 +1,7 @@
 -- The codes and the model: every merge has the model's answer and leaves each code where its channel stands; there is
 -- one model, and its pages are the types accepted. Assumes nothing.
+use Rattle.std.specs.Prelude.{Ok, Err}
+use Rattle.channels.specs.Merge.{Merged}
 use mathlib.Core.Path.{◌≡◌, refl, sym, ap, ◌∙◌}
 use mathlib.Core.Bool.{Bool, true, false, cond}
 use mathlib.Core.Logic.{◌↔◌, inl}
@@ -19,8 +21,6 @@ use Rattle.flat.proofs.Truths.{impossible}
 use Rattle.supertype_numbers.specs.Range.{Listed, Room}
 use Rattle.supertype_numbers.proofs.Ranges.{least_one}
 use Rattle.channels.specs.declared.ChannelTypes.{ChannelTypes}
-use Rattle.channels.specs.declared.Merged.{Merged}
-use Rattle.channels.specs.declared.Merged.TheVariants.{Held, Refused}
 use Rattle.channels.specs.Merge.{merge_unless, merged_with, merged_of, codes_after, started, outcome_of}
 use Rattle.channels.specs.Model.{Merge, Model, blank, page_with, numbered, LeastOrNone, Stands, Enters}
 use Rattle.channels.specs.Model.{not_a_type, no_channel, not_integer, accepted, no_room, Feeds}
@@ -99,7 +99,7 @@ one_answer (not_integer l n) (no_room l' i n') = absurd (n i)
 one_answer (accepted l i r m) (no_channel h) = absurd (omega arith)
 one_answer (accepted l i r m) (not_integer l' n) = absurd (n i)
 one_answer {b = b} {channel = channel} (accepted {t = t} l i r m) (accepted l' i' r' m') =
-    ap Held (stands_one (head_kind t ∷ b channel) m m')
+    ap Ok (stands_one (head_kind t ∷ b channel) m m')
 one_answer (accepted l i r m) (no_room l' i' n) = absurd (n r)
 one_answer (no_room l i n) (no_channel h) = absurd (omega arith)
 one_answer (no_room l i n) (not_integer l' n') = absurd (n' i)
@@ -108,8 +108,8 @@ one_answer (no_room l i n) (no_room l' i' n') = refl
 
 -- the answer settles the model afterwards
 abbrev model_after : Model → ℕ → Reading → Merged → Model
-model_after b channel column (Held c) = λ i. cond (eqb channel i) (with_column column (b i)) (b i)
-model_after b channel column (Refused e) = b
+model_after b channel column (Ok c) = λ i. cond (eqb channel i) (with_column column (b i)) (b i)
+model_after b channel column (Err e) = b
 
 enters_after : {channels : ℕ} {b : Model} {channel : ℕ} {column : Reading} {a : Merged} {b' : Model}
     → Enters channels b channel column a b' → b' ≡ model_after b channel column a
@@ -135,7 +135,7 @@ enters_mergeable (no_room l i n) ch h = h
 -- a listed type for one of the channels is refused exactly where there is no room, and by 12 alone
 pub refused_where : {channels : ℕ} {b : Model} {channel : ℕ} {t : DataType} {a : Merged} {b' : Model}
     → Enters channels b channel (type t) a b' → channel < channels → Listed (head_kind t)
-    → ((a ≡ Refused NoUpcast) ↔ (Room (head_kind t ∷ b channel) → ⊥)) × ((e : Error) → a ≡ Refused e → e ≡ NoUpcast)
+    → ((a ≡ Err NoUpcast) ↔ (Room (head_kind t ∷ b channel) → ⊥)) × ((e : Error) → a ≡ Err e → e ≡ NoUpcast)
 refused_where (no_channel h) l i = absurd (omega arith)
 refused_where (not_integer l' n) l i = absurd (n (inl i))
 refused_where (accepted l' i' r m) l i = (((λ x. impossible cc), (λ n. absurd (n r))), λ e x. impossible cc)
@@ -169,8 +169,8 @@ module _ {channels : ℕ} where
   pub pages : {ms : List Merge} {xs : List Merged} {b : Model} → Feeds channels ms xs b → (ch : ℕ)
       → b ch ≡ Rule.accepted ch ms xs
   pages Feeds.none ch = refl
-  pages (Feeds.next {a = Refused x} f e) ch = rw (enters_after e) (pages f ch)
-  pages (Feeds.next {a = Held c} f e) ch = rw (enters_after e, pages f ch)
+  pages (Feeds.next {a = Err x} f e) ch = rw (enters_after e) (pages f ch)
+  pages (Feeds.next {a = Ok c} f e) ch = rw (enters_after e, pages f ch)
 
   -- all types on a page are listed or Null
   pub all_mergeable : {ms : List Merge} {xs : List Merged} {b : Model} → Feeds channels ms xs b → (ch : ℕ)

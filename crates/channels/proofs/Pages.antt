@@ -1,5 +1,8 @@
 -- A merge into one channel: where the channel stands by its page, its answer is the one that the page calls for.
 -- Assumes nothing.
+use Rattle.std.specs.Prelude.{Option, None, Some}
+use Rattle.std.specs.Prelude.{Ok, Err}
+use Rattle.channels.specs.Merge.{Merged}
 use mathlib.Core.Path.{◌≡◌, refl, sym, subst, ap, ◌∙◌}
 use mathlib.Core.Bool.{Bool, true, false, cond, ◌||◌}
 use mathlib.Core.Logic.Iff
@@ -17,11 +20,7 @@ use Rattle.supertype_numbers.specs.Range.{Listed, is_listed, HasNumber, Includes
 use Rattle.supertype_numbers.proofs.Tests.{listed, is_listed_kind, not_listed}
 use Rattle.supertype_numbers.proofs.Ranges.{has_number}
 use Rattle.supertype_lossless.specs.Lossless.{upcast_of}
-use Rattle.supertype_lossless.specs.declared.upcast.Upcast.{Upcast}
-use Rattle.supertype_lossless.specs.declared.upcast.Upcast.TheVariants.{To, Nothing}
 use Rattle.supertype_lossless.proofs.Laws.{lossless_laws}
-use Rattle.channels.specs.declared.Merged.{Merged}
-use Rattle.channels.specs.declared.Merged.TheVariants.{Held, Refused}
 use Rattle.channels.specs.Merge.{upcast_held, merged_with}
 use Rattle.channels.specs.Model.{Mergeable, numbered, LeastOrNone, Stands}
 use Rattle.channels.proofs.Arms.{Taken, first, equal, upcast}
@@ -29,9 +28,9 @@ use Rattle.channels.proofs.Arms as arms
 
 -- the answer that a page calls for when a type of the kind k is offered
 pub data Answered (page : List ℕ) (k : ℕ) : Merged → Type 0 where
-  not_integer : ¬ Mergeable k → Answered page k (Refused NotInteger)
-  accepted : {c : ℕ} → Mergeable k → Room (k ∷ page) → Stands (k ∷ page) c → Answered page k (Held c)
-  no_room : Mergeable k → ¬ Room (k ∷ page) → Answered page k (Refused NoUpcast)
+  not_integer : ¬ Mergeable k → Answered page k (Err NotInteger)
+  accepted : {c : ℕ} → Mergeable k → Room (k ∷ page) → Stands (k ∷ page) c → Answered page k (Ok c)
+  no_room : Mergeable k → ¬ Room (k ∷ page) → Answered page k (Err NoUpcast)
 
 -- ---- the types that have a number
 
@@ -101,16 +100,16 @@ some_type held (n ∷ ns) s = (held, s.is_listed_kind, s.covers)
 
 module _ (page : List ℕ) (k : ℕ) where
   -- a listed type joins the page
-  joins : {c : ℕ} → Listed k → Least c (k ∷ numbered page) → Answered page k (Held c)
+  joins : {c : ℕ} → Listed k → Least c (k ∷ numbered page) → Answered page k (Ok c)
   joins {c} l m =
       accepted {c = c} (inl l) (c, m.is_listed_kind, (m.covers.0, (covers_numbered c page).0 m.covers.1))
       (rw (is_listed_kind l) m)
 
-  full : Listed k → ¬ Room (k ∷ numbered page) → Answered page k (Refused NoUpcast)
+  full : Listed k → ¬ Room (k ∷ numbered page) → Answered page k (Err NoUpcast)
   full l n = no_room (inl l) (λ r. n (r.0, r.1, (r.2.0, (covers_numbered r.0 page).1 r.2.1)))
 
   -- Null joins it, and the channel stands where it stood
-  stays : {held : ℕ} → k ≡ Kind.Null → Stands page held → Answered page k (Held held)
+  stays : {held : ℕ} → k ≡ Kind.Null → Stands page held → Answered page k (Ok held)
   unfolding is_listed
   stays {held} e s =
       let r = some_type held (numbered page) s in
@@ -135,12 +134,12 @@ module _ (page : List ℕ) (k : ℕ) where
       not_empty : held ≡ 0 → ⊥
       not_empty = let i = m.is_listed_kind in omega arith
 
-      go : Dec (held ≡ k) → (u : Upcast) → upcast_of held k ≡ u → Answered page k (merged_with held k)
+      go : Dec (held ≡ k) → (u : Option ℕ) → upcast_of held k ≡ u → Answered page k (merged_with held k)
       go (yes d) u g = subst (Answered page k) (equal w not_empty d) (joins l (rw e (held_again m k d)))
-      go (no d) (To c) g =
+      go (no d) (Some c) g =
           subst (Answered page k) (ap upcast_held (sym g) ∙ upcast w not_empty d)
           (joins l (rw e (least_joined m k ((lossless_laws.least held k m.is_listed_kind l d c).0 g))))
-      go (no d) Nothing g =
+      go (no d) None g =
           subst (Answered page k) (ap upcast_held (sym g) ∙ upcast w not_empty d)
           (full l (rw e (λ r. (lossless_laws.none held k m.is_listed_kind l d).0 g
           (r.0, r.1, (with_held m k r.0 r.1).1 r.2))))

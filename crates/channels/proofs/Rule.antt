@@ -1,4 +1,6 @@
 -- The rule of the channels' types holds. Assumes nothing.
+use Rattle.std.specs.Prelude.{Ok, Err}
+use Rattle.channels.specs.Merge.{Merged}
 use mathlib.Core.Path.{◌≡◌, refl, sym, ap, ◌∙◌}
 use mathlib.Core.Bool.{Bool, true, false, cond, not, ◌||◌}
 use mathlib.Core.Logic.{◌↔◌}
@@ -19,8 +21,6 @@ use Rattle.flat.proofs.Truths.{never}
 use Rattle.supertype_numbers.specs.Range.{Listed, is_listed, Covers, Room}
 use Rattle.supertype_numbers.proofs.Ranges.{has_number, least_one}
 use Rattle.channels.specs.declared.ChannelTypes.{ChannelTypes}
-use Rattle.channels.specs.declared.Merged.{Merged}
-use Rattle.channels.specs.declared.Merged.TheVariants.{Held, Refused}
 use Rattle.channels.specs.declared.Outcome.{Outcome}
 use Rattle.channels.specs.Merge.{merge_unless, merged_with, merged_of, codes_after, started, outcome_of}
 use Rattle.channels.specs.Model.{Merge, Model, numbered, LeastOrNone, Stands, Feeds}
@@ -39,17 +39,17 @@ Comes channels s m o = o ≡ outcome_of channels s m.channel m.column
 module _ (codes : List ℕ) (channel : ℕ) where
   -- there are as many codes as before, and those of the other channels are as they were
   after_length : (a : Merged) → length (codes_after codes channel a) ≡ length codes
-  after_length (Held c) = length-set codes channel c
-  after_length (Refused e) = refl
+  after_length (Ok c) = length-set codes channel c
+  after_length (Err e) = refl
 
   after_other : (a : Merged) (ch : ℕ) → (ch ≡ channel → ⊥) → get_or (codes_after codes channel a) ch 0 ≡ get_or codes ch 0
-  after_other (Held c) ch n = get_or-set_other codes channel ch c 0 n
-  after_other (Refused e) ch n = refl
+  after_other (Ok c) ch n = get_or-set_other codes channel ch c 0 n
+  after_other (Err e) ch n = refl
 
 -- the channel's own code after an answer, where it held this one before
 abbrev code_after : ℕ → Merged → ℕ
-code_after held (Held c) = c
-code_after held (Refused e) = held
+code_after held (Ok c) = c
+code_after held (Err e) = held
 
 module _ (channels : ℕ) where
   after_own : (codes : List ℕ) (channel : ℕ) (column : Reading) → length codes ≡ channels
@@ -63,8 +63,8 @@ module _ (channels : ℕ) where
           → get_or (codes_after codes channel (merge_unless x Channel a)) channel 0
           ≡ code_after (get_or codes channel 0) (merge_unless x Channel a)
       go false e a = refl
-      go true e (Held c) = get_or-set_same codes channel c 0 (rw n (ltb-true channel channels e))
-      go true e (Refused x) = refl
+      go true e (Ok c) = get_or-set_same codes channel c 0 (rw n (ltb-true channel channels e))
+      go true e (Err x) = refl
 
   -- the answer rests on the channel's own code
   same_answer_lem : (x y : List ℕ) (channel : ℕ) (column : Reading) → get_or x channel 0 ≡ get_or y channel 0
@@ -92,8 +92,8 @@ module _ (channels : ℕ) (s : ChannelTypes) (m : Merge) {o : Outcome} (h : Come
 -- the channel's own code after one answer, of codes of one length that agree there
 after_same : (x y : List ℕ) (ch : ℕ) (a : Merged) → length x ≡ length y → get_or x ch 0 ≡ get_or y ch 0
     → get_or (codes_after x ch a) ch 0 ≡ get_or (codes_after y ch a) ch 0
-after_same x y ch (Refused e) n h = h
-after_same x y ch (Held c) n h = go (dec_lt ch (length x))
+after_same x y ch (Err e) n h = h
+after_same x y ch (Ok c) n h = go (dec_lt ch (length x))
   where
     past : (z : List ℕ) → length z ≤ ch → get_or (set z ch c) ch 0 ≡ 0
     past z l = get_or-eq_default (set z ch c) 0 {n = ch} (rw (length-set z ch c) l)
@@ -114,8 +114,8 @@ same_merge channels s t m h g n e =
 
 -- an answer is the code after it
 tells : (held : ℕ) (a : Merged) {code : ℕ} → code ≡ code_after held a → Tells a code
-tells held (Held c) e = sym e
-tells held (Refused x) e = tt
+tells held (Ok c) e = sym e
+tells held (Err x) e = tt
 
 -- ---- lists of merges, from any codes
 
@@ -248,7 +248,7 @@ module _ {channels : ℕ} where
   silent : {ms : List Merge} {xs : List Merged} {s : ChannelTypes} {m : Merge} {o : Outcome} {t : DataType}
       → Run channels (started channels) ms xs s → Comes channels s m o → m.column ≡ type t → head_kind t ≡ Kind.Null
       → m.channel < channels
-      → o ≡ record { types = s; answer = Held (code_at s m.channel) }
+      → o ≡ record { types = s; answer = Ok (code_at s m.channel) }
   unfolding outcome_of merged_of
   silent {s = s} {m = m} {t = t} r h q z l =
       let g = (by_model r).2 in
@@ -264,8 +264,8 @@ module _ {channels : ℕ} where
   refused_when : {ms : List Merge} {xs : List Merged} {m : Merge} {a : Merged} {t : DataType} {b : Model}
       → Feeds channels (m ∷ ms) (a ∷ xs) b
       → m.column ≡ type t → Listed (head_kind t) → m.channel < channels
-      → ((a ≡ Refused NoUpcast) ↔ ¬ Room (head_kind t ∷ accepted m.channel ms xs))
-      × ((e : Error) → a ≡ Refused e → e ≡ NoUpcast)
+      → ((a ≡ Err NoUpcast) ↔ ¬ Room (head_kind t ∷ accepted m.channel ms xs))
+      × ((e : Error) → a ≡ Err e → e ≡ NoUpcast)
   refused_when {m = m} (Feeds.next f e) q i l = rw (← pages f m.channel) (refused_where (rw q at e) l i)
 
 pub channel_rule : (channels : ℕ) → ChannelRule channels

@@ -1,5 +1,7 @@
 -- The model that the types of the channels are held to, document 01's book: a page of types for each channel. It is fed
 -- each merge's channel and type, nothing of the codes or the answers. Assumes nothing: these are definitions.
+use Rattle.std.specs.Prelude.{Ok, Err}
+use Rattle.channels.specs.Merge.{Merged}
 use Rattle.std.specs.Prelude.{◌≡◌, cond, ◌⊎◌, List, [], ◌∷◌, ℕ, ◌≤◌, ◌<◌, eqb}
 use Rattle.flat.specs.Kind
 use Rattle.flat.specs.Tree.{DataType, head_kind}
@@ -7,8 +9,6 @@ use Rattle.flat.specs.Reading.{Reading, refused, type, reading}
 use Rattle.flat.specs.declared.error.Error.{Error}
 use Rattle.flat.specs.declared.error.Error.TheVariants.{Channel, NotInteger, NoUpcast}
 use Rattle.supertype_numbers.specs.Range.{Listed, is_listed, Least, Room}
-use Rattle.channels.specs.declared.Merged.{Merged}
-use Rattle.channels.specs.declared.Merged.TheVariants.{Held, Refused}
 
 -- a merge, document 01's offer: a channel, and the column whose type is offered. "A column is the type offered, valid
 -- where it passes 1 to 5": its arrays read as a type, or are refused
@@ -55,18 +55,18 @@ Stands page c = LeastOrNone (numbered page) c
 -- The model is fed a column for a channel: its answer, and the model afterwards.
 pub data Enters (channels : ℕ) (b : Model) (channel : ℕ) : Reading → Merged → Model → Type 0 where
   -- "An offer that 1 to 5, 9 or 11 turn down answers the lowest such number and changes no page"
-  not_a_type : {e : Error} → Enters channels b channel (refused e) (Refused e) b
-  no_channel : {t : DataType} → channels ≤ channel → Enters channels b channel (type t) (Refused Channel) b
+  not_a_type : {e : Error} → Enters channels b channel (refused e) (Err e) b
+  no_channel : {t : DataType} → channels ≤ channel → Enters channels b channel (type t) (Err Channel) b
   not_integer : {t : DataType} → channel < channels → ¬ Mergeable (head_kind t)
-      → Enters channels b channel (type t) (Refused NotInteger) b
+      → Enters channels b channel (type t) (Err NotInteger) b
   -- "Any other is accepted exactly when some listed type's range includes its range and those on its channel's page;
   -- its type then joins that page"; "an accepted offer answers where its channel then stands"
   accepted : {t : DataType} {c : ℕ} → channel < channels → Mergeable (head_kind t) → Room (head_kind t ∷ b channel)
       → Stands (head_kind t ∷ b channel) c
-      → Enters channels b channel (type t) (Held c) (page_with b channel (head_kind t))
+      → Enters channels b channel (type t) (Ok c) (page_with b channel (head_kind t))
   -- "Otherwise it answers 12 and no page changes"
   no_room : {t : DataType} → channel < channels → Mergeable (head_kind t) → ¬ Room (head_kind t ∷ b channel)
-      → Enters channels b channel (type t) (Refused NoUpcast) b
+      → Enters channels b channel (type t) (Err NoUpcast) b
 
 -- The model is fed a list of merges, the latest first in the list: its answers, and the model after them.
 pub data Feeds (channels : ℕ) : List Merge → List Merged → Model → Type 0 where

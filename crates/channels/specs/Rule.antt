@@ -1,5 +1,7 @@
 -- The rule of the channels' types, document 01's season rule (demand 3), with request One's Null in it: one claim about
 -- every list of merges. Assumes nothing: these are definitions.
+use Rattle.std.specs.Prelude.{Ok, Err}
+use Rattle.channels.specs.Merge.{Merged}
 use Rattle.std.specs.Prelude.{◌≡◌, Bool, true, false, cond, not, ◌↔◌, List, [], ◌∷◌, ◌++◌, ℕ, ◌<◌, eqb, length, get_or}
 use Rattle.flat.specs.Kind
 use Rattle.flat.specs.Tree.{DataType, head_kind}
@@ -8,8 +10,6 @@ use Rattle.flat.specs.declared.error.Error.{Error}
 use Rattle.flat.specs.declared.error.Error.TheVariants.{NoUpcast}
 use Rattle.supertype_numbers.specs.Range.{Listed, is_listed, HasNumber, Covers, Least, Room}
 use Rattle.channels.specs.declared.ChannelTypes.{ChannelTypes}
-use Rattle.channels.specs.declared.Merged.{Merged}
-use Rattle.channels.specs.declared.Merged.TheVariants.{Held, Refused}
 use Rattle.channels.specs.declared.Outcome.{Outcome}
 use Rattle.channels.specs.Merge.{started, outcome_of}
 use Rattle.channels.specs.Model.{Merge, Model, Mergeable, numbered, Stands, Feeds}
@@ -29,8 +29,8 @@ code_at s ch = get_or s.codes ch 0
 
 -- an answer is the code that its channel then holds, or a refusal
 abbrev pub Tells : Merged → ℕ → Type 0
-Tells (Held c) code = c ≡ code
-Tells (Refused e) code = Unit {0}
+Tells (Ok c) code = c ≡ code
+Tells (Err e) code = Unit {0}
 
 -- a column's type, before others; what is no type adds none
 abbrev pub with_column : Reading → List ℕ → List ℕ
@@ -45,8 +45,8 @@ is_into ch m = eqb m.channel ch
 abbrev pub accepted : (ch : ℕ) → List Merge → List Merged → List ℕ
 accepted ch [] xs = []
 accepted ch (m ∷ ms) [] = []
-accepted ch (m ∷ ms) (Refused e ∷ xs) = accepted ch ms xs
-accepted ch (m ∷ ms) (Held c ∷ xs) =
+accepted ch (m ∷ ms) (Err e ∷ xs) = accepted ch ms xs
+accepted ch (m ∷ ms) (Ok c ∷ xs) =
     cond (is_into ch m) (with_column m.column (accepted ch ms xs)) (accepted ch ms xs)
 
 -- all of these types may be merged
@@ -107,7 +107,7 @@ pub record ChannelRule (channels : ℕ) : Type 0 where
   pub silent : {ms : List Merge} {xs : List Merged} {s : ChannelTypes} {m : Merge} {o : Outcome} {t : DataType}
       → Run channels (started channels) ms xs s → o ≡ outcome_of channels s m.channel m.column
       → m.column ≡ type t → head_kind t ≡ Kind.Null → m.channel < channels
-      → o ≡ record { types = s; answer = Held (code_at s m.channel) }
+      → o ≡ record { types = s; answer = Ok (code_at s m.channel) }
   -- and so the types and the other offers' answers are the same in a list and in the one without its Nulls, even from a
   -- record not started empty
   pub without_nulls : {ms : List Merge} {xs ys : List Merged} {s₀ s t : ChannelTypes} → Run channels s₀ ms xs s
@@ -117,8 +117,8 @@ pub record ChannelRule (channels : ℕ) : Type 0 where
   pub refused_when : {ms : List Merge} {xs : List Merged} {s : ChannelTypes} {m : Merge} {a : Merged} {t : DataType}
       → Run channels (started channels) (m ∷ ms) (a ∷ xs) s
       → m.column ≡ type t → Listed (head_kind t) → m.channel < channels
-      → ((a ≡ Refused NoUpcast) ↔ ¬ Room (head_kind t ∷ accepted m.channel ms xs))
-      × ((e : Error) → a ≡ Refused e → e ≡ NoUpcast)
+      → ((a ≡ Err NoUpcast) ↔ ¬ Room (head_kind t ∷ accepted m.channel ms xs))
+      × ((e : Error) → a ≡ Err e → e ≡ NoUpcast)
   -- "Every answer is the code then held or the refusal's number."
   pub answers : {ms : List Merge} {xs : List Merged} {s₀ s : ChannelTypes} {m : Merge} {a : Merged}
       → length s₀.codes ≡ channels → Run channels s₀ (m ∷ ms) (a ∷ xs) s

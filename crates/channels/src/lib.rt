@@ -8,113 +8,68 @@ ghost use Rattle.std.specs.Prelude.{◌≡◌, ◌||◌, eqb};
 ghost use Rattle.flat.specs.Reading.{reading};
 ghost use Rattle.supertype_numbers.specs.Range.{is_listed};
 ghost use Rattle.flat.specs.Both.{root_reading};
-ghost use Rattle.channels.specs.Merge.{merged_with, merged_number, merged_value, started, outcome_of};
+ghost use Rattle.channels.specs.Merge.{merged_with, started, outcome_of};
 
 use flat::error::Error;
 use flat::kind::Kind;
-use flat::{Flat, Root};
-use supertype_lossless::upcast::{Upcast, upcast_kinds};
+use flat::{Flat, Node};
+use supertype_lossless::upcast::upcast_kinds;
 use supertype_numbers::integer::is_listed;
 
 // For each channel the kind of the integer type that it holds, or 0 while it is empty.
 #[repr(C)]
-#[derive(Clone, Copy)]
+#[derive(Clone, Copy, Debug, PartialEq, Eq)]
 pub struct ChannelTypes {
     pub codes: [u8; ChannelTypes::CHANNELS],
 }
 
-// What a merge answers: the code that its channel now holds, or the refusal.
-#[derive(Clone, Copy)]
-pub enum Merged {
-    Held(u8),
-    Refused(Error),
-}
-
-// The answer of a merge, beside the types as it leaves them.
-#[derive(Clone, Copy)]
+// What a merge answers, the code that its channel now holds or the refusal, beside the types as it leaves them.
+#[derive(Clone, Copy, Debug, PartialEq, Eq)]
 pub struct Outcome {
     pub types: ChannelTypes,
-    pub answer: Merged,
-}
-
-impl Merged {
-    // Document 01's number.
-    pub fn number(self) -> u64
-        ensures { result ≡ merged_number self }
-    {
-        match self {
-            Merged::Held(_) => 0,
-            Merged::Refused(e) => e.number(),
-        }
-    }
-
-    // The value beside the number.
-    pub fn value(self) -> u64
-        ensures { result ≡ merged_value self }
-    {
-        match self {
-            Merged::Held(c) => c as u64,
-            Merged::Refused(_) => 0,
-        }
-    }
+    pub answer: Result<u8, Error>,
 }
 
 // Whether a channel may hold a code: 0, or an integer type's.
 fn is_channel_code(code: u8) -> bool
     ensures { result ≡ (eqb code 0 || is_listed code) }
 {
-    if code == 0 {
-        return true;
-    }
-    is_listed(code)
+    code == 0 || is_listed(code)
 }
 
 // The answer of a channel that holds `held` to a column of this kind: refusals 10, 11 and 12. A column of type Null has
 // no number that the channel could miss, and leaves it as it is.
-fn merge_kind(held: u8, kind: u8) -> Merged
+fn merge_kind(held: u8, kind: u8) -> Result<u8, Error>
     ensures { result ≡ merged_with held kind }
 {
     if !is_channel_code(held) {
-        return Merged::Refused(Error::ChannelCode);
+        return Err(Error::ChannelCode);
     }
-    if !is_listed(kind) {
-        return match kind {
-            Kind::NULL => Merged::Held(held),
-            _ => Merged::Refused(Error::NotInteger),
-        };
-    }
-    if held == 0 {
-        return Merged::Held(kind);
-    }
-    if held == kind {
-        return Merged::Held(held);
-    }
-    match upcast_kinds(held, kind) {
-        Upcast::To(c) => Merged::Held(c),
-        Upcast::Nothing => Merged::Refused(Error::NoUpcast),
+    match kind {
+        Kind::NULL => Ok(held),
+        _ if !is_listed(kind) => Err(Error::NotInteger),
+        _ if held == 0 => Ok(kind),
+        _ if held == kind => Ok(held),
+        _ => upcast_kinds(held, kind).ok_or(Error::NoUpcast),
     }
 }
 
 // Merges a column, told by the root of its type, into a channel of the lent codes: its refusal, then 9 to 12.
-pub fn merge_codes(codes: &mut [u8; ChannelTypes::CHANNELS], channel: usize, column: Root) -> Merged
+pub fn merge_codes(
+    codes: &mut [u8; ChannelTypes::CHANNELS],
+    channel: usize,
+    column: Result<Node, Error>,
+) -> Result<u8, Error>
     ensures { record { types = record { codes = codes.new }; answer = result }
         ≡ outcome_of ChannelTypes.CHANNELS (record { codes = codes.old }) channel (root_reading column) }
 {
-    match column {
-        Root::Refused(e) => Merged::Refused(e),
-        Root::Node(kind, _) => {
-            if channel >= ChannelTypes::CHANNELS {
-                return Merged::Refused(Error::Channel);
-            }
-            match merge_kind(codes[channel], kind) {
-                Merged::Held(c) => {
-                    codes[channel] = c;
-                    Merged::Held(c)
-                }
-                Merged::Refused(e) => Merged::Refused(e),
-            }
-        }
+    let root = column?;
+    if channel >= ChannelTypes::CHANNELS {
+        return Err(Error::Channel);
     }
+    let code = merge_kind(codes[channel], root.kind)?;
+    codes[channel] = code;
+    Ok(code)
 }
 
 impl ChannelTypes {
@@ -126,7 +81,7 @@ impl ChannelTypes {
         ensures { result ≡ started ChannelTypes.CHANNELS }
     {
         Self {
-            codes: [0u8; ChannelTypes::CHANNELS],
+            codes: [0; ChannelTypes::CHANNELS],
         }
     }
 
@@ -135,9 +90,8 @@ impl ChannelTypes {
         ensures { let column = reading Flat.MAX_NODES Flat.MAX_DEPTH kinds.now args.now in
             result ≡ outcome_of ChannelTypes.CHANNELS self channel column }
     {
-        let mut codes = self.codes;
-        let answer = merge_codes(&mut codes, channel, flat::check_root(kinds, args));
-        let types = ChannelTypes { codes };
+        let mut types = self;
+        let answer = merge_in_place(&mut types, channel, kinds, args);
         Outcome { types, answer }
     }
 }
@@ -149,7 +103,7 @@ pub fn merge_in_place(
     channel: usize,
     kinds: &[u8],
     args: &[u64],
-) -> Merged
+) -> Result<u8, Error>
     ensures { let column = reading Flat.MAX_NODES Flat.MAX_DEPTH kinds.now args.now in
         record { types = types.new; answer = result } ≡ outcome_of ChannelTypes.CHANNELS types.old channel column }
 {

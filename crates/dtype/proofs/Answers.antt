@@ -8,15 +8,14 @@ use lib.ListN.{length, get_or}
 use Rattle.flat.specs.Tree.{head_kind}
 use Rattle.flat.specs.Reading.{reading, checked_of, one_plain}
 use Rattle.flat.specs.declared.error.Error.{Error}
-use Rattle.flat.specs.declared.Checked.{Checked}
-use Rattle.flat.proofs.Meaning.{Passed, check_passed, checked_refused, root_kind_lem}
+use Rattle.std.specs.Prelude.{Result, Ok}
+use Rattle.flat.proofs.Meaning.{Passed, check_passed, root_kind_lem}
 use Rattle.flat.proofs.Plain.{plain_type}
 use Rattle.dtype.specs.Predicate.{is_temporal, is_float, is_signed_integer, is_unsigned_integer, is_integer}
 use Rattle.dtype.specs.Predicate.{is_primitive_numeric, is_primitive, is_nested, is_string, is_unknown}
 use Rattle.dtype.specs.Predicates.{predicate_of, told_by}
-use Rattle.dtype.specs.Answer.{yes_no, answer_of}
+use Rattle.dtype.specs.Answer.{answer_of}
 use Rattle.dtype.specs.declared.predicate.Predicate.{Predicate}
-use Rattle.dtype.specs.declared.answer.Answer.{Answer}
 use Rattle.dtype.proofs.Trees.{scanned, contains_unknown_lem, not_known, contains_list, is_logical_lem}
 
 -- Two arrays that are a type.
@@ -48,26 +47,18 @@ module _ (nodes deep : ℕ) (ks xs : List ℕ) where
   pub plain_passed : 1 ≤ nodes → {b : Bool} → b ≡ one_plain ks xs → b ≡ true → Passed nodes deep ks xs
   plain_passed h e t = (plain_type nodes deep ks xs h (sym e ∙ t)).passed
 
-  pub valid_passed : {a : Checked} → a ≡ checked_of (reading nodes deep ks xs) → a ≡ Checked.Valid
+  pub valid_passed : {a : Result (Unit {0}) Error} → a ≡ checked_of (reading nodes deep ks xs) → a ≡ Ok tt
       → Passed nodes deep ks xs
   valid_passed e v = check_passed (sym v ∙ e)
 
-  pub valid_even : {a : Checked} → a ≡ checked_of (reading nodes deep ks xs) → a ≡ Checked.Valid → length ks ≡ length xs
+  pub valid_even : {a : Result (Unit {0}) Error} → a ≡ checked_of (reading nodes deep ks xs) → a ≡ Ok tt → length ks ≡ length xs
   valid_even e v = (valid_passed e v).even
-
-  pub valid_some : {a : Checked} → a ≡ checked_of (reading nodes deep ks xs) → a ≡ Checked.Valid → 0 < length ks
-  valid_some e v = some_node (valid_passed e v)
 
 pub plain_some : (ks xs : List ℕ) {b : Bool} → b ≡ one_plain ks xs → b ≡ true → 0 < length ks
 plain_some ks xs e t = some_node (plain_passed 1 0 ks xs (omega arith) e t)
 
--- the answer where they are a type, and where a check refused them
+-- the answer where they are a type
 module _ (p : Predicate) (nodes deep : ℕ) (ks xs : List ℕ) where
-  pub answered : Passed nodes deep ks xs → {b : Bool} {a : Answer} → b ≡ told_by p ks → a ≡ yes_no b
-      → a ≡ answer_of (predicate_of p) (reading nodes deep ks xs)
-  answered v s q = q ∙ ap yes_no (s ∙ told v p) ∙ ap (answer_of (predicate_of p)) (sym v.reads)
-
-  pub refused_answer : {a : Checked} {e : Error} → a ≡ checked_of (reading nodes deep ks xs) → a ≡ Checked.Refused e
-      → Answer.Refused e ≡ answer_of (predicate_of p) (reading nodes deep ks xs)
-  refused_answer {e = e} q r =
-      ap (answer_of (predicate_of p)) (sym (checked_refused (reading nodes deep ks xs) e (sym r ∙ q)))
+  pub answered : Passed nodes deep ks xs → {b : Bool} → b ≡ told_by p ks
+      → Ok b ≡ answer_of (predicate_of p) (reading nodes deep ks xs)
+  answered v s = ap Ok (s ∙ told v p) ∙ ap (answer_of (predicate_of p)) (sym v.reads)

@@ -1,54 +1,39 @@
--- A scan of the kinds: what the first i say of all of them, and that the scans for a run of kinds look for those that
--- the predicates name. Assumes nothing.
-use mathlib.Core.Path.{◌≡◌, refl, sym, ◌∙◌}
-use mathlib.Core.Bool.{Bool, true, false, ◌&&◌, ◌||◌, and-false, or-true, or-false}
+-- A scan of the kinds: the scans for a run of kinds look for those that the predicates name. Assumes nothing.
+use mathlib.Core.Path.{◌≡◌, refl, sym, ap₂, ◌∙◌}
+use mathlib.Core.Bool.{Bool, true, false, ◌&&◌, ◌||◌}
 use mathlib.Core.List.{List, [], ◌∷◌}
 use Prim.Native.Nat.{ℕ, suc, ◌+◌, ◌≤◌, ◌<◌}
 use native.Mathlib.Omega.{arith}
-use native.Mathlib.Numerals.{add-one}
 use lib.Dec.{T, leb, ltb, eqb}
-use lib.ListN.{length, get_or, drop, drop_of_length-le}
-use lib.Seq.{drop-cons}
+use lib.ListN.{length, get_or, take}
 use borrow.Author.Tests.{le-leb, lt-leb, ltb-true, ne_eqb, leb-true, leb-false}
+use Rattle.std.specs.List.{list_any}
+use Rattle.std.proofs.lemmas.List.Folds.{list_any_more}
 use Rattle.flat.specs.Kind
 use Rattle.dtype.specs.Match.{among}
 use Rattle.dtype.specs.Predicate.{is_temporal, is_unknown_int, is_unknown}
-use Rattle.dtype.specs.Scan.{between, any_of, is_list_kind, is_decimal_kind, is_logical_kind}
+use Rattle.flat.specs.Kind.{between}
+use Rattle.dtype.specs.Scan.{is_list_kind, is_decimal_kind, is_logical_kind}
 use Rattle.dtype.proofs.Runs.{says, of_run}
 
--- Before kind i: what the first i say, found, and what the rest says are together what they all say.
-pub record Scanned (p : ℕ → Bool) (ks : List ℕ) (found : Bool) (i : ℕ) : Type 0 where
-  pub within : i ≤ length ks
-  pub says_all : any_of p ks ≡ (found || any_of p (drop i ks))
-
-module _ {p : ℕ → Bool} {ks : List ℕ} {found : Bool} {i : ℕ} (s : Scanned p ks found i) where
-  module _ (h : i < length ks) where
-    step : any_of p ks ≡ (found || (p (get_or ks i 0) || any_of p (drop (i + 1) ks)))
-    unfolding any_of
-    step = s.says_all ∙ rw (add-one, drop-cons ks i 0)
-
-    pub any_on : p (get_or ks i 0) ≡ false → Scanned p ks found (i + 1)
-    any_on n = record { within = omega arith; says_all = step ∙ rw n }
-
-    pub any_found : p (get_or ks i 0) ≡ true → Scanned p ks true (i + 1)
-    any_found y = record { within = omega arith; says_all = step ∙ rw y (or-true found) }
-
-  pub any_end : length ks ≤ i → found ≡ any_of p ks
-  unfolding any_of
-  any_end h = sym (s.says_all ∙ rw (drop_of_length-le ks h) (or-false found))
+-- one more kind, after the first i
+pub any_more :
+    (p : ℕ → Bool) (ks : List ℕ) (i : ℕ) {found b : Bool} → found ≡ list_any p (take i ks) → i < length ks
+    → b ≡ p (get_or ks i 0) → (found || b) ≡ list_any p (take (i + 1) ks)
+any_more p ks i e h f = ap₂ (λ x y. x || y) e f ∙ sym (list_any_more p ks i 0 h)
 
 module _ (low high k : ℕ) where
-  pub is_between : low ≤ k → k ≤ high → between low high k ≡ true
+  pub from_low : low ≤ k → leb k high ≡ between low high k
   unfolding between
-  is_between l h = rw (le-leb low k l, le-leb k high h)
+  from_low l = rw (le-leb low k l)
+
+  pub below_low : k < low → leb low k ≡ between low high k
+  unfolding between
+  below_low l = rw (lt-leb low k l)
 
   pub is_below : k < low → between low high k ≡ false
   unfolding between
   is_below l = rw (lt-leb low k l)
-
-  pub is_above : high < k → between low high k ≡ false
-  unfolding between
-  is_above h = rw (lt-leb k high h) (and-false (leb low k))
 
 -- ---- the scans for a run of kinds
 
@@ -79,33 +64,32 @@ module _ (p : ℕ → Bool) (lo n : ℕ) (before : T (says p false 0 lo)) (withi
       go true false e f = let h = leb-false k (lo + n) f in sym (after k (omega arith))
       go false c e f = let l = leb-false lo k e in of_run p false 0 lo before k (omega arith)
 
-  scan_run : (ks : List ℕ) → any_of (between lo (lo + n)) ks ≡ any_of p ks
-  scan_run ks = λ i. any_of (λ k. as_run k i) ks
+  scan_run : (ks : List ℕ) → list_any (between lo (lo + n)) ks ≡ list_any p ks
+  scan_run ks = λ i. list_any (λ k. as_run k i) ks
 
-pub scan_unknown : (ks : List ℕ) → any_of (between Kind.UnknownAny Kind.UnknownIntNeg) ks ≡ any_of is_unknown ks
+pub scan_unknown : (ks : List ℕ) → list_any (between Kind.UnknownAny Kind.UnknownIntNeg) ks ≡ list_any is_unknown ks
 unfolding is_unknown is_unknown_int
 scan_unknown =
     scan_run is_unknown 23 4 (unfold says in tt) (unfold says in tt)
     (λ k h. rw (past 28 (23 ∷ 24 ∷ 25 ∷ []) tt k h, past 28 (26 ∷ 27 ∷ []) tt k h))
 
-scan_temporal : (ks : List ℕ) → any_of (between Kind.Date Kind.Time) ks ≡ any_of is_temporal ks
+scan_temporal : (ks : List ℕ) → list_any (between Kind.Date Kind.Time) ks ≡ list_any is_temporal ks
 unfolding is_temporal
 scan_temporal =
     scan_run is_temporal 19 3 (unfold says in tt) (unfold says in tt) (past 23 (19 ∷ 20 ∷ 21 ∷ 22 ∷ []) tt)
 
-pub scan_list : (ks : List ℕ) → any_of (between Kind.List Kind.List) ks ≡ any_of is_list_kind ks
+pub scan_list : (ks : List ℕ) → list_any (between Kind.List Kind.List) ks ≡ list_any is_list_kind ks
 unfolding is_list_kind
 scan_list = scan_run is_list_kind 28 0 (unfold says in tt) (unfold says in tt) (past 29 (28 ∷ []) tt)
 
-scan_decimal : (ks : List ℕ) → any_of (between Kind.Decimal Kind.Decimal) ks ≡ any_of is_decimal_kind ks
+scan_decimal : (ks : List ℕ) → list_any (between Kind.Decimal Kind.Decimal) ks ≡ list_any is_decimal_kind ks
 unfolding is_decimal_kind
 scan_decimal = scan_run is_decimal_kind 15 0 (unfold says in tt) (unfold says in tt) (past 16 (15 ∷ []) tt)
 
 -- either of two
-scan_either : (p q : ℕ → Bool) (ks : List ℕ) → any_of (λ k. p k || q k) ks ≡ (any_of p ks || any_of q ks)
-unfolding any_of
+scan_either : (p q : ℕ → Bool) (ks : List ℕ) → list_any (λ k. p k || q k) ks ≡ (list_any p ks || list_any q ks)
 scan_either p q [] = refl
-scan_either p q (k ∷ ks) = go (p k) (q k) (any_of p ks) (any_of q ks) (scan_either p q ks)
+scan_either p q (k ∷ ks) = go (p k) (q k) (list_any p ks) (list_any q ks) (scan_either p q ks)
   where
     go : (a b c s : Bool) {r : Bool} → r ≡ (c || s) → ((a || b) || r) ≡ ((a || c) || (b || s))
     go true b c s e = refl
@@ -115,14 +99,14 @@ scan_either p q (k ∷ ks) = go (p k) (q k) (any_of p ks) (any_of q ks) (scan_ei
 
 -- the two scans for a logical kind, one after the other
 module _ (ks : List ℕ) where
-  logical : (any_of (between Kind.Date Kind.Time) ks || any_of (between Kind.Decimal Kind.Decimal) ks) ≡ any_of is_logical_kind ks
+  logical : (list_any (between Kind.Date Kind.Time) ks || list_any (between Kind.Decimal Kind.Decimal) ks) ≡ list_any is_logical_kind ks
   unfolding is_logical_kind
   logical = rw (scan_temporal ks, scan_decimal ks) (sym (scan_either is_temporal is_decimal_kind ks))
 
-  module _ {r : Bool} (first : r ≡ any_of (between Kind.Date Kind.Time) ks) where
-    pub logical_first : r ≡ true → true ≡ any_of is_logical_kind ks
-    logical_first y = rw (sym first ∙ y) at logical
+  module _ {r : Bool} (first : r ≡ list_any (between Kind.Date Kind.Time) ks) where
+    pub logical_first : r ≡ true → r ≡ list_any is_logical_kind ks
+    logical_first y = y ∙ (rw (sym first ∙ y) at logical)
 
-    pub logical_second : r ≡ false → {s : Bool} → s ≡ any_of (between Kind.Decimal Kind.Decimal) ks
-        → s ≡ any_of is_logical_kind ks
+    pub logical_second : r ≡ false → {s : Bool} → s ≡ list_any (between Kind.Decimal Kind.Decimal) ks
+        → s ≡ list_any is_logical_kind ks
     logical_second n e = e ∙ (rw (sym first ∙ n) at logical)

@@ -6,6 +6,7 @@ use Prim.Native.Nat.{ℕ, ◌≤◌, ◌<◌}
 use native.Mathlib.Omega.{arith}
 use borrow.Author.Tests.{eq-eqb, ne_eqb}
 use lib.Dec.{eqb}
+use Rattle.std.specs.List.{list_any}
 use Rattle.flat.specs.Kind
 use Rattle.flat.specs.Tree.{DataType, leaf, list, array, struct, Fields, empty, field, kinds_of, kinds_ofs}
 use Rattle.flat.specs.Reading.{type, reading, Ruled, RuledFields}
@@ -16,7 +17,7 @@ use Rattle.dtype.specs.Equality.{equal_node, equal, equal_fields}
 use Rattle.dtype.specs.Physical.{physical_leaf, to_physical, physical_fields}
 use Rattle.dtype.specs.Recursive.{is_known, all_known, is_logical, contains_list_recursive, any_contains_list}
 use Rattle.dtype.specs.Recursive.{contains_unknown, any_contains_unknown}
-use Rattle.dtype.specs.Scan.{any_of, is_list_kind, is_decimal_kind, is_logical_kind}
+use Rattle.dtype.specs.Scan.{is_list_kind, is_decimal_kind, is_logical_kind}
 use Rattle.dtype.proofs.Pairs.{nodes_same, right_known}
 
 -- f of a type and g of fields: p holds of some node
@@ -30,26 +31,25 @@ pub record Nodewise (p : ℕ → Bool) (f : DataType → Bool) (g : Fields → B
 
 module _ {p : ℕ → Bool} {f : DataType → Bool} {g : Fields → Bool} (n : Nodewise p f g) where
   mutual
-    unfolding any_of kinds_of Ruled
+    unfolding kinds_of Ruled
 
-    any_type : (t : DataType) → Ruled t → (ks : List ℕ) → any_of p (kinds_of t ++ ks) ≡ (f t || any_of p ks)
+    any_type : (t : DataType) → Ruled t → (ks : List ℕ) → list_any p (kinds_of t ++ ks) ≡ (f t || list_any p ks)
     any_type (leaf k a) r ks = rw (n.on_leaf k a r.0)
-    any_type (list t) r ks = rw (n.on_list t, any_type t r ks) (sym (or_assoc (p Kind.List) (f t) (any_of p ks)))
-    any_type (array w t) r ks = rw (n.on_array w t, any_type t r ks) (sym (or_assoc (p Kind.Array) (f t) (any_of p ks)))
-    any_type (struct fs) r ks = rw (n.on_struct fs, any_fields fs r.1 ks) (sym (or_assoc (p Kind.Struct) (g fs) (any_of p ks)))
+    any_type (list t) r ks = rw (n.on_list t, any_type t r ks) (sym (or_assoc (p Kind.List) (f t) (list_any p ks)))
+    any_type (array w t) r ks = rw (n.on_array w t, any_type t r ks) (sym (or_assoc (p Kind.Array) (f t) (list_any p ks)))
+    any_type (struct fs) r ks = rw (n.on_struct fs, any_fields fs r.1 ks) (sym (or_assoc (p Kind.Struct) (g fs) (list_any p ks)))
 
-    any_fields : (fs : Fields) → RuledFields fs → (ks : List ℕ) → any_of p (kinds_ofs fs ++ ks) ≡ (g fs || any_of p ks)
+    any_fields : (fs : Fields) → RuledFields fs → (ks : List ℕ) → list_any p (kinds_ofs fs ++ ks) ≡ (g fs || list_any p ks)
     any_fields empty r ks = rw n.on_empty
     any_fields (field name t fs) r ks =
         rw (n.on_field name t fs, append_assoc (kinds_of t) (kinds_ofs fs) ks, any_type t r.1 (kinds_ofs fs ++ ks), any_fields fs r.2 ks)
-        (ap (λ (b : Bool). p Kind.Field || b) (sym (or_assoc (f t) (g fs) (any_of p ks))) ∙ sym (or_assoc (p Kind.Field) (f t || g fs) (any_of p ks)))
+        (ap (λ (b : Bool). p Kind.Field || b) (sym (or_assoc (f t) (g fs) (list_any p ks))) ∙ sym (or_assoc (p Kind.Field) (f t || g fs) (list_any p ks)))
 
   -- a scan of a valid type's kinds says what f says of the type
-  pub scanned : (nodes deep : ℕ) (ks xs : List ℕ) (t : DataType) → reading nodes deep ks xs ≡ type t → any_of p ks ≡ f t
-  unfolding any_of
+  pub scanned : (nodes deep : ℕ) (ks xs : List ℕ) (t : DataType) → reading nodes deep ks xs ≡ type t → list_any p ks ≡ f t
   scanned nodes deep ks xs t e =
       let h = holds nodes deep ks xs t e in
-      ap (any_of p) (h.kinds ∙ sym (append-nil (kinds_of t))) ∙ any_type t h.is_type.ruled [] ∙ or-false (f t)
+      ap (list_any p) (h.kinds ∙ sym (append-nil (kinds_of t))) ∙ any_type t h.is_type.ruled [] ∙ or-false (f t)
 
 not_and : (a b : Bool) → not (a && b) ≡ (not a || not b)
 not_and true b = refl

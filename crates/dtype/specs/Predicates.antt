@@ -1,11 +1,12 @@
 -- The predicates by name: what each says of a type, and how the kinds of a valid type tell it.
 -- Assumes nothing: these are definitions.
 use Rattle.std.specs.Prelude.{Bool, not, List, ℕ, get_or}
+use Rattle.std.specs.List.{list_any}
 use Rattle.flat.specs.Tree.{DataType}
 use Rattle.dtype.specs.Predicate.{root, is_temporal, is_float, is_signed_integer, is_unsigned_integer, is_integer}
 use Rattle.dtype.specs.Predicate.{is_primitive_numeric, is_primitive, is_nested, is_string, is_unknown}
 use Rattle.dtype.specs.Recursive.{is_known, is_logical, contains_unknown, contains_list_recursive}
-use Rattle.dtype.specs.Scan.{any_of, is_list_kind, is_logical_kind}
+use Rattle.dtype.specs.Scan.{is_list_kind, is_logical_kind}
 use Rattle.dtype.specs.declared.predicate.Predicate.{Predicate}
 
 abbrev pub predicate_of : Predicate → DataType → Bool
@@ -27,8 +28,8 @@ predicate_of Predicate.ContainsListRecursive = contains_list_recursive
 -- by the first kind, which is the root's, or by them all
 abbrev pub told_by : Predicate → List ℕ → Bool
 told_by Predicate.IsNested ks = is_nested (get_or ks 0 0)
-told_by Predicate.IsKnown ks = not (any_of is_unknown ks)
-told_by Predicate.IsLogical ks = any_of is_logical_kind ks
+told_by Predicate.IsKnown ks = not (list_any is_unknown ks)
+told_by Predicate.IsLogical ks = list_any is_logical_kind ks
 told_by Predicate.IsPrimitive ks = is_primitive (get_or ks 0 0)
 told_by Predicate.IsPrimitiveNumeric ks = is_primitive_numeric (get_or ks 0 0)
 told_by Predicate.IsTemporal ks = is_temporal (get_or ks 0 0)
@@ -38,5 +39,5 @@ told_by Predicate.IsSignedInteger ks = is_signed_integer (get_or ks 0 0)
 told_by Predicate.IsUnsignedInteger ks = is_unsigned_integer (get_or ks 0 0)
 told_by Predicate.IsString ks = is_string (get_or ks 0 0)
 told_by Predicate.IsUnknown ks = is_unknown (get_or ks 0 0)
-told_by Predicate.ContainsUnknown ks = any_of is_unknown ks
-told_by Predicate.ContainsListRecursive ks = any_of is_list_kind ks
+told_by Predicate.ContainsUnknown ks = list_any is_unknown ks
+told_by Predicate.ContainsListRecursive ks = list_any is_list_kind ks

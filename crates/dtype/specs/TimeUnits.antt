@@ -1,9 +1,9 @@
 -- `get_time_units` of utils/mod.rs. Assumes nothing: these are definitions.
-use Rattle.std.specs.Prelude.{Bool, cond, ◌&&◌, eqb}
+use Rattle.std.specs.Prelude.{Bool, cond, ◌&&◌, eqb, Result, Ok, Err}
+use Rattle.flat.specs.declared.error.Error.{Error}
 use Rattle.dtype.specs.TimeUnit.{unit_number}
 use Rattle.dtype.specs.declared.time_unit.TimeUnit.{TimeUnit}
 use Rattle.dtype.specs.declared.time_unit.TimeUnit.TheVariants.{Nanoseconds, Microseconds, Milliseconds}
-use Rattle.dtype.specs.declared.time_unit.Unit.{Unit}
 
 -- the source's pattern of one unit
 abbrev pub is_unit : TimeUnit → TimeUnit → Bool
@@ -17,7 +17,7 @@ get_time_units l r =
     l)
 
 -- the coarser of two units, where both are units; the left is looked at first
-abbrev pub coarser_of : Unit → Unit → Unit
-coarser_of (Unit.Refused e) right = Unit.Refused e
-coarser_of (Unit.Of l) (Unit.Refused e) = Unit.Refused e
-coarser_of (Unit.Of l) (Unit.Of r) = Unit.Of (get_time_units l r)
+abbrev pub coarser_of : Result TimeUnit Error → Result TimeUnit Error → Result TimeUnit Error
+coarser_of (Err e) right = Err e
+coarser_of (Ok l) (Err e) = Err e
+coarser_of (Ok l) (Ok r) = Ok (get_time_units l r)

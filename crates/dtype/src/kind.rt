@@ -6,108 +6,79 @@ ghost use Rattle.dtype.specs.Predicate.{is_unknown};
 
 use flat::kind::Kind;
 
+#[tactic(auto, unfolding(crate::specs::Match::among, crate::specs::Predicate::is_temporal))]
 pub fn is_temporal(kind: u8) -> bool
     ensures { result ≡ is_temporal kind }
 {
-    match kind {
-        Kind::DATE..=Kind::TIME => true,
-        _ => false,
-    }
+    matches!(kind, Kind::DATE..=Kind::TIME)
 }
 
+#[tactic(auto, unfolding(crate::specs::Match::among, crate::specs::Predicate::is_float))]
 pub fn is_float(kind: u8) -> bool
     ensures { result ≡ is_float kind }
 {
-    match kind {
-        Kind::FLOAT16..=Kind::FLOAT64 => true,
-        Kind::UNKNOWN_FLOAT => true,
-        _ => false,
-    }
+    matches!(kind, Kind::FLOAT16..=Kind::FLOAT64 | Kind::UNKNOWN_FLOAT)
 }
 
 // `Unknown(Int(_))`, of either sign.
+#[tactic(auto, unfolding(crate::specs::Match::among, crate::specs::Predicate::is_unknown_int))]
 pub fn is_unknown_int(kind: u8) -> bool
     ensures { result ≡ is_unknown_int kind }
 {
-    match kind {
-        Kind::UNKNOWN_INT_POS..=Kind::UNKNOWN_INT_NEG => true,
-        _ => false,
-    }
+    matches!(kind, Kind::UNKNOWN_INT_POS..=Kind::UNKNOWN_INT_NEG)
 }
 
+#[tactic(auto, unfolding(crate::specs::Match::among, crate::specs::Predicate::is_signed_integer))]
 pub fn is_signed_integer(kind: u8) -> bool
     ensures { result ≡ is_signed_integer kind }
 {
-    match kind {
-        Kind::INT8..=Kind::INT128 => true,
-        _ => false,
-    }
+    matches!(kind, Kind::INT8..=Kind::INT128)
 }
 
+#[tactic(auto, unfolding(crate::specs::Match::among, crate::specs::Predicate::is_unsigned_integer))]
 pub fn is_unsigned_integer(kind: u8) -> bool
     ensures { result ≡ is_unsigned_integer kind }
 {
-    match kind {
-        Kind::UINT8..=Kind::UINT128 => true,
-        _ => false,
-    }
+    matches!(kind, Kind::UINT8..=Kind::UINT128)
 }
 
 pub fn is_integer(kind: u8) -> bool
     ensures { result ≡ is_integer kind }
 {
-    match kind {
-        Kind::UINT8..=Kind::INT128 => true,
-        Kind::UNKNOWN_INT_POS..=Kind::UNKNOWN_INT_NEG => true,
-        _ => false,
-    }
+    matches!(kind, Kind::UINT8..=Kind::INT128 | Kind::UNKNOWN_INT_POS..=Kind::UNKNOWN_INT_NEG)
 }
 
 pub fn is_primitive_numeric(kind: u8) -> bool
     ensures { result ≡ is_primitive_numeric kind }
 {
-    match kind {
-        Kind::UINT8..=Kind::FLOAT64 => true,
-        Kind::UNKNOWN_FLOAT..=Kind::UNKNOWN_INT_NEG => true,
-        _ => false,
-    }
+    matches!(kind, Kind::UINT8..=Kind::FLOAT64 | Kind::UNKNOWN_FLOAT..=Kind::UNKNOWN_INT_NEG)
 }
 
 pub fn is_primitive(kind: u8) -> bool
     ensures { result ≡ is_primitive kind }
 {
-    match kind {
-        Kind::BOOLEAN..=Kind::FLOAT64 => true,
-        Kind::STRING..=Kind::BINARY => true,
-        Kind::UNKNOWN_FLOAT..=Kind::UNKNOWN_INT_NEG => true,
-        _ => false,
-    }
+    matches!(
+        kind,
+        Kind::BOOLEAN..=Kind::FLOAT64 | Kind::STRING..=Kind::BINARY | Kind::UNKNOWN_FLOAT..=Kind::UNKNOWN_INT_NEG
+    )
 }
 
+#[tactic(auto, unfolding(crate::specs::Match::among, crate::specs::Predicate::is_nested))]
 pub fn is_nested(kind: u8) -> bool
     ensures { result ≡ is_nested kind }
 {
-    match kind {
-        Kind::LIST..=Kind::STRUCT => true,
-        _ => false,
-    }
+    matches!(kind, Kind::LIST..=Kind::STRUCT)
 }
 
+#[tactic(auto, unfolding(crate::specs::Match::among, crate::specs::Predicate::is_string))]
 pub fn is_string(kind: u8) -> bool
     ensures { result ≡ is_string kind }
 {
-    match kind {
-        Kind::STRING => true,
-        Kind::UNKNOWN_STR => true,
-        _ => false,
-    }
+    matches!(kind, Kind::STRING | Kind::UNKNOWN_STR)
 }
 
 pub fn is_unknown(kind: u8) -> bool
     ensures { result ≡ is_unknown kind }
 {
-    match kind {
-        Kind::UNKNOWN_ANY..=Kind::UNKNOWN_INT_NEG => true,
-        _ => false,
-    }
+    matches!(kind, Kind::UNKNOWN_ANY..=Kind::UNKNOWN_INT_NEG)
 }

@@ -1,9 +1,8 @@
-// src/datatypes of the crate: the predicates of a flat type (dtype.rs), units of time, and what every rule of dtype.rs
-// rests on. Equality, inner types, casts and the types that are built anew have a crate each (dtype_…), so that a proof
-// stays quick to check.
+// src/datatypes of the crate: the fourteen predicates of a flat type (dtype.rs), each under the source's name, units of
+// time, and what every rule of dtype.rs rests on. Equality, inner types, casts and the types that are built anew have a
+// crate each (dtype_…), so that a proof stays quick to check.
 #![tactic(auto)]
 
-pub mod answer;
 pub mod kind;
 pub mod node;
 pub mod predicate;
@@ -20,112 +19,109 @@ ghost use Rattle.dtype.specs.Recursive.{is_known, is_logical, contains_list_recu
 ghost use Rattle.dtype.specs.Predicates.{predicate_of};
 ghost use Rattle.dtype.specs.Answer.{answer_of};
 
-use answer::{Answer, yes_no};
-use flat::{Checked, Flat};
+use flat::Flat;
+use flat::error::Error;
 use predicate::{Predicate, told_by};
 
 // What a predicate says of two arrays.
-fn ask(p: Predicate, kinds: &[u8], args: &[u64]) -> Answer
+fn ask(p: Predicate, kinds: &[u8], args: &[u64]) -> Result<bool, Error>
     ensures { result ≡ answer_of (predicate_of p) (reading Flat.MAX_NODES Flat.MAX_DEPTH kinds.now args.now) }
 {
     // one plain leaf is told at once
-    if flat::is_plain(kinds, args) {
-        return yes_no(told_by(p, kinds));
+    if !flat::is_plain(kinds, args) {
+        flat::check(kinds, args)?;
     }
-    match flat::check(kinds, args) {
-        Checked::Valid => yes_no(told_by(p, kinds)),
-        Checked::Refused(e) => Answer::Refused(e),
-    }
+    Ok(told_by(p, kinds))
 }
 
 // Whether it is a List, an Array or a Struct.
-pub fn is_nested(kinds: &[u8], args: &[u64]) -> Answer
+pub fn is_nested(kinds: &[u8], args: &[u64]) -> Result<bool, Error>
     ensures { result ≡ answer_of (root is_nested) (reading Flat.MAX_NODES Flat.MAX_DEPTH kinds.now args.now) }
 {
     ask(Predicate::IsNested, kinds, args)
 }
 
 // Whether it is a primitive numeric type, Boolean, String or Binary.
-pub fn is_primitive(kinds: &[u8], args: &[u64]) -> Answer
+pub fn is_primitive(kinds: &[u8], args: &[u64]) -> Result<bool, Error>
     ensures { result ≡ answer_of (root is_primitive) (reading Flat.MAX_NODES Flat.MAX_DEPTH kinds.now args.now) }
 {
     ask(Predicate::IsPrimitive, kinds, args)
 }
 
 // Whether it is a float or an integer; a Decimal is neither.
-pub fn is_primitive_numeric(kinds: &[u8], args: &[u64]) -> Answer
+pub fn is_primitive_numeric(kinds: &[u8], args: &[u64]) -> Result<bool, Error>
     ensures { result ≡ answer_of (root is_primitive_numeric)
         (reading Flat.MAX_NODES Flat.MAX_DEPTH kinds.now args.now) }
 {
     ask(Predicate::IsPrimitiveNumeric, kinds, args)
 }
 
-pub fn is_temporal(kinds: &[u8], args: &[u64]) -> Answer
+pub fn is_temporal(kinds: &[u8], args: &[u64]) -> Result<bool, Error>
     ensures { result ≡ answer_of (root is_temporal) (reading Flat.MAX_NODES Flat.MAX_DEPTH kinds.now args.now) }
 {
     ask(Predicate::IsTemporal, kinds, args)
 }
 
 // `Unknown(Float)` is one.
-pub fn is_float(kinds: &[u8], args: &[u64]) -> Answer
+pub fn is_float(kinds: &[u8], args: &[u64]) -> Result<bool, Error>
     ensures { result ≡ answer_of (root is_float) (reading Flat.MAX_NODES Flat.MAX_DEPTH kinds.now args.now) }
 {
     ask(Predicate::IsFloat, kinds, args)
 }
 
 // `Unknown(Int(_))` is one.
-pub fn is_integer(kinds: &[u8], args: &[u64]) -> Answer
+pub fn is_integer(kinds: &[u8], args: &[u64]) -> Result<bool, Error>
     ensures { result ≡ answer_of (root is_integer) (reading Flat.MAX_NODES Flat.MAX_DEPTH kinds.now args.now) }
 {
     ask(Predicate::IsInteger, kinds, args)
 }
 
-pub fn is_signed_integer(kinds: &[u8], args: &[u64]) -> Answer
+pub fn is_signed_integer(kinds: &[u8], args: &[u64]) -> Result<bool, Error>
     ensures { result ≡ answer_of (root is_signed_integer) (reading Flat.MAX_NODES Flat.MAX_DEPTH kinds.now args.now) }
 {
     ask(Predicate::IsSignedInteger, kinds, args)
 }
 
-pub fn is_unsigned_integer(kinds: &[u8], args: &[u64]) -> Answer
+pub fn is_unsigned_integer(kinds: &[u8], args: &[u64]) -> Result<bool, Error>
     ensures { result ≡ answer_of (root is_unsigned_integer) (reading Flat.MAX_NODES Flat.MAX_DEPTH kinds.now args.now) }
 {
     ask(Predicate::IsUnsignedInteger, kinds, args)
 }
 
 // `Unknown(Str)` is one.
-pub fn is_string(kinds: &[u8], args: &[u64]) -> Answer
+pub fn is_string(kinds: &[u8], args: &[u64]) -> Result<bool, Error>
     ensures { result ≡ answer_of (root is_string) (reading Flat.MAX_NODES Flat.MAX_DEPTH kinds.now args.now) }
 {
     ask(Predicate::IsString, kinds, args)
 }
 
-pub fn is_unknown(kinds: &[u8], args: &[u64]) -> Answer
+pub fn is_unknown(kinds: &[u8], args: &[u64]) -> Result<bool, Error>
     ensures { result ≡ answer_of (root is_unknown) (reading Flat.MAX_NODES Flat.MAX_DEPTH kinds.now args.now) }
 {
     ask(Predicate::IsUnknown, kinds, args)
 }
 
 // Whether no type in it is unknown.
-pub fn is_known(kinds: &[u8], args: &[u64]) -> Answer
+pub fn is_known(kinds: &[u8], args: &[u64]) -> Result<bool, Error>
     ensures { result ≡ answer_of is_known (reading Flat.MAX_NODES Flat.MAX_DEPTH kinds.now args.now) }
 {
     ask(Predicate::IsKnown, kinds, args)
 }
 
-pub fn contains_unknown(kinds: &[u8], args: &[u64]) -> Answer
+pub fn contains_unknown(kinds: &[u8], args: &[u64]) -> Result<bool, Error>
     ensures { result ≡ answer_of contains_unknown (reading Flat.MAX_NODES Flat.MAX_DEPTH kinds.now args.now) }
 {
     ask(Predicate::ContainsUnknown, kinds, args)
 }
 
-pub fn contains_list_recursive(kinds: &[u8], args: &[u64]) -> Answer
+pub fn contains_list_recursive(kinds: &[u8], args: &[u64]) -> Result<bool, Error>
     ensures { result ≡ answer_of contains_list_recursive (reading Flat.MAX_NODES Flat.MAX_DEPTH kinds.now args.now) }
 {
     ask(Predicate::ContainsListRecursive, kinds, args)
 }
 
 // Whether it differs from its physical form.
-pub fn is_logical(kinds: &[u8], args: &[u64]) -> Answer
+pub fn is_logical(kinds: &[u8], args: &[u64]) -> Result<bool, Error>
     ensures { result ≡ answer_of is_logical (reading Flat.MAX_NODES Flat.MAX_DEPTH kinds.now args.now) }
 {
     ask(Predicate::IsLogical, kinds, args)

@@ -2,29 +2,13 @@
 ghost use Rattle.std.specs.Prelude.{◌≡◌};
 ghost use Rattle.dtype.specs.Equality.{equal_node};
 
-use flat::kind::Kind;
+use crate::kind::is_unknown_int;
+use flat::Node;
 
 // Whether two nodes are equal: `Unknown(Int(_))` are, whatever they hold.
-pub fn equal_node(k: u8, a: u64, l: u8, b: u64) -> bool
-    ensures { result ≡ equal_node k a l b }
+#[tactic(auto, unfolding(crate::specs::Equality::equal_node))]
+pub fn equal_node(l: Node, r: Node) -> bool
+    ensures { result ≡ equal_node l.kind l.arg r.kind r.arg }
 {
-    if k == l {
-        if a == b {
-            return true;
-        }
-        if k < Kind::UNKNOWN_INT_POS {
-            return false;
-        }
-        return k <= Kind::UNKNOWN_INT_NEG;
-    }
-    if k < Kind::UNKNOWN_INT_POS {
-        return false;
-    }
-    if k > Kind::UNKNOWN_INT_NEG {
-        return false;
-    }
-    if l < Kind::UNKNOWN_INT_POS {
-        return false;
-    }
-    l <= Kind::UNKNOWN_INT_NEG
+    l == r || (is_unknown_int(l.kind) && is_unknown_int(r.kind))
 }

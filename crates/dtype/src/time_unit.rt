@@ -1,32 +1,22 @@
 // Units of time, and their numbers in an argument.
 ghost use Rattle.std.specs.Prelude.{◌≡◌};
-ghost use Rattle.dtype.specs.TimeUnit.{unit_number, unit_of, to_ascii, unit_answer_number, unit_answer_value};
+ghost use Rattle.dtype.specs.TimeUnit.{unit_number, unit_of, to_ascii};
 
 use flat::error::Error;
+use flat::reply::Value;
 
-#[derive(Clone, Copy)]
+#[derive(Clone, Copy, Debug, PartialEq, Eq)]
 pub enum TimeUnit {
-    Nanoseconds,
-    Microseconds,
-    Milliseconds,
-}
-
-// What a number is as a unit: no other number than 0, 1 and 2 is one, which is refusal 3.
-#[derive(Clone, Copy)]
-pub enum Unit {
-    Of(TimeUnit),
-    Refused(Error),
+    Nanoseconds = 0,
+    Microseconds = 1,
+    Milliseconds = 2,
 }
 
 impl TimeUnit {
     pub fn number(self) -> u8
         ensures { result ≡ unit_number self }
     {
-        match self {
-            TimeUnit::Nanoseconds => 0,
-            TimeUnit::Microseconds => 1,
-            TimeUnit::Milliseconds => 2,
-        }
+        self as u8
     }
 
     // Its name in two bytes.
@@ -41,35 +31,28 @@ impl TimeUnit {
     }
 }
 
-impl Unit {
-    // Document 01's number.
-    pub fn number(self) -> u64
-        ensures { result ≡ unit_answer_number self }
-    {
-        match self {
-            Unit::Of(_) => 0,
-            Unit::Refused(e) => e.number(),
-        }
-    }
+// No other number than 0, 1 and 2 is a unit's, which is refusal 3.
+impl TryFrom<u8> for TimeUnit {
+    type Error = Error;
 
-    // The value beside the number.
-    pub fn value(self) -> u64
-        ensures { result ≡ unit_answer_value self }
-    {
-        match self {
-            Unit::Of(unit) => unit.number() as u64,
-            Unit::Refused(_) => 0,
+    ghost try_from_gives = { λ number unit. unit ≡ unit_of number };
+
+    #[tactic(auto, unfolding(crate::specs::TimeUnit::unit_of))]
+    fn try_from(number: u8) -> Result<TimeUnit, Error> {
+        match number {
+            0 => Ok(TimeUnit::Nanoseconds),
+            1 => Ok(TimeUnit::Microseconds),
+            2 => Ok(TimeUnit::Milliseconds),
+            _ => Err(Error::Argument),
         }
     }
 }
 
-pub fn unit_of(number: u8) -> Unit
-    ensures { result ≡ unit_of number }
-{
-    match number {
-        0 => Unit::Of(TimeUnit::Nanoseconds),
-        1 => Unit::Of(TimeUnit::Microseconds),
-        2 => Unit::Of(TimeUnit::Milliseconds),
-        _ => Unit::Refused(Error::Argument),
+// A unit by its number.
+impl Value for TimeUnit {
+    ghost value_of = { unit_number };
+
+    fn value(self) -> u64 {
+        self as u64
     }
 }

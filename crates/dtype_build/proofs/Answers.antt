@@ -9,15 +9,15 @@ use Rattle.flat.specs.Tree.{DataType, size, kinds_of, args_of}
 use Rattle.flat.specs.Walk.{Valid, type_at}
 use Rattle.flat.specs.Reading.{Reading, refused, type, reading}
 use Rattle.flat.specs.Output.{fitting, Writes}
-use Rattle.flat.specs.declared.Written.{Written}
+use Rattle.std.specs.Prelude.{Result, Err}
 use Rattle.flat.specs.declared.error.Error.{Error}
 use Rattle.flat.specs.declared.error.Error.TheVariants.{Unknown}
+use Rattle.flat.proofs.Truths.{handed_on}
 use Rattle.flat.proofs.Sizes.{length_kinds, length_args}
 use Rattle.flat.proofs.Meaning.{Passed}
 use Rattle.flat.proofs.Outputs.{writes_refused}
 use Rattle.dtype_build.specs.Build.{or_unknown, materialized, physical}
-use Rattle.dtype.specs.Physical.{physical_leaf}
-use Rattle.dtype_build.specs.Leaf.{materialized_leaf, map_leaves, has_any, BuiltType}
+use Rattle.dtype_build.specs.Leaf.{physical_in, materialized_in, leaf_with, map_leaves, has_any, BuiltType}
 use Rattle.dtype_build.proofs.Forms.{physical_is, known_is, none_if}
 
 -- ---- a refusal
@@ -31,9 +31,14 @@ materialized_refused allow h = rw h
 
 -- a refusal is given whatever room there is
 pub refusal : (k a : ℕ) {r : Reading} {e : Error} {K A : List ℕ} → r ≡ refused e →
-    Writes (fitting k a r) K A K A (Written.Refused e)
+    Writes (fitting k a r) K A K A (Err e)
 unfolding fitting
 refusal k a h = writes_refused (rw h)
+
+-- the same, of an answer that a `?` hands on
+pub handed_refusal : (k a : ℕ) {r : Reading} {e : Error} {K A : List ℕ} {w : Result ℕ Error} →
+    (y : Error) × (w ≡ Err y) × (y ≡ e) → r ≡ refused e → Writes (fitting k a r) K A K A w
+handed_refusal k a p h = rw (handed_on p) (refusal k a h)
 
 -- ---- a type
 
@@ -55,14 +60,14 @@ module _ (p : Whole) where
   reads : reading nodes deep ks xs ≡ type (type_at ks xs)
   reads = passed.reads ∙ ap type (sym passed.front)
 
-  pub physical_type : physical (reading nodes deep ks xs) ≡ type (map_leaves physical_leaf (type_at ks xs))
+  pub physical_type : physical (reading nodes deep ks xs) ≡ type (map_leaves (leaf_with physical_in) (type_at ks xs))
   unfolding physical
   physical_type = ap physical reads ∙ ap type (sym (physical_is (type_at ks xs)))
 
   -- b is the answer of any_refused
   module _ (allow : Bool) {b : Bool} (e : b ≡ (has_any ks && not allow)) where
     known : materialized allow (reading nodes deep ks xs) ≡
-        or_unknown (none_if b (map_leaves materialized_leaf (type_at ks xs)))
+        or_unknown (none_if b (map_leaves (leaf_with materialized_in) (type_at ks xs)))
     unfolding materialized
     known =
         let k : ks ≡ kinds_of (type_at ks xs) = passed.form.kinds ∙ ap kinds_of (sym passed.front) in
@@ -74,11 +79,11 @@ module _ (p : Whole) where
     known_none h = known ∙ rw h
 
     pub known_type : b ≡ false →
-        materialized allow (reading nodes deep ks xs) ≡ type (map_leaves materialized_leaf (type_at ks xs))
+        materialized allow (reading nodes deep ks xs) ≡ type (map_leaves (leaf_with materialized_in) (type_at ks xs))
     known_type h = known ∙ rw h
 
 -- what is written of a reading is written of one that is equal to it
-pub writes_as : (k a : ℕ) {r r' : Reading} {K A K' A' : List ℕ} {w : Written} → r ≡ r' →
+pub writes_as : (k a : ℕ) {r r' : Reading} {K A K' A' : List ℕ} {w : Result ℕ Error} → r ≡ r' →
     Writes (fitting k a r') K A K' A' w → Writes (fitting k a r) K A K' A' w
 writes_as k a e w = rw e w
 

@@ -9,37 +9,33 @@ use native.Mathlib.Nat.{zero-add, add-zero}
 use native.Mathlib.Numerals.{add-one}
 use lib.ListN.{length, get_or, set, take-append-drop}
 use Rattle.flat.specs.Kind
-use Rattle.flat.specs.Tree.{DataType, leaf, Fields, size, sizes, kinds_of, kinds_ofs, args_of, args_ofs, head_kind}
+use Rattle.flat.specs.Tree.{DataType, leaf, Fields, size, sizes, kinds_of, kinds_ofs, args_of, args_ofs}
 use Rattle.flat.specs.Walk.{Valid, ValidRun, type_at, run_at}
 use Rattle.flat.specs.Reading.{type}
 use Rattle.flat.specs.Output.{fitting, over, Writes}
-use Rattle.flat.specs.declared.Written.{Written}
+use Rattle.std.specs.Prelude.{Ok}
 use Rattle.flat.proofs.Truths.{over_one}
 use Rattle.flat.proofs.Sizes.{length_kinds, length_kindss, length_args}
 use Rattle.flat.proofs.Outputs.{writes_type, room}
 use Rattle.flat.proofs.Walks.{from, length_from, Unary, is_list, is_array, type_leaf, type_one, one_valid, one_nodes}
 use Rattle.flat.proofs.Walks.{type_struct, struct_valid, struct_nodes, struct_count, run_end}
 use Rattle.flat.proofs.Onward.{from_zero, next_valid, next_run, next_field, next_nodes}
-use Rattle.dtype_build.specs.Leaf.{leaf_of, map_leaves, map_fields, kept_arg, HasRoom, Built, BuiltType, BuiltFields}
-use Rattle.dtype_build.specs.declared.leaf.Form.{Form}
-use Rattle.dtype_build.proofs.Leaves.{leaf_is}
+use Rattle.dtype_build.specs.Leaf.{leaf_with, map_leaves, map_fields, HasRoom, Built, BuiltType, BuiltFields}
 use Rattle.dtype_build.proofs.Forms.{size_map, sizes_map, count_map}
-use Rattle.dtype_build.proofs.Writes.{after, back, to_be, over_length, after_length, back_length, next, over_front}
+use Rattle.dtype_build.proofs.Writes.{after, back, to_be, after_length, back_length, next, over_front}
 
 -- ---- a leaf, its kind and its argument stored
-pub leaf_stored : (form : Form) (k a : ℕ) {K A : List ℕ} → HasRoom 1 K A →
-    (y z : ℕ) → y ≡ head_kind (leaf_of form k a) → z ≡ kept_arg k y a →
-    BuiltType (leaf_of form k a) K A (set K 0 y) (set A 0 z) 1
+pub leaf_stored : {t : DataType} {K A : List ℕ} → HasRoom 1 K A → (y z : ℕ) → leaf y z ≡ t
+    → BuiltType t K A (set K 0 y) (set A 0 z) 1
 unfolding kinds_of args_of
-leaf_stored form k a {K} {A} o y z p q =
-    let e : leaf_of form k a ≡ leaf y z = leaf_is k a form ∙ rw (← p, ← q) in
-    rw e record { nodes = refl; kinds = over_one K (omega arith) y; args = over_one A (omega arith) z }
+leaf_stored {K = K} {A = A} o y z e =
+    rw (← e) (record { nodes = refl; kinds = over_one K (omega arith) y; args = over_one A (omega arith) z })
 
 -- ---- a type
 
 -- What a walk over a type is given: the type at the front of ks and xs, and K and A with room for it.
 pub record Task : Type 0 where
-  pub form : Form
+  pub kind_in : ℕ → ℕ → ℕ
   pub ks : List ℕ
   pub xs : List ℕ
   pub K : List ℕ
@@ -49,7 +45,7 @@ pub record Task : Type 0 where
 
 -- the type that is to be built
 abbrev pub result : Task → DataType
-result p = map_leaves (leaf_of p.form) (type_at p.ks p.xs)
+result p = map_leaves (leaf_with p.kind_in) (type_at p.ks p.xs)
 
 -- the parts of K and A after the node at the front, once that is stored
 abbrev pub kinds_after : Task → List ℕ
@@ -59,33 +55,21 @@ abbrev pub args_after : Task → List ℕ
 args_after p = after 0 (get_or p.xs 0 0) p.A
 
 module _ (p : Task) where
-  open p use {form, ks, xs, K, A, valid}
+  open p use {kind_in, ks, xs, K, A, valid}
 
   -- where the type is a leaf, the leaf is all of it
   pub leaf_built : get_or ks 0 0 < Kind.List → {K' A' : List ℕ} {r : ℕ} →
-      BuiltType (leaf_of form (get_or ks 0 0) (get_or xs 0 0)) K A K' A' r → BuiltType (result p) K A K' A' r
+      BuiltType (leaf_with kind_in (get_or ks 0 0) (get_or xs 0 0)) K A K' A' r → BuiltType (result p) K A K' A' r
   unfolding map_leaves
   leaf_built l w = rw (type_leaf ks xs valid l) w
 
   -- the answer is the type's own number of nodes
   built_size : {K₀ A₀ K' A' : List ℕ} {r : ℕ} → BuiltType (result p) K₀ A₀ K' A' r → r ≡ size (type_at ks xs)
-  built_size w = w.nodes ∙ length_kinds (result p) ∙ size_map form (type_at ks xs)
-
-  -- K and A are as long as they were
-  built_lengths : {K' A' : List ℕ} {r : ℕ} → BuiltType (result p) K A K' A' r →
-      (length K' ≡ length K) × (length A' ≡ length A)
-  built_lengths w =
-      let kinds = length_kinds (result p) in
-      let args = length_args (result p) in
-      let n = size_map form (type_at ks xs) in
-      let o = p.room in
-      let long_kinds = ap length w.kinds ∙ over_length (kinds_of (result p)) K (omega arith) in
-      let long_args = ap length w.args ∙ over_length (args_of (result p)) A (omega arith) in
-      (long_kinds, long_args)
+  built_size w = w.nodes ∙ length_kinds (result p) ∙ size_map kind_in (type_at ks xs)
 
   -- what was built was written
   pub built_writes : {K' A' : List ℕ} {r : ℕ} → BuiltType (result p) K A K' A' r →
-      Writes (fitting (length K) (length A) (type (result p))) K A K' A' (Written.Nodes r)
+      Writes (fitting (length K) (length A) (type (result p))) K A K' A' (Ok r)
   built_writes w =
       let fits = room (length K) (length A) (result p) (rw size_map p.room.kinds) (rw size_map p.room.args) in
       writes_type fits (w.nodes ∙ length_kinds (result p)) w.kinds w.args
@@ -93,11 +77,11 @@ module _ (p : Task) where
 -- ---- a node that is no leaf
 
 -- the kinds and the arguments that are built of fields
-abbrev pub kinds_built : Form → Fields → List ℕ
-kinds_built form fs = kinds_ofs (map_fields (leaf_of form) fs)
+abbrev pub kinds_built : (ℕ → ℕ → ℕ) → Fields → List ℕ
+kinds_built kind_in fs = kinds_ofs (map_fields (leaf_with kind_in) fs)
 
-abbrev pub args_built : Form → Fields → List ℕ
-args_built form fs = args_ofs (map_fields (leaf_of form) fs)
+abbrev pub args_built : (ℕ → ℕ → ℕ) → Fields → List ℕ
+args_built kind_in fs = args_ofs (map_fields (leaf_with kind_in) fs)
 
 -- A task whose node is no leaf, and what stands under that node: m nodes, which are built as the kinds P and the arguments
 -- Q. Below says, by the node's argument, that they stand there.
@@ -112,18 +96,18 @@ pub record Parent (Below : ℕ → List ℕ → List ℕ → Type 0) : Type 0 wh
   pub args : args_of (result task) ≡ get_or task.xs 0 0 ∷ Q
 
 module _ (p : Task) where
-  open p use {form, ks, xs, valid}
+  open p use {kind_in, ks, xs, valid}
 
   -- a Struct
   module _ (kind : get_or ks 0 0 ≡ Kind.Struct) where
     abbrev fields : Fields
     fields = run_at (get_or xs 0 0) (from 1 ks) (from 1 xs)
 
-    pub over_fields : (kinds_of (result p) ≡ get_or ks 0 0 ∷ kinds_built form fields) ×
-        (args_of (result p) ≡ get_or xs 0 0 ∷ args_built form fields)
+    pub over_fields : (kinds_of (result p) ≡ get_or ks 0 0 ∷ kinds_built kind_in fields) ×
+        (args_of (result p) ≡ get_or xs 0 0 ∷ args_built kind_in fields)
     unfolding kinds_of args_of map_leaves
     over_fields =
-        let c = count_map (leaf_of form) fields ∙ struct_count ks xs valid kind in
+        let c = count_map (leaf_with kind_in) fields ∙ struct_count ks xs valid kind in
         rw (type_struct ks xs valid kind, c, kind) (refl, refl)
 
     abbrev pub struct_parent : Parent ValidRun
@@ -132,8 +116,8 @@ module _ (p : Task) where
           task = p;
           below = struct_valid ks xs valid kind;
           m = sizes fields;
-          P = kinds_built form fields;
-          Q = args_built form fields;
+          P = kinds_built kind_in fields;
+          Q = args_built kind_in fields;
           nodes = struct_nodes ks xs valid kind;
           kinds = over_fields.0;
           args = over_fields.1;
@@ -144,14 +128,14 @@ module _ (p : Task) where
     abbrev inner : DataType
     inner = type_at (from 1 ks) (from 1 xs)
 
-    pub over_inner : (kinds_of (result p) ≡ get_or ks 0 0 ∷ kinds_of (map_leaves (leaf_of form) inner)) ×
-        (args_of (result p) ≡ get_or xs 0 0 ∷ args_of (map_leaves (leaf_of form) inner))
+    pub over_inner : (kinds_of (result p) ≡ get_or ks 0 0 ∷ kinds_of (map_leaves (leaf_with kind_in) inner)) ×
+        (args_of (result p) ≡ get_or xs 0 0 ∷ args_of (map_leaves (leaf_with kind_in) inner))
     unfolding kinds_of args_of map_leaves
     over_inner = let f = type_one ks xs valid nested other in rw f.2 (go f.1)
       where
         go : {k a : ℕ} {f : DataType → DataType} → Unary k a f →
-            (kinds_of (map_leaves (leaf_of form) (f inner)) ≡ k ∷ kinds_of (map_leaves (leaf_of form) inner)) ×
-            (args_of (map_leaves (leaf_of form) (f inner)) ≡ a ∷ args_of (map_leaves (leaf_of form) inner))
+            (kinds_of (map_leaves (leaf_with kind_in) (f inner)) ≡ k ∷ kinds_of (map_leaves (leaf_with kind_in) inner)) ×
+            (args_of (map_leaves (leaf_with kind_in) (f inner)) ≡ a ∷ args_of (map_leaves (leaf_with kind_in) inner))
         go is_list = (refl, refl)
         go is_array = (refl, refl)
 
@@ -161,8 +145,8 @@ module _ (p : Task) where
           task = p;
           below = one_valid ks xs valid nested other;
           m = size inner;
-          P = kinds_of (map_leaves (leaf_of form) inner);
-          Q = args_of (map_leaves (leaf_of form) inner);
+          P = kinds_of (map_leaves (leaf_with kind_in) inner);
+          Q = args_of (map_leaves (leaf_with kind_in) inner);
           nodes = one_nodes ks xs valid nested other;
           kinds = over_inner.0;
           args = over_inner.1;
@@ -203,10 +187,6 @@ module _ {Below : ℕ → List ℕ → List ℕ → Type 0} (b : Back Below) whe
   pub back_within : n + 1 ≤ length ks
   back_within = omega (arith, built_size parent.task back_built, valid)
 
-  -- K and A are as long as they were
-  pub back_lengths : (length (back 0 (get_or ks 0 0) K L) ≡ length K) × (length (back 0 (get_or xs 0 0) A M) ≡ length A)
-  back_lengths = built_lengths parent.task back_built
-
 -- ---- the fields of a Struct
 
 -- the m fields from a place on
@@ -216,19 +196,19 @@ run_from at m ks xs = run_at m (from at ks) (from at xs)
 -- The loop of a walk over m fields, at the place `at` with `left` of them left. The m fields over what the two arrays
 -- held at first, K₀ and A₀, come to those that are left, from this place on, over what the arrays hold now, K and A.
 -- What the walk was given stands here too, so that no answer goes back beyond the loop.
-pub record Along (form : Form) (m : ℕ) (ks xs K₀ A₀ : List ℕ) (at left : ℕ) (K A : List ℕ) : Type 0 where
+pub record Along (kind_in : ℕ → ℕ → ℕ) (m : ℕ) (ks xs K₀ A₀ : List ℕ) (at left : ℕ) (K A : List ℕ) : Type 0 where
   pub valid : ValidRun m ks xs
   pub room : HasRoom (sizes (run_at m ks xs)) K₀ A₀
   pub others : ValidRun left (from at ks) (from at xs)
   pub nodes : sizes (run_at m ks xs) ≡ at + sizes (run_from at left ks xs)
   pub long_kinds : length K ≡ length K₀
   pub long_args : length A ≡ length A₀
-  pub kinds : over (kinds_built form (run_at m ks xs)) K₀ ≡ to_be at (kinds_built form (run_from at left ks xs)) K
-  pub args : over (args_built form (run_at m ks xs)) A₀ ≡ to_be at (args_built form (run_from at left ks xs)) A
+  pub kinds : over (kinds_built kind_in (run_at m ks xs)) K₀ ≡ to_be at (kinds_built kind_in (run_from at left ks xs)) K
+  pub args : over (args_built kind_in (run_at m ks xs)) A₀ ≡ to_be at (args_built kind_in (run_from at left ks xs)) A
 
-pub start : {form : Form} {m : ℕ} {ks xs K A : List ℕ} → ValidRun m ks xs × HasRoom (sizes (run_at m ks xs)) K A →
-    Along form m ks xs K A 0 m K A
-start {form} {m} {ks} {xs} {K} {A} p =
+pub start : {kind_in : ℕ → ℕ → ℕ} {m : ℕ} {ks xs K A : List ℕ} → ValidRun m ks xs × HasRoom (sizes (run_at m ks xs)) K A →
+    Along kind_in m ks xs K A 0 m K A
+start {kind_in} {m} {ks} {xs} {K} {A} p =
     record {
       valid = p.0;
       room = p.1;
@@ -240,14 +220,14 @@ start {form} {m} {ks} {xs} {K} {A} p =
       args = rw (from_zero ks, from_zero xs);
     }
 
-module _ {form : Form} {m : ℕ} {ks xs K₀ A₀ : List ℕ} {at left : ℕ} {K A : List ℕ}
-    (a : Along form m ks xs K₀ A₀ at left K A) where
+module _ {kind_in : ℕ → ℕ → ℕ} {m : ℕ} {ks xs K₀ A₀ : List ℕ} {at left : ℕ} {K A : List ℕ}
+    (a : Along kind_in m ks xs K₀ A₀ at left K A) where
   -- no field is left
-  pub fields_built : left ≡ 0 → BuiltFields (map_fields (leaf_of form) (run_at m ks xs)) K₀ A₀ K A at
+  pub fields_built : left ≡ 0 → BuiltFields (map_fields (leaf_with kind_in) (run_at m ks xs)) K₀ A₀ K A at
   unfolding kinds_of args_of map_leaves size
   fields_built z =
       let e = run_end left (from at ks) (from at xs) z in
-      let n = length_kindss (map_fields (leaf_of form) (run_at m ks xs)) ∙ sizes_map form (run_at m ks xs) ∙ a.nodes in
+      let n = length_kindss (map_fields (leaf_with kind_in) (run_at m ks xs)) ∙ sizes_map kind_in (run_at m ks xs) ∙ a.nodes in
       record {
         nodes = sym (n ∙ rw e (add-zero at));
         kinds = sym (a.kinds ∙ rw e (take-append-drop at K));
@@ -271,7 +251,7 @@ module _ {form : Form} {m : ℕ} {ks xs K₀ A₀ : List ℕ} {at left : ℕ} {K
         let kinds = after_length at Kind.Field K in
         let args = after_length at (get_or xs at 0) A in
         record {
-          form = form;
+          kind_in = kind_in;
           ks = from (at + 1) ks;
           xs = from (at + 1) xs;
           K = after at Kind.Field K;
@@ -289,13 +269,13 @@ module _ {form : Form} {m : ℕ} {ks xs K₀ A₀ : List ℕ} {at left : ℕ} {K
 
     -- the type of the next field is built, and the two parts came back as L and M
     pub field_done : {L M : List ℕ} {n : ℕ} →
-        BuiltType (map_leaves (leaf_of form) type_next) (after at Kind.Field K) (after at (get_or xs at 0) A) L M n →
-        Along form m ks xs K₀ A₀ (at + 1 + n) (left - 1) (back at Kind.Field K L) (back at (get_or xs at 0) A M)
+        BuiltType (map_leaves (leaf_with kind_in) type_next) (after at Kind.Field K) (after at (get_or xs at 0) A) L M n →
+        Along kind_in m ks xs K₀ A₀ (at + 1 + n) (left - 1) (back at Kind.Field K L) (back at (get_or xs at 0) A M)
     unfolding kinds_of args_of map_leaves
     field_done {L} {M} {n} w =
         let t : DataType = result task_next in
         let e = built_size task_next w in
-        let q : n ≡ length (args_of t) = e ∙ sym (length_args t ∙ size_map form type_next) in
+        let q : n ≡ length (args_of t) = e ∙ sym (length_args t ∙ size_map kind_in type_next) in
         let f = next_field left at ks xs a.others more n e in
         let i = all_nodes n e in
         let g : Fields = run_from (at + 1 + n) (left - 1) ks xs in
@@ -308,10 +288,10 @@ module _ {form : Form} {m : ℕ} {ks xs K₀ A₀ : List ℕ} {at left : ℕ} {K
           long_args = back_length at (get_or xs at 0) (args_of t) A (omega arith) w.args (omega arith) ∙ a.long_args;
           kinds =
               a.kinds
-              ∙ ap (λ (h : Fields). to_be at (kinds_built form h) K) f
-              ∙ sym (next at Kind.Field (kinds_of t) K (omega arith) w.kinds (kinds_built form g) n w.nodes);
+              ∙ ap (λ (h : Fields). to_be at (kinds_built kind_in h) K) f
+              ∙ sym (next at Kind.Field (kinds_of t) K (omega arith) w.kinds (kinds_built kind_in g) n w.nodes);
           args =
               a.args
-              ∙ ap (λ (h : Fields). to_be at (args_built form h) A) f
-              ∙ sym (next at (get_or xs at 0) (args_of t) A (omega arith) w.args (args_built form g) n q);
+              ∙ ap (λ (h : Fields). to_be at (args_built kind_in h) A) f
+              ∙ sym (next at (get_or xs at 0) (args_of t) A (omega arith) w.args (args_built kind_in g) n q);
         }

@@ -9,7 +9,7 @@ use lib.Dec.{eqb}
 use borrow.Author.Tests.{eq-eqb, eqb-true, ne_eqb}
 use Rattle.flat.specs.Kind
 use Rattle.flat.specs.Argument.{argument_fits, argument_rule}
-use Rattle.flat.specs.Tree.{DataType, leaf, head_kind, size, depth}
+use Rattle.flat.specs.Tree.{DataType, leaf, head_kind}
 use Rattle.flat.specs.Reading.{Ruled}
 use Rattle.flat.specs.Walk.{with_default}
 use Rattle.flat.proofs.Rules.{passes}
@@ -19,9 +19,7 @@ use Rattle.supertype_numbers.specs.Integer.{holds}
 use Rattle.supertype_numbers.specs.DynInt.{value_of, materialize_dyn_int}
 use Rattle.dtype_build.specs.Materialize.{materialize}
 use Rattle.dtype.specs.Physical.{physical_leaf, physical_kind}
-use Rattle.dtype_build.specs.Leaf.{materialized_leaf, leaf_of, kept_arg}
-use Rattle.dtype_build.specs.declared.leaf.Form.{Form}
-use Rattle.dtype_build.specs.declared.leaf.Form.TheVariants.{Physical, Materialized}
+use Rattle.dtype_build.specs.Leaf.{materialized_leaf, physical_in, materialized_in, leaf_with, kept_arg}
 
 -- ---- the physical form
 pub physical_kind_lem : (k a : ℕ) → head_kind (physical_leaf k a) ≡ physical_kind k
@@ -93,38 +91,42 @@ module _ (k a : ℕ) where
       go true t =
           rw e (record { is = rw (ne_eqb new k (λ h. true≢false (sym t ∙ ap test (sym h) ∙ d.0))); ruled = λ r. d.1 })
 
-  a_leaf : (form : Form) → Leaf (leaf_of form k a)
-  unfolding physical_leaf materialized_leaf materialize is_unknown_int among Ruled argument_fits argument_rule
-  a_leaf Physical =
+  physical_is_leaf : Leaf (physical_leaf k a)
+  unfolding physical_leaf among Ruled argument_fits argument_rule
+  physical_is_leaf =
       if_kind (λ t. t) (λ j. eqb j Kind.Date) Kind.Int32 _ _ refl (refl, (omega arith, refl))
       (if_kind (λ t. t) (among (Kind.Datetime ∷ Kind.Duration ∷ Kind.Time ∷ [])) Kind.Int64 _ _ refl (refl, (omega arith, refl))
       (if_kind (λ t. t) (λ j. eqb j Kind.Decimal) Kind.Int128 _ _ refl (refl, (omega arith, refl))
       same))
-  a_leaf Materialized =
+
+  materialized_is_leaf : Leaf (materialized_leaf k a)
+  unfolding materialized_leaf materialize is_unknown_int among Ruled argument_fits argument_rule
+  materialized_is_leaf =
       if_kind (with_default (leaf k a)) is_unknown_int (materialize_dyn_int (value_of k a)) _ _ refl
       (dyn_each (Fresh is_unknown_int) (refl, (omega arith, refl)) (refl, (omega arith, refl)) (refl, (omega arith, refl)) (refl, (omega arith, refl)) (value_of k a))
       (if_kind (with_default (leaf k a)) (λ j. eqb j Kind.UnknownFloat) Kind.Float64 _ _ refl (refl, (omega arith, refl))
       (if_kind (with_default (leaf k a)) (λ j. eqb j Kind.UnknownStr) Kind.String _ _ refl (refl, (omega arith, refl))
       same))
 
-  pub leaf_is : (form : Form) → leaf_of form k a ≡ leaf (head_kind (leaf_of form k a)) (kept_arg k (head_kind (leaf_of form k a)) a)
-  leaf_is form = (a_leaf form).is
+-- the rules of the two forms
+pub physical_rule : physical_leaf ≡ leaf_with physical_in
+physical_rule = λ i k a. (
+    (physical_is_leaf k a).is ∙ ap (λ new. leaf new (kept_arg k new a)) (physical_kind_lem k a)) i
 
-  pub leaf_ruled : (form : Form) → Ruled (leaf k a) → Ruled (leaf_of form k a)
-  leaf_ruled form = (a_leaf form).ruled
+pub materialized_rule : materialized_leaf ≡ leaf_with materialized_in
+materialized_rule = λ i k a. (materialized_is_leaf k a).is i
 
-  pub leaf_size : (form : Form) → size (leaf_of form k a) ≡ 1
-  unfolding size
-  leaf_size form = ap size (leaf_is form)
+-- a leaf that keeps document 01's rules becomes one that does
+pub physical_ruled : (k a : ℕ) → Ruled (leaf k a) → Ruled (physical_leaf k a)
+physical_ruled k a = (physical_is_leaf k a).ruled
 
-  pub leaf_depth : (form : Form) → depth (leaf_of form k a) ≡ 0
-  unfolding depth
-  leaf_depth form = ap depth (leaf_is form)
+pub materialized_ruled : (k a : ℕ) → Ruled (leaf k a) → Ruled (materialized_leaf k a)
+materialized_ruled k a = (materialized_is_leaf k a).ruled
 
 -- the argument 0 stays, whatever becomes of the kind
-pub zero_is : (form : Form) (k : ℕ) → leaf_of form k 0 ≡ leaf (head_kind (leaf_of form k 0)) 0
+pub zero_is : (kind_in : ℕ → ℕ → ℕ) (k : ℕ) → leaf_with kind_in k 0 ≡ leaf (kind_in k 0) 0
 unfolding kept_arg
-zero_is form k = leaf_is k 0 form ∙ ap (leaf (head_kind (leaf_of form k 0))) (go (eqb (head_kind (leaf_of form k 0)) k))
+zero_is kind_in k = ap (leaf (kind_in k 0)) (go (eqb (kind_in k 0) k))
   where
     go : (b : Bool) → ◌≡◌ {A = ℕ} (cond b 0 0) 0
     go true = refl

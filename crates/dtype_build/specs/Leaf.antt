@@ -1,25 +1,27 @@
--- The types that are built anew differ from the old in their leaves alone: `map_leaves` of dtype.rs, and its two rules.
+-- The types that are built anew differ from the old in their leaves alone: `map_leaves` of dtype.rs, and the rule of
+-- each form, which for the physical one is `physical_leaf` and else `materialized_leaf` (proofs/Leaves.antt).
 -- Assumes nothing: these are definitions.
 use Rattle.std.specs.Prelude.{◌≡◌, Bool, cond, List, ℕ, ◌≤◌, eqb, length}
+use Rattle.std.specs.List.{list_any}
 use Rattle.flat.specs.Kind
-use Rattle.flat.specs.Tree.{DataType, leaf, list, array, struct, Fields, empty, field}
+use Rattle.flat.specs.Tree.{DataType, leaf, list, array, struct, Fields, empty, field, head_kind}
 use Rattle.flat.specs.Tree.{kinds_of, kinds_ofs, args_of, args_ofs}
 use Rattle.flat.specs.Walk.{with_default}
 use Rattle.flat.specs.Output.{over}
 use Rattle.dtype_build.specs.Materialize.{materialize}
-use Rattle.dtype.specs.Physical.{physical_leaf}
-use Rattle.dtype.specs.Scan.{between, any_of}
-use Rattle.dtype_build.specs.declared.leaf.Form.{Form}
-use Rattle.dtype_build.specs.declared.leaf.Form.TheVariants.{Physical, Materialized}
+use Rattle.flat.specs.Kind.{between}
+use Rattle.dtype.specs.Physical.{physical_kind}
 
 -- a leaf with its type known, where there is such a type; any stays
 unfoldable pub materialized_leaf : ℕ → ℕ → DataType
 materialized_leaf k a = with_default (leaf k a) (materialize k a)
 
--- the rule of a form
-abbrev pub leaf_of : Form → ℕ → ℕ → DataType
-leaf_of Physical = physical_leaf
-leaf_of Materialized = materialized_leaf
+-- the kind of a leaf in its physical form, and once its type is known
+abbrev pub physical_in : ℕ → ℕ → ℕ
+physical_in k a = physical_kind k
+
+abbrev pub materialized_in : ℕ → ℕ → ℕ
+materialized_in k a = head_kind (materialized_leaf k a)
 
 -- map_leaves: the rule at every leaf, and all else as it is
 unfoldable mutual
@@ -37,9 +39,13 @@ unfoldable mutual
 unfoldable pub kept_arg : ℕ → ℕ → ℕ → ℕ
 kept_arg k new a = cond (eqb new k) a 0
 
+-- the rule of a form that is told by the kind that each leaf has in it
+abbrev pub leaf_with : (ℕ → ℕ → ℕ) → ℕ → ℕ → DataType
+leaf_with kind_in k a = leaf (kind_in k a) (kept_arg k (kind_in k a) a)
+
 -- any stands among the kinds
 abbrev pub has_any : List ℕ → Bool
-has_any = any_of (between Kind.UnknownAny Kind.UnknownAny)
+has_any = list_any (between Kind.UnknownAny Kind.UnknownAny)
 
 -- n nodes have room in both arrays
 pub record HasRoom (n : ℕ) (K A : List ℕ) : Type 0 where

@@ -1,71 +1,88 @@
 // What becomes of a leaf in each form that a type is built in.
-ghost use Rattle.std.specs.Prelude.{◌≡◌};
-ghost use Rattle.flat.specs.Tree.{head_kind};
+ghost use Rattle.std.specs.Prelude.{◌≡◌, ℕ};
+ghost use Rattle.flat.specs.Tree.{leaf, head_kind};
 ghost use Rattle.dtype.specs.Physical.{physical_kind};
-ghost use Rattle.dtype_build.specs.Leaf.{materialized_leaf, leaf_of, kept_arg, HasRoom, BuiltType};
+ghost use Rattle.dtype_build.specs.Leaf.{materialized_leaf, physical_in, materialized_in, leaf_with};
+ghost use Rattle.dtype_build.specs.Leaf.{HasRoom, BuiltType};
 
+use flat::Node;
 use flat::kind::Kind;
 use supertype_numbers::dyn_int::materialize_dyn_int;
 
-// The form that a type is built in: the answer of `to_physical`, or that of `materialize_unknown`.
-#[derive(Clone, Copy)]
-pub enum Form {
-    Physical,
-    Materialized,
+// A form that a type is built in, told by the kind that each leaf has in it.
+pub trait Form {
+    ghost kind_in: { ℕ → ℕ → ℕ };
+
+    fn kind(leaf: Node) -> u8
+        ensures { result ≡ kind_in leaf.kind leaf.arg };
+}
+
+// The form that `to_physical` builds.
+pub struct Physical {}
+
+impl Form for Physical {
+    ghost kind_in = { physical_in };
+
+    fn kind(leaf: Node) -> u8 {
+        physical_kind(leaf.kind)
+    }
+}
+
+// The form that `materialize_unknown` builds.
+pub struct Materialized {}
+
+impl Form for Materialized {
+    ghost kind_in = { materialized_in };
+
+    fn kind(leaf: Node) -> u8 {
+        materialized_kind(leaf)
+    }
 }
 
 // The kind of a leaf in its physical form.
-fn physical_kind(k: u8) -> u8
-    ensures { result ≡ physical_kind k }
+fn physical_kind(kind: u8) -> u8
+    ensures { result ≡ physical_kind kind }
 {
-    match k {
+    match kind {
         Kind::DECIMAL => Kind::INT128,
         Kind::DATE => Kind::INT32,
         Kind::DATETIME..=Kind::TIME => Kind::INT64,
-        _ => k,
+        _ => kind,
     }
 }
 
 // The kind of a leaf once its type is known: of an unknown type that is known, and else its own.
-fn materialized_kind(k: u8, a: u64) -> u8
-    ensures { result ≡ head_kind (materialized_leaf k a) }
+fn materialized_kind(leaf: Node) -> u8
+    ensures { result ≡ head_kind (materialized_leaf leaf.kind leaf.arg) }
 {
-    match k {
+    match leaf.kind {
         Kind::UNKNOWN_STR => Kind::STRING,
         Kind::UNKNOWN_FLOAT => Kind::FLOAT64,
-        Kind::UNKNOWN_INT_POS..=Kind::UNKNOWN_INT_NEG => materialize_dyn_int(k, a),
-        _ => k,
+        Kind::UNKNOWN_INT_POS..=Kind::UNKNOWN_INT_NEG => materialize_dyn_int(leaf),
+        _ => leaf.kind,
     }
 }
 
-// The kind of a leaf in the given form.
-pub fn kind_form(form: Form, k: u8, a: u64) -> u8
-    ensures { result ≡ head_kind (leaf_of form k a) }
+// A leaf in the form F: one that keeps its kind keeps its argument, and any other has 0.
+#[tactic(auto, unfolding(crate::specs::Leaf::kept_arg))]
+fn leaf_in<F: Form>(old: Node) -> Node
+    ensures { leaf result.kind result.arg ≡ leaf_with F.kind_in old.kind old.arg }
 {
-    match form {
-        Form::Physical => physical_kind(k),
-        Form::Materialized => materialized_kind(k, a),
-    }
+    let kind = F::kind(old);
+    let arg = if kind == old.kind { old.arg } else { 0 };
+    Node { kind, arg }
 }
 
-// The argument of a leaf of the kind k and the argument a, once its kind is new: one that keeps its kind keeps it, and
-// any other has 0.
-fn argument_form(k: u8, new: u8, a: u64) -> u64
-    ensures { result ≡ kept_arg k new a }
-{
-    if new == k { a } else { 0 }
-}
-
-// Writes a leaf in the given form to the front of out_kinds and out_args.
-pub fn leaf_form(form: Form, k: u8, a: u64, out_kinds: &mut [u8], out_args: &mut [u64])
+// Writes a leaf in the form F to the front of out_kinds and out_args.
+pub fn put_leaf<F: Form>(old: Node, out_kinds: &mut [u8], out_args: &mut [u64])
     requires { HasRoom 1 out_kinds.old out_args.old }
     ensures { let K = out_kinds.old in
         let A = out_args.old in
         let K' = out_kinds.new in
         let A' = out_args.new in
-        BuiltType (leaf_of form k a) K A K' A' 1 }
+        BuiltType (leaf_with F.kind_in old.kind old.arg) K A K' A' 1 }
 {
-    let new = kind_form(form, k, a);
-    out_kinds[0] = new;
-    out_args[0] = argument_form(k, new, a);
+    let new = leaf_in::<F>(old);
+    out_kinds[0] = new.kind;
+    out_args[0] = new.arg;
 }

@@ -10,53 +10,49 @@ ghost use Rattle.flat.specs.Walk.{Valid, type_at};
 ghost use Rattle.flat.specs.Reading.{type, reading};
 ghost use Rattle.flat.specs.Output.{fitting, Writes};
 ghost use Rattle.dtype_build.specs.Build.{materialized, physical};
-ghost use Rattle.dtype_build.specs.Leaf.{leaf_of, map_leaves, has_any};
+ghost use Rattle.dtype_build.specs.Leaf.{leaf_with, map_leaves, has_any};
 
 use dtype::scan;
 use flat::error::Error;
 use flat::kind::Kind;
-use flat::{Checked, Flat, Written};
-use leaf::Form;
+use flat::{Flat, Node};
+use leaf::{Form, Materialized, Physical};
 
-// Builds a type that was checked, in the given form, at the front of out_kinds and out_args: refusal 8 alone.
-fn build(
-    form: Form,
+// Builds a type that was checked, in the form F, at the front of out_kinds and out_args: refusal 8 alone.
+fn build<F: Form>(
     kinds: &[u8],
     args: &[u64],
     out_kinds: &mut [u8],
     out_args: &mut [u64],
-) -> Written
+) -> Result<usize, Error>
     requires { Valid kinds.now args.now × (size (type_at kinds.now args.now) ≡ length kinds.now) }
-    ensures { let built = map_leaves (leaf_of form) (type_at kinds.now args.now) in
+    ensures { let built = map_leaves (leaf_with F.kind_in) (type_at kinds.now args.now) in
         let K = out_kinds.old in
         let A = out_args.old in
         let K' = out_kinds.new in
         let A' = out_args.new in
         Writes (fitting (length K) (length A) (type built)) K A K' A' result }
 {
-    if out_kinds.len() < kinds.len() {
-        return Written::Refused(Error::OutputTooShort);
-    }
-    if out_args.len() < kinds.len() {
-        return Written::Refused(Error::OutputTooShort);
+    if out_kinds.len() < kinds.len() || out_args.len() < kinds.len() {
+        return Err(Error::OutputTooShort);
     }
     // a leaf needs no walk
     if kinds[0] < Kind::LIST {
-        leaf::leaf_form(form, kinds[0], args[0], out_kinds, out_args);
-        return Written::Nodes(1);
+        let old = Node {
+            kind: kinds[0],
+            arg: args[0],
+        };
+        leaf::put_leaf::<F>(old, out_kinds, out_args);
+        return Ok(1);
     }
-    let n = walk::node_form(form, kinds, args, out_kinds, out_args);
-    Written::Nodes(n)
+    Ok(walk::node_form::<F>(kinds, args, out_kinds, out_args))
 }
 
 // Whether the unknown type any stands in a type and is not allowed.
 pub fn any_refused(kinds: &[u8], allow_unknown: bool) -> bool
     ensures { result ≡ (has_any kinds.now && not allow_unknown) }
 {
-    if allow_unknown {
-        return false;
-    }
-    scan::any_between(kinds, Kind::UNKNOWN_ANY, Kind::UNKNOWN_ANY)
+    !allow_unknown && scan::any_between(kinds, Kind::UNKNOWN_ANY, Kind::UNKNOWN_ANY)
 }
 
 // Writes the type with each unknown type made known to the front of out_kinds and out_args: refusals 1 to 5, 7, then 8.
@@ -66,7 +62,7 @@ pub fn materialize_unknown(
     allow_unknown: bool,
     out_kinds: &mut [u8],
     out_args: &mut [u64],
-) -> Written
+) -> Result<usize, Error>
     ensures { let known = materialized allow_unknown (reading Flat.MAX_NODES Flat.MAX_DEPTH kinds.now args.now) in
         let K = out_kinds.old in
         let A = out_args.old in
@@ -74,15 +70,11 @@ pub fn materialize_unknown(
         let A' = out_args.new in
         Writes (fitting (length K) (length A) known) K A K' A' result }
 {
-    match flat::check(kinds, args) {
-        Checked::Refused(e) => Written::Refused(e),
-        Checked::Valid => {
-            if any_refused(kinds, allow_unknown) {
-                return Written::Refused(Error::Unknown);
-            }
-            build(Form::Materialized, kinds, args, out_kinds, out_args)
-        }
+    flat::check(kinds, args)?;
+    if any_refused(kinds, allow_unknown) {
+        return Err(Error::Unknown);
     }
+    build::<Materialized>(kinds, args, out_kinds, out_args)
 }
 
 // Writes the type's physical form to the front of out_kinds and out_args: refusals 1 to 5, then 8.
@@ -91,7 +83,7 @@ pub fn to_physical(
     args: &[u64],
     out_kinds: &mut [u8],
     out_args: &mut [u64],
-) -> Written
+) -> Result<usize, Error>
     ensures { let form = physical (reading Flat.MAX_NODES Flat.MAX_DEPTH kinds.now args.now) in
         let K = out_kinds.old in
         let A = out_args.old in
@@ -99,8 +91,6 @@ pub fn to_physical(
         let A' = out_args.new in
         Writes (fitting (length K) (length A) form) K A K' A' result }
 {
-    match flat::check(kinds, args) {
-        Checked::Refused(e) => Written::Refused(e),
-        Checked::Valid => build(Form::Physical, kinds, args, out_kinds, out_args),
-    }
+    flat::check(kinds, args)?;
+    build::<Physical>(kinds, args, out_kinds, out_args)
 }

@@ -2,7 +2,7 @@
 -- their arms too, so that the arms need no test of equality. Assumes nothing.
 use mathlib.Core.Path.{◌≡◌, refl, sym, ap}
 use mathlib.Core.Bool.{Bool, true, false, cond, ◌&&◌, and-false}
-use mathlib.Core.Option.{Option, none, some}
+use Rattle.std.specs.Prelude.{Option, None, Some}
 use Prim.Native.Nat.{ℕ, suc, ◌≤◌}
 use native.Mathlib.Omega.{arith}
 use lib.Dec.{eqb}
@@ -15,12 +15,10 @@ use Rattle.dtype.specs.Match.{among, if_list, if_array, if_struct, is_empty}
 use Rattle.dtype.specs.Predicate.{is_unknown_int, is_primitive_numeric, is_float, is_integer, is_signed_integer, is_unsigned_integer}
 use Rattle.dtype.specs.Equality.{equal_node, equal, equal_fields}
 use Rattle.dtype_cast.specs.Cast.{casts_with_boolean, before_nested, can_cast_to, fields_cast}
-use Rattle.dtype_cast.specs.Walk.{equal_leaves, early_of, decided}
-use Rattle.dtype_cast.specs.declared.roots.Early.{Early}
-use Rattle.dtype_cast.specs.declared.roots.Early.TheVariants.{Yes, No, Open}
+use Rattle.dtype_cast.specs.Walk.{equal_leaves, early_of}
 
 -- ---- equal types cast
-pub cast_equal : (t u : DataType) → equal t u ≡ true → can_cast_to t u ≡ some true
+pub cast_equal : (t u : DataType) → equal t u ≡ true → can_cast_to t u ≡ Some true
 unfolding can_cast_to before_nested
 cast_equal (leaf k a) u e = rw e
 cast_equal (list t) u e = rw e
@@ -28,7 +26,7 @@ cast_equal (array w t) u e = rw e
 cast_equal (struct fs) u e = rw e
 
 -- equal fields cast, and are as many
-fields_equal : (fs gs : Fields) → equal_fields fs gs ≡ true → (count fs ≡ count gs) × (fields_cast fs gs ≡ some true)
+fields_equal : (fs gs : Fields) → equal_fields fs gs ≡ true → (count fs ≡ count gs) × (fields_cast fs gs ≡ Some true)
 unfolding equal can_cast_to count
 fields_equal empty empty e = (refl, refl)
 fields_equal empty (field other u gs) e = never e
@@ -40,39 +38,36 @@ fields_equal (field name t fs) (field other u gs) e =
 
 -- ---- the arms of nested types
 abbrev pub cast_arms : DataType → DataType → Option Bool
-cast_arms (leaf k a) to = none
-cast_arms (list t) to = if_list none (can_cast_to t) to
-cast_arms (array w t) to = if_array none (λ v u. cond (eqb w v) (can_cast_to t u) (some false)) to
+cast_arms (leaf k a) to = None
+cast_arms (list t) to = if_list None (can_cast_to t) to
+cast_arms (array w t) to = if_array None (λ v u. cond (eqb w v) (can_cast_to t u) (Some false)) to
 cast_arms (struct fs) to =
-    if_struct none
-    (λ gs. cond (is_empty fs) (some true) (cond (eqb (count fs) (count gs)) (fields_cast fs gs) (some false))) to
+    if_struct None
+    (λ gs. cond (is_empty fs) (Some true) (cond (eqb (count fs) (count gs)) (fields_cast fs gs) (Some false))) to
 
 -- the roots decide, or leave it open
-abbrev pub early_or : Early → Option Bool → Option Bool
-early_or Yes rest = some true
-early_or No rest = some false
-early_or Open rest = rest
+abbrev pub early_or : Option Bool → Option Bool → Option Bool
+early_or (Some b) rest = Some b
+early_or None rest = rest
 
 -- the source's order of tests is that of the roots
 in_order : (e n z f o c d : Bool) (rest : Option Bool)
-    → cond e (some true) (cond n (some true) (cond z (some true) (cond f (some c) (cond o (some d) rest))))
-    ≡ early_or (cond e Yes (cond n Yes (cond z Yes (cond f (decided c) (cond o (decided d) Open))))) rest
+    → cond e (Some true) (cond n (Some true) (cond z (Some true) (cond f (Some c) (cond o (Some d) rest))))
+    ≡ early_or (cond e (Some true) (cond n (Some true) (cond z (Some true) (cond f (Some c) (cond o (Some d) None))))) rest
 in_order true n z f o c d rest = refl
 in_order false true z f o c d rest = refl
 in_order false false true f o c d rest = refl
-in_order false false false true o true d rest = refl
-in_order false false false true o false d rest = refl
-in_order false false false false true c true rest = refl
-in_order false false false false true c false rest = refl
+in_order false false false true o c d rest = refl
+in_order false false false false true c d rest = refl
 in_order false false false false false c d rest = refl
 
 -- a test whose yes is the rest's answer too
-pub no_test : (b : Bool) (rest : Option Bool) → (b ≡ true → rest ≡ some true) → cond b (some true) rest ≡ rest
+pub no_test : (b : Bool) (rest : Option Bool) → (b ≡ true → rest ≡ Some true) → cond b (Some true) rest ≡ rest
 no_test true rest h = sym (h refl)
 no_test false rest h = refl
 
 -- a nested type to a leaf: only Boolean decides
-to_leaf : (b : Bool) → cond b (some false) none ≡ early_or (cond b No Open) none
+to_leaf : (b : Bool) → cond b (Some false) None ≡ early_or (cond b (Some false) None) None
 to_leaf true = refl
 to_leaf false = refl
 
@@ -93,24 +88,24 @@ leaf_equal k a h (array v u) = rw (le-leb k Kind.UnknownIntNeg h, and-false, ne_
 leaf_equal k a h (struct gs) = rw (le-leb k Kind.UnknownIntNeg h, and-false, ne_eqb k Kind.Struct (omega arith))
 
 leaf_first : (k a : ℕ) → k ≤ Kind.UnknownIntNeg → (u : DataType)
-    → can_cast_to (leaf k a) u ≡ early_or (early_of k a (head_kind u) (head_arg u)) none
+    → can_cast_to (leaf k a) u ≡ early_or (early_of k a (head_kind u) (head_arg u)) None
 unfolding can_cast_to before_nested early_of head_kind
 leaf_first k a h u =
     rw (sym (leaf_equal k a h u))
     (in_order (equal (leaf k a) u) (is_primitive_numeric k && is_primitive_numeric (head_kind u)) (eqb k Kind.Null)
-    (eqb k Kind.Boolean) (eqb (head_kind u) Kind.Boolean) (casts_with_boolean (head_kind u)) (casts_with_boolean k) none)
+    (eqb k Kind.Boolean) (eqb (head_kind u) Kind.Boolean) (casts_with_boolean (head_kind u)) (casts_with_boolean k) None)
 
 -- Arrays and Structs that are equal have yes from their arms; Lists by `cast_equal`.
 arrays_equal : (w v : ℕ) (t u : DataType) → (eqb w v && equal t u) ≡ true
-    → cond (eqb w v) (can_cast_to t u) (some false) ≡ some true
+    → cond (eqb w v) (can_cast_to t u) (Some false) ≡ Some true
 arrays_equal w v t u e = let s = both_true (eqb w v) (equal t u) e in rw s.0 (cast_equal t u s.1)
 
 structs_equal : (fs gs : Fields) → equal_fields fs gs ≡ true
-    → cond (is_empty fs) (some true) (cond (eqb (count fs) (count gs)) (fields_cast fs gs) (some false)) ≡ some true
+    → cond (is_empty fs) (Some true) (cond (eqb (count fs) (count gs)) (fields_cast fs gs) (Some false)) ≡ Some true
 structs_equal fs gs e = let s = fields_equal fs gs e in go (is_empty fs) (eq-eqb (count fs) (count gs) s.0) s.1
   where
-    go : (b : Bool) → eqb (count fs) (count gs) ≡ true → fields_cast fs gs ≡ some true
-        → cond b (some true) (cond (eqb (count fs) (count gs)) (fields_cast fs gs) (some false)) ≡ some true
+    go : (b : Bool) → eqb (count fs) (count gs) ≡ true → fields_cast fs gs ≡ Some true
+        → cond b (Some true) (cond (eqb (count fs) (count gs)) (fields_cast fs gs) (Some false)) ≡ Some true
     go true p q = refl
     go false p q = rw p q
 
@@ -138,7 +133,7 @@ module _ (t u : DataType) where
   unfolding early_of equal_leaves head_kind casts_with_boolean is_primitive_numeric is_float is_integer is_signed_integer is_unsigned_integer is_unknown_int among
   lists_arm = roots_first (list t) (list u) tt
 
-  pub arrays_arm : (w v : ℕ) → can_cast_to (array w t) (array v u) ≡ cond (eqb w v) (can_cast_to t u) (some false)
+  pub arrays_arm : (w v : ℕ) → can_cast_to (array w t) (array v u) ≡ cond (eqb w v) (can_cast_to t u) (Some false)
   unfolding early_of equal_leaves head_kind casts_with_boolean is_primitive_numeric is_float is_integer is_signed_integer is_unsigned_integer is_unknown_int among
   arrays_arm w v = roots_first (array w t) (array v u) tt
 
@@ -146,12 +141,12 @@ pub structs_arm : (fs gs : Fields) → can_cast_to (struct fs) (struct gs) ≡ c
 unfolding early_of equal_leaves head_kind casts_with_boolean is_primitive_numeric is_float is_integer is_signed_integer is_unsigned_integer is_unknown_int among
 structs_arm fs gs = roots_first (struct fs) (struct gs) tt
 
-not_yes : (b : Bool) {A : Type 0} → Yes ≡ cond b No Open → A
+not_yes : (b : Bool) {A : Type 0} → Some true ≡ cond b (Some false) None → A
 not_yes true e = impossible cc
 not_yes false e = impossible cc
 
 -- A yes of the roots is one of a leaf.
-pub yes_leaf : (t u : DataType) → Yes ≡ early_of (head_kind t) (head_arg t) (head_kind u) (head_arg u) → size t ≡ 1
+pub yes_leaf : (t u : DataType) → Some true ≡ early_of (head_kind t) (head_arg t) (head_kind u) (head_arg u) → size t ≡ 1
 unfolding size early_of equal_leaves head_kind casts_with_boolean is_primitive_numeric is_float is_integer is_signed_integer is_unsigned_integer is_unknown_int among
 yes_leaf (leaf k a) u e = refl
 yes_leaf (list t) u e = not_yes (eqb (head_kind u) Kind.Boolean) e
@@ -160,7 +155,7 @@ yes_leaf (struct fs) u e = not_yes (eqb (head_kind u) Kind.Boolean) e
 
 -- ---- the arms by the kinds and the arguments of two roots
 -- the arm of two types of different kinds
-pub other_arms : (t u : DataType) → (head_kind t ≡ head_kind u → ⊥) → cast_arms t u ≡ none
+pub other_arms : (t u : DataType) → (head_kind t ≡ head_kind u → ⊥) → cast_arms t u ≡ None
 unfolding head_kind
 other_arms (leaf k a) u f = refl
 other_arms (list t) (leaf l b) f = refl
@@ -186,7 +181,7 @@ one_arms (is_array {a}) (is_array {a = b}) p q t u = rw (eq-eqb a b (sym q))
 
 -- the arm of two Arrays of different widths
 pub width_arms : {k a l b : ℕ} {f g : DataType → DataType} → Unary k a f → Unary l b g → k ≡ l → (b ≡ a → ⊥)
-    → (t u : DataType) → cast_arms (f t) (g u) ≡ some false
+    → (t u : DataType) → cast_arms (f t) (g u) ≡ Some false
 width_arms is_list is_list p q t u = absurd (q refl)
 width_arms is_list is_array p q t u = absurd (omega arith)
 width_arms is_array is_list p q t u = absurd (omega arith)
@@ -194,7 +189,7 @@ width_arms (is_array {a}) (is_array {a = b}) p q t u = rw (ne_eqb a b (λ e. q (
 
 -- the arm of two Structs, the first with a field
 pub struct_arms : (fs gs : Fields) → (count fs ≡ 0 → ⊥)
-    → cast_arms (struct fs) (struct gs) ≡ cond (eqb (count fs) (count gs)) (fields_cast fs gs) (some false)
+    → cast_arms (struct fs) (struct gs) ≡ cond (eqb (count fs) (count gs)) (fields_cast fs gs) (Some false)
 unfolding count
 struct_arms empty gs z = absurd (z refl)
 struct_arms (field name t fs) gs z = refl

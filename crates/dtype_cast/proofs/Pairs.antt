@@ -1,14 +1,15 @@
 -- The walk over two nodes: a record for each of its places, of what is known there, and a law for each of its answers.
 -- Assumes nothing.
-use mathlib.Core.Path.{◌≡◌, refl, sym, ap, ap₂, subst, ◌∙◌}
+use mathlib.Core.Path.{◌≡◌, refl, sym, ap, ap₂, ◌∙◌}
 use mathlib.Core.Bool.{Bool, true, false, cond}
-use mathlib.Core.Option.{Option, none, some}
+use Rattle.std.specs.Prelude.{Option, None, Some, Ok, Err}
 use mathlib.Core.List.{List}
-use Prim.Native.Nat.{ℕ, suc, ◌^◌, ◌≤◌, ◌<◌}
+use Prim.Native.Nat.{ℕ, suc, ◌+◌, ◌^◌, ◌≤◌, ◌<◌}
 use native.Mathlib.Omega.{arith}
 use lib.Dec.{eqb}
 use lib.ListN.{length, get_or}
 use borrow.Author.Tests.{eq-eqb, ne_eqb}
+use Rattle.flat.proofs.Truths.{impossible}
 use Rattle.flat.specs.Kind
 use Rattle.flat.specs.Tree.{DataType, struct, Fields, empty, head_kind, head_arg, size, sizes}
 use Rattle.flat.specs.Walk.{Valid, ValidRun, type_at, run_at}
@@ -16,38 +17,30 @@ use Rattle.flat.proofs.Walks.{from, length_from, shorter, AtNode, at_leaf, at_on
 use Rattle.flat.proofs.Walks.{Unary, is_list, is_array, unary_size, type_kind, type_arg, type_leaf, type_one}
 use Rattle.flat.proofs.Walks.{type_struct, one_valid, struct_valid, struct_count}
 use Rattle.dtype_cast.specs.Cast.{can_cast_to, fields_cast}
-use Rattle.dtype_cast.specs.Walk.{cast_with, cast_answer, fields_answer, cast_after, Within, early_of}
-use Rattle.dtype_cast.specs.declared.walk.Cast.{Cast}
-use Rattle.dtype_cast.specs.declared.walk.Cast.TheVariants.{Yes, No, NoVerdict}
-use Rattle.dtype_cast.specs.declared.roots.Early.{Early}
-use Rattle.dtype_cast.specs.declared.roots.Early.TheVariants as early
+use Rattle.dtype_cast.specs.Walk.{Cast, cast_with, cast_answer, fields_answer, early_of}
+use Rattle.dtype_cast.specs.declared.walk.NotYes.{NotYes}
+use Rattle.dtype_cast.specs.declared.walk.NotYes.TheVariants.{No, NoVerdict}
 use Rattle.dtype_cast.proofs.Arms.{cast_arms, early_or, Rooted, roots_first, yes_leaf}
 use Rattle.dtype_cast.proofs.Arms.{other_arms, one_arms, width_arms, struct_arms}
 
--- an answer's numbers are those of the two types
-within : (l : ℕ) (r : Cast) (q : Option Bool) (n m : ℕ) → r ≡ cast_with q n m → n ≤ l → m ≤ l → Within l r
-within l r q n m e h g = subst (Within l) (sym e) (go q)
-  where
-    go : (q : Option Bool) → Within l (cast_with q n m)
-    go none = tt
-    go (some false) = tt
-    go (some true) = (h, g)
+-- an answer moved behind n nodes on one side and m on the other
+abbrev pub cast_after : ℕ → ℕ → Cast → Cast
+cast_after n m (Ok p) = Ok (n + p.0, m + p.1)
+cast_after n m (Err d) = Err d
 
-within_types : (l : ℕ) (r : Cast) (t u : DataType) → r ≡ cast_answer t u → size t ≤ l → size u ≤ l → Within l r
-unfolding cast_answer
-within_types l r t u e h g = within l r (can_cast_to t u) (size t) (size u) e h g
-
-within_fields : (l : ℕ) (r : Cast) (fs gs : Fields) → r ≡ fields_answer fs gs → sizes fs ≤ l → sizes gs ≤ l → Within l r
-unfolding fields_answer
-within_fields l r fs gs e h g = within l r (fields_cast fs gs) (sizes fs) (sizes gs) e h g
-
-pub same_yes : {n m i j : ℕ} → n ≡ i → m ≡ j → Yes n m ≡ Yes i j
-same_yes p q = ap₂ Yes p q
+pub same_yes : {n m i j : ℕ} → n ≡ i → m ≡ j → ◌≡◌ {A = Cast} (Ok (n, m)) (Ok (i, j))
+same_yes p q = ap₂ (λ a b. Ok (a, b)) p q
 
 one_more : (q : Option Bool) (n m : ℕ) → cast_after 1 1 (cast_with q n m) ≡ cast_with q (suc n) (suc m)
-one_more none n m = refl
-one_more (some false) n m = refl
-one_more (some true) n m = same_yes (omega arith) (omega arith)
+one_more None n m = refl
+one_more (Some false) n m = refl
+one_more (Some true) n m = same_yes (omega arith) (omega arith)
+
+-- the numbers of a yes are those of the two types
+pub yes_sizes : (q : Option Bool) (n m : ℕ) {p : ℕ × ℕ} → Ok p ≡ cast_with q n m → (p.0 ≡ n) × (p.1 ≡ m)
+yes_sizes None n m e = impossible cc
+yes_sizes (Some false) n m e = impossible cc
+yes_sizes (Some true) n m {p} e = let f : p ≡ (n, m) = cc in (ap (λ x. x.0) f, ap (λ x. x.1) f)
 
 -- ---- the walk's answers
 -- the answer on the types at the front of two pairs of arrays, and on m fields there
@@ -58,7 +51,7 @@ abbrev pub fields_cast_at : ℕ → List ℕ → List ℕ → List ℕ → List 
 fields_cast_at m ks xs ls ys = fields_answer (run_at m ks xs) (run_at m ls ys)
 
 -- what two roots decide
-abbrev early_at : List ℕ → List ℕ → List ℕ → List ℕ → Early
+abbrev early_at : List ℕ → List ℕ → List ℕ → List ℕ → Option Bool
 early_at ks xs ls ys = early_of (get_or ks 0 0) (get_or xs 0 0) (get_or ls 0 0) (get_or ys 0 0)
 
 -- ---- the places of the walk
@@ -69,7 +62,7 @@ pub record Called (t : ℕ) (ks ls : List ℕ) : Type 0 where
   pub short_right : length ls ≤ 2 ^ 63
 
 -- The roots of two types have told: a yes, a no, or that they leave it open.
-pub record Roots (t : ℕ) (told : Early) (ks xs ls ys : List ℕ) : Type 0 where
+pub record Roots (t : ℕ) (told : Option Bool) (ks xs ls ys : List ℕ) : Type 0 where
   pub called : Called t ks ls
   pub left : Valid ks xs
   pub right : Valid ls ys
@@ -77,7 +70,7 @@ pub record Roots (t : ℕ) (told : Early) (ks xs ls ys : List ℕ) : Type 0 wher
 
 -- Two types of one kind whose roots leave it open.
 pub record SameKind (t : ℕ) (ks xs ls ys : List ℕ) : Type 0 where
-  pub roots : Roots t early.Open ks xs ls ys
+  pub roots : Roots t None ks xs ls ys
   pub same_kind : get_or ks 0 0 ≡ get_or ls 0 0
 
 -- Two Structs.
@@ -98,7 +91,7 @@ pub record TwoInner (t : ℕ) (ks xs ls ys : List ℕ) : Type 0 where
   pub no_struct : get_or ks 0 0 ≡ Kind.Struct → ⊥
 
 -- ---- the laws: one for each answer
-module _ {t : ℕ} {told : Early} {ks xs ls ys : List ℕ} (r : Roots t told ks xs ls ys) where
+module _ {t : ℕ} {told : Option Bool} {ks xs ls ys : List ℕ} (r : Roots t told ks xs ls ys) where
   -- the left type is a leaf of a kind without children, or nested
   rooted : Rooted (type_at ks xs)
   rooted = go (type_at ks xs) (at_node ks xs (type_at ks xs) r.left)
@@ -121,33 +114,51 @@ module _ {t : ℕ} {told : Early} {ks xs ls ys : List ℕ} (r : Roots t told ks 
   decides : can_cast_to (type_at ks xs) (type_at ls ys) ≡ early_or told (cast_arms (type_at ks xs) (type_at ls ys))
   decides =
       roots_first (type_at ks xs) (type_at ls ys) rooted
-      ∙ ap (λ (z : Early). early_or z (cast_arms (type_at ks xs) (type_at ls ys))) heads
+      ∙ ap (λ (z : Option Bool). early_or z (cast_arms (type_at ks xs) (type_at ls ys))) heads
 
 -- an answer from the verdict, and from the numbers of nodes where it is yes
 by_verdict : (t u : DataType) (q : Option Bool) → can_cast_to t u ≡ q → cast_with q (size t) (size u) ≡ cast_answer t u
 unfolding cast_answer
 by_verdict t u q e = ap (λ (z : Option Bool). cast_with z (size t) (size u)) (sym e)
 
-by_yes : (t u : DataType) {n : ℕ} → size t ≡ 1 → n ≡ size u → can_cast_to t u ≡ some true → Yes 1 n ≡ cast_answer t u
-by_yes t u s e q = ap₂ Yes (sym s) e ∙ by_verdict t u (some true) q
+by_yes : (t u : DataType) {n : ℕ} → size t ≡ 1 → n ≡ size u → can_cast_to t u ≡ Some true → Ok (1, n) ≡ cast_answer t u
+by_yes t u s e q = same_yes (sym s) e ∙ by_verdict t u (Some true) q
 
 module _ {t : ℕ} {ks xs ls ys : List ℕ} where
-  pub roots_yes : Roots t early.Yes ks xs ls ys → {n : ℕ} → n ≡ size (type_at ls ys) → Yes 1 n ≡ cast_at ks xs ls ys
+  pub roots_yes : Roots t (Some true) ks xs ls ys → {n : ℕ} → n ≡ size (type_at ls ys) → Ok (1, n) ≡ cast_at ks xs ls ys
   roots_yes r q = by_yes _ _ (yes_leaf (type_at ks xs) (type_at ls ys) (sym (heads r))) q (decides r)
 
-  pub roots_no : Roots t early.No ks xs ls ys → No ≡ cast_at ks xs ls ys
-  roots_no r = by_verdict _ _ (some false) (decides r)
+  pub roots_no : Roots t (Some false) ks xs ls ys → Err No ≡ cast_at ks xs ls ys
+  roots_no r = by_verdict _ _ (Some false) (decides r)
 
-  pub other_kinds : Roots t early.Open ks xs ls ys → (get_or ks 0 0 ≡ get_or ls 0 0 → ⊥) → NoVerdict ≡ cast_at ks xs ls ys
+  pub other_kinds : Roots t None ks xs ls ys → (get_or ks 0 0 ≡ get_or ls 0 0 → ⊥) → Err NoVerdict ≡ cast_at ks xs ls ys
   other_kinds r f =
       let k = type_kind ks xs r.left in
       let l = type_kind ls ys r.right in
-      by_verdict _ _ none (decides r ∙ other_arms (type_at ks xs) (type_at ls ys) (λ e. f (sym k ∙ e ∙ l)))
+      by_verdict _ _ None (decides r ∙ other_arms (type_at ks xs) (type_at ls ys) (λ e. f (sym k ∙ e ∙ l)))
 
-  pub two_leaves : SameKind t ks xs ls ys → get_or ks 0 0 < Kind.List → NoVerdict ≡ cast_at ks xs ls ys
+  pub two_leaves : SameKind t ks xs ls ys → get_or ks 0 0 < Kind.List → Err NoVerdict ≡ cast_at ks xs ls ys
   two_leaves u h =
       let r = u.roots in
-      by_verdict _ _ none (decides r ∙ ap (λ (z : DataType). cast_arms z (type_at ls ys)) (type_leaf ks xs r.left h))
+      by_verdict _ _ None (decides r ∙ ap (λ (z : DataType). cast_arms z (type_at ls ys)) (type_leaf ks xs r.left h))
+
+-- The walk under the roots has answered r: its answer under one node more on either side, for which there is room, is
+-- that of the two types.
+pub record Under (ks xs ls ys : List ℕ) (r : Cast) : Type 0 where
+  pub says : cast_after 1 1 r ≡ cast_at ks xs ls ys
+  pub room : {p : ℕ × ℕ} → Ok p ≡ r → (p.0 < length ks) × (p.1 < length ls)
+
+-- The walk under the roots has a yes, with the numbers of nodes q.
+pub record UnderYes (ks xs ls ys : List ℕ) (q : ℕ × ℕ) : Type 0 where
+  pub says : Ok (1 + q.0, 1 + q.1) ≡ cast_at ks xs ls ys
+  pub room : (q.0 < length ks) × (q.1 < length ls)
+
+module _ {ks xs ls ys : List ℕ} {r : Cast} (u : Under ks xs ls ys r) where
+  pub under_yes : {q : ℕ × ℕ} → r ≡ Ok q → UnderYes ks xs ls ys q
+  under_yes e = record { says = ap (cast_after 1 1) (sym e) ∙ u.says; room = u.room (sym e) }
+
+  pub under_no : {d : NotYes} → r ≡ Err d → Err d ≡ cast_at ks xs ls ys
+  under_no e = ap (cast_after 1 1) (sym e) ∙ u.says
 
 -- ---- two Structs
 module _ {t : ℕ} {ks xs ls ys : List ℕ} (u : TwoStructs t ks xs ls ys) where
@@ -160,7 +171,7 @@ module _ {t : ℕ} {ks xs ls ys : List ℕ} (u : TwoStructs t ks xs ls ys) where
   fields_right : type_at ls ys ≡ struct (run_at (get_or ys 0 0) (from 1 ls) (from 1 ys))
   fields_right = type_struct ls ys u.kinds.roots.right right_struct
 
-  pub no_field : get_or xs 0 0 ≡ 0 → {n : ℕ} → n ≡ size (type_at ls ys) → Yes 1 n ≡ cast_at ks xs ls ys
+  pub no_field : get_or xs 0 0 ≡ 0 → {n : ℕ} → n ≡ size (type_at ls ys) → Ok (1, n) ≡ cast_at ks xs ls ys
   unfolding size
   no_field z q =
       let e : type_at ks xs ≡ struct empty = fields_left ∙ ap struct (run_end (get_or xs 0 0) (from 1 ks) (from 1 xs) z) in
@@ -171,15 +182,15 @@ module _ {t : ℕ} {ks xs ls ys : List ℕ} (u : TwoStructs t ks xs ls ys) where
       → can_cast_to (type_at ks xs) (type_at ls ys)
       ≡ cond (eqb (get_or xs 0 0) (get_or ys 0 0))
       (fields_cast (run_at (get_or xs 0 0) (from 1 ks) (from 1 xs)) (run_at (get_or ys 0 0) (from 1 ls) (from 1 ys)))
-      (some false)
+      (Some false)
   by_fields z =
       let n = struct_count ks xs u.kinds.roots.left u.is_struct in
       let m = struct_count ls ys u.kinds.roots.right right_struct in
       decides u.kinds.roots ∙ ap₂ cast_arms fields_left fields_right
       ∙ struct_arms _ _ (λ e. z (sym n ∙ e)) ∙ rw (n, m)
 
-  pub other_count : (get_or xs 0 0 ≡ 0 → ⊥) → (get_or xs 0 0 ≡ get_or ys 0 0 → ⊥) → No ≡ cast_at ks xs ls ys
-  other_count z q = by_verdict _ _ (some false) (by_fields z ∙ rw (ne_eqb (get_or xs 0 0) (get_or ys 0 0) q))
+  pub other_count : (get_or xs 0 0 ≡ 0 → ⊥) → (get_or xs 0 0 ≡ get_or ys 0 0 → ⊥) → Err No ≡ cast_at ks xs ls ys
+  other_count z q = by_verdict _ _ (Some false) (by_fields z ∙ rw (ne_eqb (get_or xs 0 0) (get_or ys 0 0) q))
 
 module _ {t : ℕ} {ks xs ls ys : List ℕ} (u : AsMany t ks xs ls ys) where
   both_runs : ValidRun (get_or xs 0 0) (from 1 ks) (from 1 xs) × ValidRun (get_or xs 0 0) (from 1 ls) (from 1 ys)
@@ -195,16 +206,18 @@ module _ {t : ℕ} {ks xs ls ys : List ℕ} (u : AsMany t ks xs ls ys) where
       (shorter ks 0 t r.called.measure (omega (arith, r.left)), both_runs)
 
   module _ {r : Cast} (e : r ≡ fields_cast_at (get_or xs 0 0) (from 1 ks) (from 1 xs) (from 1 ls) (from 1 ys)) where
-    pub fields_within : Within (2 ^ 63) r
-    fields_within =
-        let c = u.structs.kinds.roots.called in
-        within_fields (2 ^ 63) r _ _ e
-        (omega (arith, c.short, both_runs.0.within, length_from 1 ks))
-        (omega (arith, c.short_right, both_runs.1.within, length_from 1 ls))
+    fields_room : {p : ℕ × ℕ} → Ok p ≡ r → (p.0 < length ks) × (p.1 < length ls)
+    unfolding fields_answer
+    fields_room q =
+        let s = yes_sizes _ _ _ (q ∙ e) in
+        let v = u.structs.kinds.roots in (
+          omega (arith, s.0, both_runs.0.within, length_from 1 ks, v.left),
+          omega (arith, s.1, both_runs.1.within, length_from 1 ls, v.right),
+        )
 
-    pub fields_cast_lem : cast_after 1 1 r ≡ cast_at ks xs ls ys
+    fields_say : cast_after 1 1 r ≡ cast_at ks xs ls ys
     unfolding fields_answer size
-    fields_cast_lem =
+    fields_say =
         let s = u.structs in
         let fs : Fields = run_at (get_or xs 0 0) (from 1 ks) (from 1 xs) in
         let gs : Fields = run_at (get_or ys 0 0) (from 1 ls) (from 1 ys) in
@@ -213,6 +226,9 @@ module _ {t : ℕ} {ks xs ls ys : List ℕ} (u : AsMany t ks xs ls ys) where
         ∙ ap₂ (cast_with (fields_cast fs gs)) (sym (ap size (fields_left s))) (sym (ap size (fields_right s)))
         ∙ by_verdict _ _ (fields_cast fs gs)
         (by_fields s u.some_field ∙ rw (eq-eqb (get_or xs 0 0) (get_or ys 0 0) u.same_count))
+
+    pub fields_under : Under ks xs ls ys r
+    fields_under = record { says = fields_say; room = fields_room }
 
 -- ---- two Lists or two Arrays
 module _ {t : ℕ} {ks xs ls ys : List ℕ} (u : TwoInner t ks xs ls ys) where
@@ -236,9 +252,9 @@ module _ {t : ℕ} {ks xs ls ys : List ℕ} (u : TwoInner t ks xs ls ys) where
       ≡ cast_arms (inner_left.0 (type_at (from 1 ks) (from 1 xs))) (inner_right.0 (type_at (from 1 ls) (from 1 ys)))
   inner_arms = decides u.kinds.roots ∙ ap₂ cast_arms inner_left.2 inner_right.2
 
-  pub other_width : (get_or ys 0 0 ≡ get_or xs 0 0 → ⊥) → No ≡ cast_at ks xs ls ys
+  pub other_width : (get_or ys 0 0 ≡ get_or xs 0 0 → ⊥) → Err No ≡ cast_at ks xs ls ys
   other_width q =
-      by_verdict _ _ (some false) (inner_arms ∙ width_arms inner_left.1 inner_right.1 u.kinds.same_kind q _ _)
+      by_verdict _ _ (Some false) (inner_arms ∙ width_arms inner_left.1 inner_right.1 u.kinds.same_kind q _ _)
 
   both_inner : Valid (from 1 ks) (from 1 xs) × Valid (from 1 ls) (from 1 ys)
   both_inner =
@@ -249,16 +265,18 @@ module _ {t : ℕ} {ks xs ls ys : List ℕ} (u : TwoInner t ks xs ls ys) where
   inner_call = let r = u.kinds.roots in (shorter ks 0 t r.called.measure (omega (arith, r.left)), both_inner)
 
   module _ {r : Cast} (e : r ≡ cast_at (from 1 ks) (from 1 xs) (from 1 ls) (from 1 ys)) where
-    pub inner_within : Within (2 ^ 63) r
-    inner_within =
-        let c = u.kinds.roots.called in
-        within_types (2 ^ 63) r _ _ e
-        (omega (arith, c.short, both_inner.0.within, length_from 1 ks))
-        (omega (arith, c.short_right, both_inner.1.within, length_from 1 ls))
-
-    pub inner_cast : get_or ys 0 0 ≡ get_or xs 0 0 → cast_after 1 1 r ≡ cast_at ks xs ls ys
+    inner_room : {p : ℕ × ℕ} → Ok p ≡ r → (p.0 < length ks) × (p.1 < length ls)
     unfolding cast_answer
-    inner_cast q =
+    inner_room q =
+        let s = yes_sizes _ _ _ (q ∙ e) in
+        let v = u.kinds.roots in (
+          omega (arith, s.0, both_inner.0.within, length_from 1 ks, v.left),
+          omega (arith, s.1, both_inner.1.within, length_from 1 ls, v.right),
+        )
+
+    inner_say : get_or ys 0 0 ≡ get_or xs 0 0 → cast_after 1 1 r ≡ cast_at ks xs ls ys
+    unfolding cast_answer
+    inner_say q =
         let v : DataType = type_at (from 1 ks) (from 1 xs) in
         let w : DataType = type_at (from 1 ls) (from 1 ys) in
         ap (cast_after 1 1) e ∙ one_more (can_cast_to v w) (size v) (size w)
@@ -267,3 +285,6 @@ module _ {t : ℕ} {ks xs ls ys : List ℕ} (u : TwoInner t ks xs ls ys) where
         (sym (ap size inner_right.2 ∙ unary_size inner_right.1 w))
         ∙ by_verdict _ _ (can_cast_to v w)
         (inner_arms ∙ one_arms inner_left.1 inner_right.1 u.kinds.same_kind q v w)
+
+    pub inner_under : get_or ys 0 0 ≡ get_or xs 0 0 → Under ks xs ls ys r
+    inner_under q = record { says = inner_say q; room = inner_room }

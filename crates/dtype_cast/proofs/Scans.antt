@@ -1,16 +1,14 @@
--- The scan over two types at once: what is left after i nodes decides, and where all nodes of two types say yes, the
--- cast makes sense. Assumes nothing.
+-- The scan over two types at once: where all nodes of two types say yes, the cast makes sense. Assumes nothing.
 use mathlib.Core.Path.{◌≡◌, refl, sym, subst, ◌∙◌}
 use mathlib.Core.Bool.{Bool, true, false, cond, ◌&&◌, ◌||◌, and-false, or-false}
 use mathlib.Core.List.{List, [], ◌∷◌, ◌++◌, append_assoc}
-use mathlib.Core.Option.{some}
-use Prim.Native.Nat.{ℕ, ◌+◌, ◌≤◌, ◌<◌}
+use Rattle.std.specs.Prelude.{Some}
+use Prim.Native.Nat.{ℕ, ◌≤◌, ◌<◌}
 use native.Mathlib.Omega.{arith}
-use native.Mathlib.Numerals.{add-one}
 use lib.Dec.{eqb}
-use lib.ListN.{length, get_or, drop, drop_of_length-le}
-use lib.Seq.{drop-cons}
+use lib.ListN.{length, drop}
 use borrow.Author.Tests.{eq-eqb, ne_eqb, eqb-true}
+use Rattle.std.specs.List.{list_all, zip}
 use Rattle.flat.specs.Kind
 use Rattle.flat.specs.Tree.{DataType, leaf, list, array, struct, Fields, empty, field, count, head_kind, size}
 use Rattle.flat.specs.Tree.{kinds_of, kinds_ofs, args_of, args_ofs}
@@ -27,7 +25,7 @@ use Rattle.dtype_cast.specs.Laws.{AllCast, no_fields, one_more}
 use Rattle.dtype_cast.proofs.Arms.{cast_equal, no_test, lists_arm, arrays_arm}
 use Rattle.dtype_cast.proofs.Structs.{cast_laws}
 
--- ---- the steps of the scan
+-- ---- the scan by its nodes
 pub other_length : (ks xs ls ys : List ℕ) → (length ks ≡ length ls → ⊥) → false ≡ all_yes ks xs ls ys
 unfolding all_yes
 other_length [] xs [] ys h = absurd (h refl)
@@ -37,47 +35,16 @@ other_length (k ∷ ks) [] (l ∷ ls) ys h = refl
 other_length (k ∷ ks) (a ∷ xs) (l ∷ ls) [] h = refl
 other_length (k ∷ ks) (a ∷ xs) (l ∷ ls) (b ∷ ys) h = rw (← other_length ks xs ls ys (λ e. h (omega arith)), and-false)
 
--- Of two pairs of arrays with as many nodes, the first i on either side say yes.
-pub record YesSoFar (ks xs ls ys : List ℕ) (i : ℕ) : Type 0 where
-  pub even : length ks ≡ length xs
-  pub even_right : length ls ≡ length ys
-  pub as_many : length ks ≡ length ls
-  pub within : i ≤ length ks
-  pub rest : all_yes ks xs ls ys ≡ all_yes (drop i ks) (drop i xs) (drop i ls) (drop i ys)
-
-module _ {ks xs ls ys : List ℕ} where
-  pub scan_start : length ks ≡ length xs → length ls ≡ length ys → length ks ≡ length ls → YesSoFar ks xs ls ys 0
-  scan_start e f g = record { even = e; even_right = f; as_many = g; within = omega arith; rest = refl }
-
-  module _ {i : ℕ} (s : YesSoFar ks xs ls ys i) where
-    module _ (h : i < length ks) where
-      next_two : all_yes (drop i ks) (drop i xs) (drop i ls) (drop i ys)
-          ≡ (node_yes (get_or ks i 0) (get_or xs i 0) (get_or ls i 0) (get_or ys i 0)
-          && all_yes (drop (i + 1) ks) (drop (i + 1) xs) (drop (i + 1) ls) (drop (i + 1) ys))
-      unfolding all_yes
-      next_two =
-          let h' : i < length xs = omega (arith, s.even) in
-          let g : i < length ls = omega (arith, s.as_many) in
-          let g' : i < length ys = omega (arith, s.as_many, s.even_right) in
-          rw (add-one, drop-cons ks i 0, drop-cons xs i 0, drop-cons ls i 0, drop-cons ys i 0)
-
-      pub scan_on : node_yes (get_or ks i 0) (get_or xs i 0) (get_or ls i 0) (get_or ys i 0) ≡ true → YesSoFar ks xs ls ys (i + 1)
-      scan_on y = record {
-        even = s.even;
-        even_right = s.even_right;
-        as_many = s.as_many;
-        within = omega arith;
-        rest = s.rest ∙ next_two ∙ rw y;
-      }
-
-      pub scan_stop : node_yes (get_or ks i 0) (get_or xs i 0) (get_or ls i 0) (get_or ys i 0) ≡ false → false ≡ all_yes ks xs ls ys
-      scan_stop n = sym (s.rest ∙ next_two ∙ rw n)
-
-    pub scan_end : length ks ≤ i → true ≡ all_yes ks xs ls ys
-    unfolding all_yes
-    scan_end h =
-        let g : length ls ≤ i = omega (arith, s.as_many) in
-        sym (s.rest ∙ rw (drop_of_length-le ks h, drop_of_length-le ls g))
+pub nodes_yes : (ks xs ls ys : List ℕ) → length ks ≡ length xs → length ls ≡ length ys → length ks ≡ length ls
+    → list_all (λ n. node_yes n.0.0 n.0.1 n.1.0 n.1.1) (zip (zip ks xs) (zip ls ys)) ≡ all_yes ks xs ls ys
+unfolding all_yes
+nodes_yes [] xs [] ys e f h = refl
+nodes_yes [] xs (l ∷ ls) ys e f h = absurd (omega arith)
+nodes_yes (k ∷ ks) xs [] ys e f h = absurd (omega arith)
+nodes_yes (k ∷ ks) [] (l ∷ ls) ys e f h = absurd (omega arith)
+nodes_yes (k ∷ ks) (a ∷ xs) (l ∷ ls) [] e f h = absurd (omega arith)
+nodes_yes (k ∷ ks) (a ∷ xs) (l ∷ ls) (b ∷ ys) e f h =
+    rw (nodes_yes ks xs ls ys (omega arith) (omega arith) (omega arith))
 
 -- ---- two nodes that say yes
 -- what two nodes are that say yes, but for two fields
@@ -96,13 +63,13 @@ told k a l b h e = go (eqb k l) refl e
     go false p e = numeric e
 
 -- Of two leaves that say yes the cast makes sense.
-pub leaves_yes : (k a l b : ℕ) → k < Kind.List → node_yes k a l b ≡ true → can_cast_to (leaf k a) (leaf l b) ≡ some true
+pub leaves_yes : (k a l b : ℕ) → k < Kind.List → node_yes k a l b ≡ true → can_cast_to (leaf k a) (leaf l b) ≡ Some true
 unfolding can_cast_to before_nested head_kind equal
 leaves_yes k a l b h e = go (told k a l b (omega arith) e)
   where
-    go : Told k a l b → can_cast_to (leaf k a) (leaf l b) ≡ some true
+    go : Told k a l b → can_cast_to (leaf k a) (leaf l b) ≡ Some true
     go (same p q) = cast_equal (leaf k a) (leaf l b) (nodes_same k a l b p q)
-    go (numeric n) = rw n (no_test (equal (leaf k a) (leaf l b)) (some true) (λ f. refl))
+    go (numeric n) = rw n (no_test (equal (leaf k a) (leaf l b)) (Some true) (λ f. refl))
 
 -- The node of a nested type says yes to an equal one only.
 not_numeric : (k : ℕ) → (Kind.List ≤ k) × (k ≤ Kind.Struct) → is_primitive_numeric k ≡ false
@@ -142,7 +109,7 @@ mutual
 
   types_yes : (t u : DataType) → Good t → Good u → (ks xs ls ys : List ℕ)
       → all_yes (kinds_of t ++ ks) (args_of t ++ xs) (kinds_of u ++ ls) (args_of u ++ ys) ≡ true
-      → (can_cast_to t u ≡ some true) × (all_yes ks xs ls ys ≡ true)
+      → (can_cast_to t u ≡ Some true) × (all_yes ks xs ls ys ≡ true)
   types_yes (leaf k a) (leaf l b) r s ks xs ls ys e = (leaves_yes k a l b (omega arith) (first e).node, (first e).next)
   types_yes (leaf k a) (list u) r s ks xs ls ys e = absurd (omega (arith, to_nested (first e).node (omega arith) (omega arith)))
   types_yes (leaf k a) (array v u) r s ks xs ls ys e = absurd (omega (arith, to_nested (first e).node (omega arith) (omega arith)))
@@ -180,11 +147,11 @@ mutual
 
 -- Where a type stands at the front of either two lists and the scan says yes, the cast makes sense.
 pub all_yes_lem : {ks xs ls ys : List ℕ} → Valid ks xs → Valid ls ys → all_yes ks xs ls ys ≡ true
-    → can_cast_to (type_at ks xs) (type_at ls ys) ≡ some true
+    → can_cast_to (type_at ks xs) (type_at ls ys) ≡ Some true
 all_yes_lem {ks} {xs} {ls} {ys} v w e =
     let t : DataType = type_at ks xs in
     let u : DataType = type_at ls ys in
-    let l : Sound ks xs (some t) = subst (Sound ks xs) v.read (sound ks xs) in
-    let r : Sound ls ys (some u) = subst (Sound ls ys) w.read (sound ls ys) in
+    let l : Sound ks xs (Some t) = subst (Sound ks xs) v.read (sound ks xs) in
+    let r : Sound ls ys (Some u) = subst (Sound ls ys) w.read (sound ls ys) in
     (types_yes t u l.2 r.2 (drop (size t) ks) (drop (size t) xs) (drop (size u) ls) (drop (size u) ys)
     (rw (← l.0, ← l.1, ← r.0, ← r.1) e)).0

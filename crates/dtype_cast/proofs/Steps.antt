@@ -3,27 +3,24 @@
 -- lies before them on either side. Assumes nothing.
 use mathlib.Core.Path.{◌≡◌, refl, sym, ap, ap₂, ◌∙◌}
 use mathlib.Core.Bool.{Bool, true, false}
-use mathlib.Core.Option.{Option, none, some}
+use Rattle.std.specs.Prelude.{Option, None, Some, Ok, Err}
 use mathlib.Core.List.{List}
 use Prim.Native.Nat.{ℕ, suc, ◌+◌, ◌-◌, ◌^◌, ◌≤◌, ◌<◌}
 use native.Mathlib.Omega.{arith}
 use lib.ListN.{length}
 use Rattle.flat.specs.Tree.{DataType, Fields, field, size, sizes}
 use Rattle.flat.specs.Walk.{Valid, ValidRun, type_at}
-use Rattle.flat.proofs.Truths.{impossible}
 use Rattle.flat.proofs.Walks.{from, length_from, shorter, run_end}
 use Rattle.flat.proofs.Onward.{from_zero, next_valid, next_run, next_field}
 use Rattle.dtype_cast.specs.Cast.{and_then, can_cast_to, fields_cast}
-use Rattle.dtype_cast.specs.Walk.{cast_with, cast_answer, fields_answer, cast_after}
-use Rattle.dtype_cast.specs.declared.walk.Cast.{Cast}
-use Rattle.dtype_cast.specs.declared.walk.Cast.TheVariants.{Yes, No, NoVerdict}
-use Rattle.dtype_cast.proofs.Pairs.{Called, cast_at, fields_cast_at, same_yes}
+use Rattle.dtype_cast.specs.Walk.{Cast, cast_with, cast_answer, fields_answer}
+use Rattle.dtype_cast.specs.declared.walk.NotYes.{NotYes}
+use Rattle.dtype_cast.proofs.Pairs.{Called, cast_at, fields_cast_at, cast_after, same_yes, yes_sizes}
 
 -- the answer for the first field's types, then for the others
 abbrev after_first : Cast → Cast → Cast
-after_first (Yes n m) others = cast_after (1 + n) (1 + m) others
-after_first No others = No
-after_first NoVerdict others = NoVerdict
+after_first (Ok p) others = cast_after (1 + p.0) (1 + p.1) others
+after_first (Err d) others = Err d
 
 first_field_lem : (name other : ℕ) (t u : DataType) (fs gs : Fields)
     → fields_answer (field name t fs) (field other u gs) ≡ after_first (cast_answer t u) (fields_answer fs gs)
@@ -33,16 +30,11 @@ first_field_lem name other t u fs gs = go (can_cast_to t u) (fields_cast fs gs)
     go : (c d : Option Bool)
         → cast_with (and_then c d) (suc (size t + sizes fs)) (suc (size u + sizes gs))
         ≡ after_first (cast_with c (size t) (size u)) (cast_with d (sizes fs) (sizes gs))
-    go none d = refl
-    go (some false) d = refl
-    go (some true) none = refl
-    go (some true) (some false) = refl
-    go (some true) (some true) = same_yes (omega arith) (omega arith)
-
-yes_sizes : (q : Option Bool) (n m i j : ℕ) → Yes i j ≡ cast_with q n m → (i ≡ n) × (j ≡ m)
-yes_sizes none n m i j e = impossible cc
-yes_sizes (some false) n m i j e = impossible cc
-yes_sizes (some true) n m i j e = (cc, cc)
+    go None d = refl
+    go (Some false) d = refl
+    go (Some true) None = refl
+    go (Some true) (Some false) = refl
+    go (Some true) (Some true) = same_yes (omega arith) (omega arith)
 
 -- The answer on the types of the next field, and on the fields from i on and from j on.
 abbrev next_cast_at : List ℕ → List ℕ → List ℕ → List ℕ → ℕ → ℕ → Cast
@@ -70,17 +62,15 @@ pub record FieldAhead (t m : ℕ) (ks xs ls ys : List ℕ) (i j left : ℕ) : Ty
 -- The types of the next field, of n and o nodes, have yes.
 pub record FieldYes (t m : ℕ) (ks xs ls ys : List ℕ) (i j left n o : ℕ) : Type 0 where
   pub ahead : FieldAhead t m ks xs ls ys i j left
-  pub yes : Yes n o ≡ next_cast_at ks xs ls ys i j
+  pub yes : Ok (n, o) ≡ next_cast_at ks xs ls ys i j
 
 not_moved : (c : Cast) → c ≡ cast_after 0 0 c
-not_moved (Yes n m) = same_yes (omega arith) (omega arith)
-not_moved No = refl
-not_moved NoVerdict = refl
+not_moved (Ok p) = same_yes (omega arith) (omega arith)
+not_moved (Err d) = refl
 
 moved : (i j n m : ℕ) (c : Cast) → cast_after i j (cast_after (1 + n) (1 + m) c) ≡ cast_after (i + 1 + n) (j + 1 + m) c
-moved i j n m (Yes a b) = same_yes (omega arith) (omega arith)
-moved i j n m No = refl
-moved i j n m NoVerdict = refl
+moved i j n m (Ok p) = same_yes (omega arith) (omega arith)
+moved i j n m (Err d) = refl
 
 -- ---- the laws: one for each answer
 pub start : {m : ℕ} {ks xs ls ys : List ℕ} → ValidRun m ks xs → ValidRun m ls ys → FieldsAlong m ks xs ls ys 0 0 m
@@ -93,7 +83,7 @@ start {m} {ks} {xs} {ls} {ys} v w = record {
 }
 
 pub fields_done : {m : ℕ} {ks xs ls ys : List ℕ} {i j left : ℕ} → FieldsAlong m ks xs ls ys i j left → left ≡ 0
-    → Yes i j ≡ fields_cast_at m ks xs ls ys
+    → Ok (i, j) ≡ fields_cast_at m ks xs ls ys
 unfolding fields_answer can_cast_to size
 fields_done {m} {ks} {xs} {ls} {ys} {i} {j} {left} al z =
     let one = run_end left (from i ks) (from i xs) z in
@@ -128,11 +118,8 @@ module _ {t m : ℕ} {ks xs ls ys : List ℕ} {i j left : ℕ} (a : FieldAhead t
       (ap₂ fields_answer one other ∙ first_field_lem _ _ _ _ _ _
       ∙ ap (λ (z : Cast). after_first z (rest_cast_at (left - 1) ks xs ls ys (i + 1 + n) (j + 1 + o))) (sym e))
 
-  pub field_no : No ≡ next_cast_at ks xs ls ys i j → No ≡ fields_cast_at m ks xs ls ys
-  field_no e = sym (ahead No e _ _ refl refl)
-
-  pub field_unsure : NoVerdict ≡ next_cast_at ks xs ls ys i j → NoVerdict ≡ fields_cast_at m ks xs ls ys
-  field_unsure e = sym (ahead NoVerdict e _ _ refl refl)
+  pub field_no : {d : NotYes} → Err d ≡ next_cast_at ks xs ls ys i j → Err d ≡ fields_cast_at m ks xs ls ys
+  field_no {d} e = sym (ahead (Err d) e _ _ refl refl)
 
 module _ {t m : ℕ} {ks xs ls ys : List ℕ} {i j left n o : ℕ} (s : FieldYes t m ks xs ls ys i j left n o) where
   counts : (n ≡ size (type_at (from (i + 1) ks) (from (i + 1) xs)))
@@ -141,7 +128,7 @@ module _ {t m : ℕ} {ks xs ls ys : List ℕ} {i j left n o : ℕ} (s : FieldYes
   counts =
       let t : DataType = type_at (from (i + 1) ks) (from (i + 1) xs) in
       let u : DataType = type_at (from (j + 1) ls) (from (j + 1) ys) in
-      yes_sizes (can_cast_to t u) (size t) (size u) n o s.yes
+      yes_sizes (can_cast_to t u) (size t) (size u) s.yes
 
   ends : (i + 1 + n ≤ length ks) × (j + 1 + o ≤ length ls)
   ends =
@@ -164,6 +151,6 @@ module _ {t m : ℕ} {ks xs ls ys : List ℕ} {i j left n o : ℕ} (s : FieldYes
         other = w;
         within = omega (arith, ends.0, v.pos, v.within, length_from (i + 1 + n) ks);
         within_other = omega (arith, ends.1, w.pos, w.within, length_from (j + 1 + o) ls);
-        goes_on = ahead a (Yes n o) s.yes n o counts.0 counts.1
+        goes_on = ahead a (Ok (n, o)) s.yes n o counts.0 counts.1
             ∙ moved i j n o (rest_cast_at (left - 1) ks xs ls ys (i + 1 + n) (j + 1 + o));
       }

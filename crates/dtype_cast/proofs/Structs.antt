@@ -1,7 +1,7 @@
 -- Casts between Structs. Assumes nothing.
 use mathlib.Core.Path.{◌≡◌, refl, ap, ◌∙◌}
 use mathlib.Core.Bool.{Bool, true, false}
-use mathlib.Core.Option.{Option, none, some}
+use Rattle.std.specs.Prelude.{Option, None, Some}
 use Prim.Native.Nat.{ℕ, suc}
 use native.Mathlib.Omega.{arith}
 use borrow.Author.Tests.{eq-eqb, ne_eqb}
@@ -10,11 +10,11 @@ use Rattle.dtype_cast.specs.Cast.{and_then, can_cast_to, fields_cast}
 use Rattle.dtype_cast.specs.Laws.{AllCast, no_fields, one_more, CastLaws}
 use Rattle.dtype_cast.proofs.Arms.{structs_arm, struct_arms}
 
-no_field : (gs : Fields) → can_cast_to (struct empty) (struct gs) ≡ some true
+no_field : (gs : Fields) → can_cast_to (struct empty) (struct gs) ≡ Some true
 no_field gs = structs_arm empty gs
 
 other_count : (fs gs : Fields) → (count fs ≡ 0 → ⊥) → (count fs ≡ count gs → ⊥)
-    → can_cast_to (struct fs) (struct gs) ≡ some false
+    → can_cast_to (struct fs) (struct gs) ≡ Some false
 other_count fs gs z q = structs_arm fs gs ∙ struct_arms fs gs z ∙ rw (ne_eqb (count fs) (count gs) q)
 
 -- Of Structs with as many fields, and one at least, the fields decide.
@@ -23,10 +23,10 @@ same_count : (fs gs : Fields) → (count fs ≡ 0 → ⊥) → count fs ≡ coun
 same_count fs gs z q = structs_arm fs gs ∙ struct_arms fs gs z ∙ rw (eq-eqb (count fs) (count gs) q)
 
 -- A verdict that is not a yes decides.
-decides : (q rest : Option Bool) → (q ≡ some true → ⊥) → and_then q rest ≡ q
-decides none rest f = refl
-decides (some false) rest f = refl
-decides (some true) rest f = absurd (f refl)
+decides : (q rest : Option Bool) → (q ≡ Some true → ⊥) → and_then q rest ≡ q
+decides None rest f = refl
+decides (Some false) rest f = refl
+decides (Some true) rest f = absurd (f refl)
 
 -- Fields after fields that all cast: as many on both sides, and they decide.
 module _ (fs gs : Fields) (q : count fs ≡ count gs) where
@@ -50,7 +50,7 @@ some_field (field n u before) name t after e = absurd (omega arith)
 
 first_decides : {before before' : Fields} → AllCast before before'
     → (name other : ℕ) (t u : DataType) (after after' : Fields) → count after ≡ count after'
-    → (can_cast_to t u ≡ some true → ⊥)
+    → (can_cast_to t u ≡ Some true → ⊥)
     → can_cast_to (struct (append before (field name t after))) (struct (append before' (field other u after')))
     ≡ can_cast_to t u
 unfolding can_cast_to count
@@ -59,12 +59,12 @@ first_decides {before} {before'} a name other t u after after' q f =
     same_count _ _ (some_field before name t after) (counts _ _ p a) ∙ goes_on _ _ p a
     ∙ decides (can_cast_to t u) (fields_cast after after') f
 
-fields_cast_lem : {fs gs : Fields} → AllCast fs gs → (count fs ≡ count gs) × (fields_cast fs gs ≡ some true)
+fields_cast_lem : {fs gs : Fields} → AllCast fs gs → (count fs ≡ count gs) × (fields_cast fs gs ≡ Some true)
 unfolding can_cast_to count
 fields_cast_lem no_fields = (refl, refl)
 fields_cast_lem (one_more name other e rest) = (ap suc (fields_cast_lem rest).0, rw e (fields_cast_lem rest).1)
 
-all_cast : {fs gs : Fields} → AllCast fs gs → can_cast_to (struct fs) (struct gs) ≡ some true
+all_cast : {fs gs : Fields} → AllCast fs gs → can_cast_to (struct fs) (struct gs) ≡ Some true
 unfolding count
 all_cast no_fields = no_field empty
 all_cast {fs} {gs} (one_more name other e rest) =

@@ -2,77 +2,49 @@
 ghost use Rattle.std.specs.Prelude.{◌≡◌, ◌&&◌};
 ghost use Rattle.dtype.specs.Predicate.{is_primitive_numeric};
 ghost use Rattle.dtype_cast.specs.Cast.{casts_with_boolean};
-ghost use Rattle.dtype_cast.specs.Walk.{early_of, decided, equal_leaves};
+ghost use Rattle.dtype_cast.specs.Walk.{early_of, equal_leaves};
 
 use dtype::kind::is_primitive_numeric;
 use dtype::node::equal_node;
+use flat::Node;
 use flat::kind::Kind;
 
-// The verdict that two roots give, or that they leave it open.
-#[derive(Clone, Copy)]
-pub enum Early {
-    Yes,
-    No,
-    Open,
-}
-
 // Whether two nodes are equal types that are not nested.
-fn equal_leaves(k: u8, a: u64, l: u8, b: u64) -> bool
-    ensures { result ≡ equal_leaves k a l b }
+#[tactic(auto, unfolding(crate::specs::Walk::equal_leaves))]
+fn equal_leaves(from: Node, to: Node) -> bool
+    ensures { result ≡ equal_leaves from.kind from.arg to.kind to.arg }
 {
-    if k > Kind::UNKNOWN_INT_NEG {
-        return false;
-    }
-    equal_node(k, a, l, b)
+    from.kind <= Kind::UNKNOWN_INT_NEG && equal_node(from, to)
 }
 
 // Two primitive numeric types.
-pub fn both_numeric(k: u8, l: u8) -> bool
-    ensures { result ≡ (is_primitive_numeric k && is_primitive_numeric l) }
+pub fn both_numeric(from: u8, to: u8) -> bool
+    ensures { result ≡ (is_primitive_numeric from && is_primitive_numeric to) }
 {
-    if is_primitive_numeric(k) {
-        is_primitive_numeric(l)
-    } else {
-        false
-    }
+    is_primitive_numeric(from) && is_primitive_numeric(to)
 }
 
 // The arm of Boolean: whether it casts to and from a type of this kind.
+#[tactic(auto, unfolding(crate::specs::Cast::casts_with_boolean, dtype::specs::Match::among))]
 fn casts_with_boolean(kind: u8) -> bool
     ensures { result ≡ casts_with_boolean kind }
 {
-    match kind {
-        Kind::UINT8..=Kind::BINARY => true,
-        Kind::UNKNOWN_FLOAT..=Kind::UNKNOWN_INT_NEG => true,
-        _ => false,
-    }
+    is_primitive_numeric(kind) || matches!(kind, Kind::DECIMAL | Kind::STRING | Kind::BINARY)
 }
 
-// A test that decides.
-fn decided(yes: bool) -> Early
-    ensures { result ≡ decided yes }
+// Equal leaves, two primitive numeric types, Null, then Boolean on either side; None where the roots leave it open.
+#[tactic(auto, unfolding(crate::specs::Walk::early_of))]
+pub fn before_nested(from: Node, to: Node) -> Option<bool>
+    ensures { result ≡ early_of from.kind from.arg to.kind to.arg }
 {
-    if yes { Early::Yes } else { Early::No }
-}
-
-// Equal leaves, two primitive numeric types, Null, then Boolean on either side.
-pub fn before_nested(k: u8, a: u64, l: u8, b: u64) -> Early
-    ensures { result ≡ early_of k a l b }
-{
-    if equal_leaves(k, a, l, b) {
-        return Early::Yes;
+    if equal_leaves(from, to) || both_numeric(from.kind, to.kind) || from.kind == Kind::NULL {
+        return Some(true);
     }
-    if both_numeric(k, l) {
-        return Early::Yes;
+    if from.kind == Kind::BOOLEAN {
+        return Some(casts_with_boolean(to.kind));
     }
-    if k == Kind::NULL {
-        return Early::Yes;
+    if to.kind == Kind::BOOLEAN {
+        return Some(casts_with_boolean(from.kind));
     }
-    if k == Kind::BOOLEAN {
-        return decided(casts_with_boolean(l));
-    }
-    if l == Kind::BOOLEAN {
-        return decided(casts_with_boolean(k));
-    }
-    Early::Open
+    None
 }

@@ -4,20 +4,20 @@ ghost use Rattle.std.specs.Prelude.{◌≡◌, length};
 ghost use Rattle.dtype_cast.specs.Scan.{node_yes, all_yes};
 
 use crate::roots::both_numeric;
+use flat::Node;
 use flat::kind::Kind;
 
 // Whether two nodes, one of either type, say yes: equal nodes, two fields, whose names don't count, two primitive
 // numeric types.
-pub fn node_yes(k: u8, a: u64, l: u8, b: u64) -> bool
-    ensures { result ≡ node_yes k a l b }
+#[tactic(auto, unfolding(crate::specs::Scan::node_yes))]
+pub fn node_yes(from: Node, to: Node) -> bool
+    ensures { result ≡ node_yes from.kind from.arg to.kind to.arg }
 {
-    if k == l {
-        if a == b {
-            return true;
-        }
-        return k == Kind::FIELD;
+    if from.kind == to.kind {
+        from.arg == to.arg || from.kind == Kind::FIELD
+    } else {
+        both_numeric(from.kind, to.kind)
     }
-    both_numeric(k, l)
 }
 
 // Whether there are as many nodes on either side, and each two say yes.
@@ -30,15 +30,13 @@ pub fn all_yes(from_kinds: &[u8], from_args: &[u64], to_kinds: &[u8], to_args: &
         let ys = to_args.now in
         result ≡ all_yes ks xs ls ys }
 {
-    if from_kinds.len() != to_kinds.len() {
-        return false;
-    }
-    let mut i = 0;
-    while i < from_kinds.len() {
-        if !node_yes(from_kinds[i], from_args[i], to_kinds[i], to_args[i]) {
-            return false;
-        }
-        i += 1;
-    }
-    true
+    from_kinds.len() == to_kinds.len()
+        && from_kinds
+            .iter()
+            .zip(from_args)
+            .zip(to_kinds.iter().zip(to_args))
+            .all(|((&k, &a), (&l, &b))| node_yes(
+                Node { kind: k, arg: a },
+                Node { kind: l, arg: b },
+            ))
 }

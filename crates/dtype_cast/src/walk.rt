@@ -1,17 +1,16 @@
 // The walk over two types at once. A type hands its fields to a walk over fields, which hands each field's type back.
-ghost use Rattle.std.specs.Prelude.{◌≡◌, ◌^◌};
+ghost use Rattle.std.specs.Prelude.{◌≡◌};
 ghost use Rattle.flat.specs.Tree.{size};
 ghost use Rattle.flat.specs.Walk.{Valid, ValidRun, type_at, run_at};
-ghost use Rattle.dtype_cast.specs.Walk.{cast_answer, fields_answer, cast_after, Within};
+ghost use Rattle.dtype_cast.specs.Walk.{cast_answer, fields_answer};
 
-use crate::roots::{Early, before_nested};
+use crate::roots::before_nested;
+use flat::Node;
 use flat::kind::Kind;
-use flat::span::Span;
 
-// The verdict on a cast; a yes with the number of nodes of either type, so that a walk over fields can move on.
-#[derive(Clone, Copy)]
-pub enum Cast {
-    Yes(usize, usize),
+// Why a walk stops: the cast makes no sense, or the source is not sure.
+#[derive(Clone, Copy, Debug, PartialEq, Eq)]
+pub enum NotYes {
     No,
     NoVerdict,
 }
@@ -25,70 +24,65 @@ fn nodes(kinds: &[u8], args: &[u64]) -> usize
         return 1;
     }
     // no type is deeper than it has nodes
-    match flat::span::node_span(kinds, args, kinds.len()) {
-        Span::Ends(n) => n,
-        Span::TooDeep => 0,
-    }
+    flat::span::node_span(kinds, args, kinds.len()).unwrap_or(0)
 }
 
-// An answer under one node more on either side.
-fn under(c: Cast) -> Cast
-    requires { Within (2 ^ 63) c }
-    ensures { result ≡ cast_after 1 1 c }
-{
-    match c {
-        Cast::Yes(n, m) => Cast::Yes(1 + n, 1 + m),
-        Cast::No => Cast::No,
-        Cast::NoVerdict => Cast::NoVerdict,
-    }
-}
-
-// The types at the front of the arrays. Equality is tested of leaves only: equal nested types have yes from their arms.
+// The types at the front of the arrays: a yes is told with the number of nodes of either type, so that a walk over
+// fields can move on. Equality is tested of leaves only: equal nested types have yes from their arms.
+// Of two Structs, that the first has no field comes before their numbers of fields.
 #[cycle(field_cast_node_cast)]
-pub fn node_cast(from_kinds: &[u8], from_args: &[u64], to_kinds: &[u8], to_args: &[u64]) -> Cast
+pub fn node_cast(
+    from_kinds: &[u8],
+    from_args: &[u64],
+    to_kinds: &[u8],
+    to_args: &[u64],
+) -> Result<(usize, usize), NotYes>
     requires from_valid { Valid from_kinds.now from_args.now }
     requires to_valid { Valid to_kinds.now to_args.now }
     ensures { let from = type_at from_kinds.now from_args.now in
         let to = type_at to_kinds.now to_args.now in
         result ≡ cast_answer from to }
 {
-    let k = from_kinds[0];
-    let a = from_args[0];
-    let l = to_kinds[0];
-    let b = to_args[0];
-    match before_nested(k, a, l, b) {
-        Early::Yes => Cast::Yes(1, nodes(to_kinds, to_args)),
-        Early::No => Cast::No,
-        Early::Open => {
-            if k != l {
-                return Cast::NoVerdict;
-            }
-            let ks = &from_kinds[1..];
-            let xs = &from_args[1..];
-            let ls = &to_kinds[1..];
-            let ys = &to_args[1..];
-            match k {
-                Kind::NULL..=Kind::UNKNOWN_INT_NEG => Cast::NoVerdict,
-                Kind::STRUCT => {
-                    // no field: emptiness comes before the numbers of fields
-                    if a == 0 {
-                        return Cast::Yes(1, nodes(to_kinds, to_args));
-                    }
-                    if a != b {
-                        return Cast::No;
-                    }
-                    under(field_cast(ks, xs, ls, ys, a))
-                }
-                _ => {
-                    // Arrays of unequal width; the argument of a List is 0
-                    if b != a {
-                        return Cast::No;
-                    }
-                    under(node_cast(ks, xs, ls, ys))
-                }
-            }
-        }
+    let from = Node {
+        kind: from_kinds[0],
+        arg: from_args[0],
+    };
+    let to = Node {
+        kind: to_kinds[0],
+        arg: to_args[0],
+    };
+    match before_nested(from, to) {
+        Some(true) => return Ok((1, nodes(to_kinds, to_args))),
+        Some(false) => return Err(NotYes::No),
+        None => {}
     }
+    if from.kind != to.kind {
+        return Err(NotYes::NoVerdict);
+    }
+    let ks = &from_kinds[1..];
+    let xs = &from_args[1..];
+    let ls = &to_kinds[1..];
+    let ys = &to_args[1..];
+    let (n, m) = match from.kind {
+        Kind::NULL..=Kind::UNKNOWN_INT_NEG => return Err(NotYes::NoVerdict),
+        Kind::STRUCT => {
+            if from.arg == 0 {
+                return Ok((1, nodes(to_kinds, to_args)));
+            }
+            if from.arg != to.arg {
+                return Err(NotYes::No);
+            }
+            field_cast(ks, xs, ls, ys, from.arg)?
+        }
+        _ => {
+            // Arrays of unequal width; the argument of a List is 0
+            if to.arg != from.arg {
+                return Err(NotYes::No);
+            }
+            node_cast(ks, xs, ls, ys)?
+        }
+    };
+    Ok((1 + n, 1 + m))
 }
 
 // The given number of fields at the front of the arrays, left to right: the first no or no verdict decides. Names don't
@@ -100,7 +94,7 @@ fn field_cast(
     to_kinds: &[u8],
     to_args: &[u64],
     count: u64,
-) -> Cast
+) -> Result<(usize, usize), NotYes>
     requires valid_run { ValidRun count from_kinds.now from_args.now }
     requires valid_run_2 { ValidRun count to_kinds.now to_args.now }
     ensures { let from = run_at count from_kinds.now from_args.now in
@@ -109,24 +103,17 @@ fn field_cast(
 {
     let mut i = 0;
     let mut j = 0;
-    let mut left = count;
-    while left > 0 {
+    for _ in 0..count {
         let from = i + 1;
         let to = j + 1;
-        match node_cast(
+        let (n, m) = node_cast(
             &from_kinds[from..],
             &from_args[from..],
             &to_kinds[to..],
             &to_args[to..],
-        ) {
-            Cast::Yes(n, m) => {
-                i = from + n;
-                j = to + m;
-                left = left - 1;
-            }
-            Cast::No => return Cast::No,
-            Cast::NoVerdict => return Cast::NoVerdict,
-        }
+        )?;
+        i = from + n;
+        j = to + m;
     }
-    Cast::Yes(i, j)
+    Ok((i, j))
 }

@@ -3,12 +3,12 @@
 use mathlib.Core.Path.{◌≡◌, refl, sym, ap, ap₂, ◌∙◌, subst}
 use mathlib.Core.Bool.{Bool, true, false, ◌&&◌, ◌||◌, and-true, and-false, and_assoc, and-eq-true_iff, or-false, or_assoc}
 use mathlib.Core.List.{List, [], ◌∷◌, ◌++◌, append_assoc, append-nil}
-use mathlib.Core.Option.{Option}
+use Rattle.std.specs.Prelude.{Option}
 use Prim.Native.Nat.{ℕ, suc, ◌+◌, ◌≤◌, ◌<◌}
 use native.Mathlib.Omega.{arith}
 use lib.Dec.{eqb, eqb-zero-suc, eqb-suc-zero, eqb-suc-suc}
 use lib.ListN.{length}
-use borrow.Author.Tests.{eq-eqb, eqb-true}
+use borrow.Author.Tests.{eq-eqb}
 use Rattle.flat.specs.Kind
 use Rattle.flat.specs.Tree.{DataType, leaf, list, array, struct, Fields, empty, field, count, size, sizes}
 use Rattle.flat.specs.Tree.{kinds_of, kinds_ofs, args_of, args_ofs}
@@ -20,7 +20,7 @@ use Rattle.dtype.specs.Match.{among}
 use Rattle.dtype.specs.Predicate.{is_unknown_int}
 use Rattle.dtype.specs.Equality.{equal_node, equal, equal_fields}
 use Rattle.dtype_eq.specs.Contains.{contains_dtype_recursive, any_contains_dtype}
-use Rattle.dtype_eq.specs.Nodes.{same_list, starts_with, alike, occurs}
+use Rattle.dtype_eq.specs.Nodes.{starts_with, alike, occurs}
 use Rattle.dtype.proofs.Pairs.{nodes_same, left_known, right_known}
 
 -- a leaf's node and one that is none
@@ -120,14 +120,6 @@ module _ (u : DataType) (s : Good u) where
           occurs_fields fs r.1 ks xs,
           or_assoc,
         )
-
--- two lists that are the same to a scan are equal
-pub same_lists : (xs ys : List ℕ) → same_list xs ys ≡ true → xs ≡ ys
-unfolding same_list
-same_lists [] [] e = refl
-same_lists [] (y ∷ ys) e = never e
-same_lists (x ∷ xs) [] e = never e
-same_lists (x ∷ xs) (y ∷ ys) e = let s = (and-eq-true_iff (eqb x y) (same_list xs ys)).0 e in ap₂ ◌∷◌ (eqb-true x y s.0) (same_lists xs ys s.1)
 
 -- nodes stand at their own front
 pub starts_self : (ks xs : List ℕ) → starts_with ks xs ks xs ≡ true

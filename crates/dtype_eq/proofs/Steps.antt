@@ -1,7 +1,7 @@
 -- The steps of the scans: what is left to compare after i nodes decides, or the positions that are left to try.
 -- Assumes nothing.
 use mathlib.Core.Path.{◌≡◌, refl, sym, ◌∙◌}
-use mathlib.Core.Bool.{Bool, true, false, not, ◌&&◌, and-true, and-false}
+use mathlib.Core.Bool.{Bool, true, false, not, ◌&&◌, and-false}
 use mathlib.Core.List.{List, [], ◌∷◌}
 use Prim.Native.Nat.{ℕ, ◌+◌, ◌≤◌, ◌<◌}
 use native.Mathlib.Omega.{arith}
@@ -10,45 +10,14 @@ use lib.Dec.{eqb}
 use lib.ListN.{length, get_or, drop, length-drop, drop_of_length-le}
 use lib.Seq.{drop-cons}
 use borrow.Author.Tests.{eq-eqb, ne_eqb, not-true, not-false}
+use lib.Pointwise.{pointwise}
+use Rattle.std.specs.Cmp.Lexicographic.{same_text}
 use Rattle.flat.proofs.Truths.{impossible}
 use Rattle.flat.proofs.Positions.{rest}
 use Rattle.flat.proofs.Walks.{from}
 use Rattle.dtype.specs.Equality.{equal_node}
-use Rattle.dtype_eq.specs.Nodes.{same_list, starts_with, alike, occurs}
-use Rattle.dtype_eq.proofs.Scans.{same_lists, starts_self}
-
--- Before element i of two lists of one length: what the first i say, same, and what the rest says are together what the
--- two lists say.
-pub record Compared (xs ys : List ℕ) (same : Bool) (i : ℕ) : Type 0 where
-  pub even : length xs ≡ length ys
-  pub within : i ≤ length xs
-  pub says_all : same_list xs ys ≡ (same && same_list (drop i xs) (drop i ys))
-
-module _ {xs ys : List ℕ} {same : Bool} {i : ℕ} (c : Compared xs ys same i) where
-  module _ (h : i < length xs) where
-    same_step : same_list xs ys
-        ≡ (same && (eqb (get_or xs i 0) (get_or ys i 0) && same_list (drop (i + 1) xs) (drop (i + 1) ys)))
-    unfolding same_list
-    same_step = c.says_all ∙ rw (add-one, drop-cons xs i 0, drop-cons ys i 0 (omega (arith, c.even)))
-
-    pub same_on : get_or xs i 0 ≡ get_or ys i 0 → Compared xs ys same (i + 1)
-    same_on q = record {
-      even = c.even;
-      within = omega arith;
-      says_all = same_step ∙ rw (eq-eqb (get_or xs i 0) (get_or ys i 0) q);
-    }
-
-    pub same_stop : (get_or xs i 0 ≡ get_or ys i 0 → ⊥) → Compared xs ys false (i + 1)
-    same_stop q = record {
-      even = c.even;
-      within = omega arith;
-      says_all = same_step ∙ rw (ne_eqb (get_or xs i 0) (get_or ys i 0) q, and-false);
-    }
-
-  pub same_end : length xs ≤ i → same ≡ same_list xs ys
-  unfolding same_list
-  same_end h =
-      sym (c.says_all ∙ rw (drop_of_length-le xs h, drop_of_length-le ys {i = i} (omega (arith, c.even)), and-true))
+use Rattle.dtype_eq.specs.Nodes.{starts_with, alike, occurs}
+use Rattle.dtype_eq.proofs.Scans.{starts_self}
 
 -- a pattern with more nodes than there are
 pub starts_short : (ks xs ls ys : List ℕ) → length ks < length ls → length ls ≡ length ys
@@ -129,10 +98,13 @@ module _ (ks xs ls ys : List ℕ) where
     unfolding alike
     same_length e = e ∙ rw (eq-eqb (length ks) (length ls) h, eq-eqb (length ls) (length ys) f)
 
-    pub same_alike : {p q : Bool} → p ≡ same_list ks ls → p ≡ true → q ≡ same_list xs ys → q ≡ true
-        → true ≡ alike ks xs ls ys
-    same_alike p y q z =
-        same_length (rw (← same_lists ks ls (sym p ∙ y), ← same_lists xs ys (sym q ∙ z)) (sym (starts_self ks xs)))
+    pub same_alike :
+        {v p q : Bool} → v ≡ q → v ≡ true → p ≡ pointwise eqb ks ls → p ≡ true → q ≡ pointwise eqb xs ys
+        → v ≡ alike ks xs ls ys
+    same_alike s y k z a =
+        let kinds = same_text ks ls (sym z ∙ k) in
+        let args = same_text xs ys (sym y ∙ s ∙ a) in
+        y ∙ same_length (rw (← kinds, ← args) (sym (starts_self ks xs)))
 
 -- Before position at: no position before it is a start, so those that are left decide.
 pub record Trying (ks xs ls ys : List ℕ) (at : ℕ) : Type 0 where

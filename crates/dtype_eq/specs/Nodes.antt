@@ -3,13 +3,6 @@
 use Rattle.std.specs.Prelude.{Bool, true, false, ◌&&◌, ◌||◌, List, [], ◌∷◌, ℕ, eqb, length}
 use Rattle.dtype.specs.Equality.{equal_node}
 
--- Two lists are as long, and equal element by element.
-unfoldable pub same_list : List ℕ → List ℕ → Bool
-same_list [] [] = true
-same_list [] (y ∷ ys) = false
-same_list (x ∷ xs) [] = false
-same_list (x ∷ xs) (y ∷ ys) = eqb x y && same_list xs ys
-
 -- The nodes of the kinds ls and the arguments ys stand at the front of those of ks and xs: each is equal to the node in
 -- its place.
 unfoldable pub starts_with : List ℕ → List ℕ → List ℕ → List ℕ → Bool

@@ -1,8 +1,9 @@
 // Scans over the nodes of two flat types.
 ghost use Rattle.std.specs.Prelude.{◌≡◌, length};
-ghost use Rattle.dtype_eq.specs.Nodes.{same_list, starts_with, alike, occurs};
+ghost use Rattle.dtype_eq.specs.Nodes.{starts_with, alike, occurs};
 
 use dtype::node::equal_node;
+use flat::Node;
 
 // Whether the pattern's nodes stand at the front. Of two valid types: whether they are equal, since no type stands at
 // the front of another.
@@ -17,46 +18,21 @@ pub fn starts_with(kinds: &[u8], args: &[u64], pattern_kinds: &[u8], pattern_arg
     if kinds.len() < pattern_kinds.len() {
         return false;
     }
-    let mut i = 0;
-    while i < pattern_kinds.len() {
-        if !equal_node(kinds[i], args[i], pattern_kinds[i], pattern_args[i]) {
+    // over zips of the four slices, the search for a type within another took half as long again
+    for i in 0..pattern_kinds.len() {
+        let node = Node {
+            kind: kinds[i],
+            arg: args[i],
+        };
+        let other = Node {
+            kind: pattern_kinds[i],
+            arg: pattern_args[i],
+        };
+        if !equal_node(node, other) {
             return false;
         }
-        i += 1;
     }
     true
-}
-
-// Whether two runs of bytes, of one length, are the same. Without an early exit the loop is vectorised.
-pub fn same_bytes(bytes: &[u8], others: &[u8]) -> bool
-    requires { length bytes.now ≡ length others.now }
-    ensures { result ≡ same_list bytes.now others.now }
-{
-    let mut same = true;
-    let mut i = 0;
-    while i < bytes.len() {
-        if bytes[i] != others[i] {
-            same = false;
-        }
-        i += 1;
-    }
-    same
-}
-
-// Whether two runs of arguments, of one length, are the same: `same_bytes` for numbers of 64 bits.
-fn same_args(args: &[u64], other_args: &[u64]) -> bool
-    requires { length args.now ≡ length other_args.now }
-    ensures { result ≡ same_list args.now other_args.now }
-{
-    let mut same = true;
-    let mut i = 0;
-    while i < args.len() {
-        if args[i] != other_args[i] {
-            same = false;
-        }
-        i += 1;
-    }
-    same
 }
 
 // Whether the other nodes are as many, and each equal to the node in its place.
@@ -66,19 +42,12 @@ pub fn alike(kinds: &[u8], args: &[u64], other_kinds: &[u8], other_args: &[u64])
         let xs = args.now in
         result ≡ alike ks xs other_kinds.now other_args.now }
 {
-    if kinds.len() != other_kinds.len() {
-        return false;
-    }
-    if other_kinds.len() != other_args.len() {
+    if kinds.len() != other_kinds.len() || other_kinds.len() != other_args.len() {
         return false;
     }
     // equal types are the same, unknown ints apart, so two quick scans find most of them
-    if same_bytes(kinds, other_kinds) {
-        if same_args(args, other_args) {
-            return true;
-        }
-    }
-    starts_with(kinds, args, other_kinds, other_args)
+    (kinds == other_kinds && args == other_args)
+        || starts_with(kinds, args, other_kinds, other_args)
 }
 
 // Whether the pattern's nodes stand somewhere. Of two valid types: whether the first contains the second, since a
@@ -94,13 +63,11 @@ pub fn occurs(kinds: &[u8], args: &[u64], pattern_kinds: &[u8], pattern_args: &[
     if kinds.len() < pattern_kinds.len() {
         return false;
     }
-    let last = kinds.len() - pattern_kinds.len();
-    let mut at = 0;
-    while at <= last {
+    let positions = kinds.len() - pattern_kinds.len() + 1;
+    for at in 0..positions {
         if starts_with(&kinds[at..], &args[at..], pattern_kinds, pattern_args) {
             return true;
         }
-        at += 1;
     }
     false
 }

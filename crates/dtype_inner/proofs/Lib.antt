@@ -1,5 +1,4 @@
 -- The laws of inner and leaf types. Those that other crates' proofs cite are `pub`.
-mod Fronts
 pub mod Endings
 mod Parts
 pub mod Shapes

@@ -1,14 +1,14 @@
 -- Inner and leaf types, and the shape of an Array: dtype.rs. Assumes nothing: these are definitions.
 use Rattle.std.specs.Prelude.{List, [], ◌∷◌, ℕ}
-use Rattle.std.proofs.Math.Option.{Option, none, some}
+use Rattle.std.specs.Prelude.{Option, None, Some}
 use Rattle.flat.specs.Tree.{DataType, leaf, list, array, struct}
 
 -- inner_dtype
 unfoldable pub inner_dtype : DataType → Option DataType
-inner_dtype (list t) = some t
-inner_dtype (array w t) = some t
-inner_dtype (leaf k a) = none
-inner_dtype (struct fs) = none
+inner_dtype (list t) = Some t
+inner_dtype (array w t) = Some t
+inner_dtype (leaf k a) = None
+inner_dtype (struct fs) = None
 
 -- leaf_dtype: the inner type as long as there is one
 unfoldable pub leaf_dtype : DataType → DataType
@@ -26,10 +26,10 @@ past_arrays (struct fs) = struct fs
 
 -- array_leaf_dtype
 unfoldable pub array_leaf_dtype : DataType → Option DataType
-array_leaf_dtype (array w t) = some (past_arrays t)
-array_leaf_dtype (list t) = none
-array_leaf_dtype (leaf k a) = none
-array_leaf_dtype (struct fs) = none
+array_leaf_dtype (array w t) = Some (past_arrays t)
+array_leaf_dtype (list t) = None
+array_leaf_dtype (leaf k a) = None
+array_leaf_dtype (struct fs) = None
 
 -- get_shape_impl: the widths down consecutive Arrays
 unfoldable pub widths_of : DataType → List ℕ
@@ -40,7 +40,7 @@ widths_of (struct fs) = []
 
 -- get_shape
 unfoldable pub get_shape : DataType → Option (List ℕ)
-get_shape (array w t) = some (w ∷ widths_of t)
-get_shape (list t) = none
-get_shape (leaf k a) = none
-get_shape (struct fs) = none
+get_shape (array w t) = Some (w ∷ widths_of t)
+get_shape (list t) = None
+get_shape (leaf k a) = None
+get_shape (struct fs) = None

@@ -4,3 +4,4 @@ pub mod Nodes
 pub mod Part
 pub mod Laws
 pub mod Shape
+pub mod Reply

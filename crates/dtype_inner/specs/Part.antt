@@ -1,40 +1,40 @@
 -- A part of a lent slice, as a result. Assumes nothing: these are definitions.
-use Rattle.std.specs.Prelude.{◌≡◌, cond, List, [], ℕ, ◌+◌, ◌-◌, ◌*◌, ◌≤◌, eqb, length, drop}
-use Rattle.std.proofs.Math.Option.{Option, none, some}
+use Rattle.std.specs.Prelude.{◌≡◌, List, [], ℕ, ◌+◌, ◌-◌, ◌*◌, ◌≤◌, length, drop}
+use Rattle.std.specs.Prelude.{Option, None, Some, unwrap_or, Result}
 use Rattle.std.specs.Borrow.{Bor}
 use Rattle.flat.specs.Tree.{DataType, size, kinds_of, args_of}
 use Rattle.flat.specs.Reader.{map_o}
 use Rattle.flat.specs.Reading.{Reading, refused, type}
 use Rattle.flat.specs.Output.{optional_of}
-use Rattle.flat.specs.declared.Checked.{Checked}
-use Rattle.flat.specs.declared.Optional.{Optional}
+use Rattle.flat.specs.Reply.{value_in}
+use Rattle.flat.specs.declared.error.Error.{Error}
 
 -- What a call finds in a type; there is none where the call is refused.
 abbrev pub found : (DataType → Option DataType) → Reading → Option DataType
-found part (refused e) = none
+found part (refused e) = None
 found part (type t) = part t
 
 -- the part of a type as a type, or the refusal; nothing where the type has no such part
 abbrev pub part_reading : (DataType → Option DataType) → Reading → Option Reading
-part_reading part (refused e) = some (refused e)
+part_reading part (refused e) = Some (refused e)
 part_reading part (type t) = map_o type (part t)
 
 -- which of the three it is: Some with the part's number of nodes, None, or the refusal
-abbrev pub inner_of : (DataType → Option DataType) → Reading → Optional
+abbrev pub inner_of : (DataType → Option DataType) → Reading → Result (Option ℕ) Error
 inner_of part r = optional_of (part_reading part r)
 
--- the nodes, the kinds and the arguments of what was found, and nothing where there is none
-abbrev pub nodes_found : Option DataType → ℕ
-nodes_found none = 0
-nodes_found (some t) = size t
+-- the number of nodes that an answer tells, and 0 where it tells none
+abbrev pub nodes_told : Result (Option ℕ) Error → ℕ
+nodes_told = value_in (λ count. unwrap_or count 0)
 
+-- the kinds and the arguments of what was found, and nothing where there is none
 abbrev pub part_kinds : Option DataType → List ℕ
-part_kinds none = []
-part_kinds (some t) = kinds_of t
+part_kinds None = []
+part_kinds (Some t) = kinds_of t
 
 abbrev pub part_args : Option DataType → List ℕ
-part_args none = []
-part_args (some t) = args_of t
+part_args None = []
+part_args (Some t) = args_of t
 
 -- the last n elements of l are these
 pub record Last (n : ℕ) (l these : List ℕ) : Type 0 where
@@ -43,12 +43,7 @@ pub record Last (n : ℕ) (l these : List ℕ) : Type 0 where
   pub shows : drop (length l - n) l ≡ these
 
 -- r is the caller's own: the end of the slice whole, of elements of so many bytes, and it shows these
-pub record EndOf (bytes : ℕ) (shown : List ℕ) (whole r : Bor (List ℕ)) : Type 0 where
+pub record EndOf {A : Type 0} (bytes : ℕ) (shown : List A) (whole r : Bor (List A)) : Type 0 where
   pub block : r.ref_ptr.0 ≡ whole.ref_ptr.0
   pub place : r.ref_ptr.1 ≡ whole.ref_ptr.1 + (length whole.now - length shown) * bytes
   pub shows : r.now ≡ shown
-
--- the answer that a check and a number of nodes come to: no type has 0 nodes, so 0 stands for None
-abbrev pub part_answer : Checked → ℕ → Optional
-part_answer (Checked.Refused e) n = Optional.Refused e
-part_answer Checked.Valid n = cond (eqb n 0) Optional.Nothing (Optional.Some n)

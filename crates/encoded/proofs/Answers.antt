@@ -1,11 +1,12 @@
 -- What the answers tell, and what answers come to: bytes of the right length hold as many kinds and arguments as
--- their count says, any others are refused by 1; where a check answers Valid, there is a tree, and its root; and
+-- their count says, any others are refused by 1; where a check passes, there is a tree, and its root; and
 -- `decode` and `encode` leave its arrays or bytes, or all as it was. Assumes nothing.
 use mathlib.Core.Path.{◌≡◌, refl, sym, ap, ◌∙◌}
 use mathlib.Core.Bool.{Bool, true, false, cond, and-eq-true_iff}
 use mathlib.Core.List.{List, ◌++◌}
 use Prim.Native.Nat.{ℕ, ◌+◌, ◌-◌, ◌≤◌, ◌<◌}
-use native.Mathlib.Nat.{add-sub_cancel_left, zero-mul}
+use Rattle.std.specs.Prelude.{Result, Ok, Err}
+use native.Mathlib.Nat.{add-sub_cancel_left, zero-mul, le_of_mul-le-mul_left}
 use native.Mathlib.Omega.{arith}
 use borrow.Author.Tests.{lt-ltb, le-leb, eq-eqb, ltb-true, leb-true, eqb-true}
 use borrow.Author.Rules.{part_to_end}
@@ -14,9 +15,8 @@ use lib.ListN.{length, get_or, take, drop, length-drop}
 use lib.Seq.{length-take-le, take_at, get_or-take, get_or-drop}
 use Rattle.flat.specs.Tree.{DataType, size, kinds_of, args_of}
 use Rattle.flat.specs.Reading.{Reading, refused, type, unless, reading, checked_of, root_of, RootFits}
-use Rattle.flat.specs.declared.Checked.{Checked}
-use Rattle.flat.specs.declared.Checked.TheVariants.{Valid}
 use Rattle.flat.specs.Output.{over, fitting}
+use Rattle.flat.specs.declared.Node.{Node}
 use Rattle.flat.specs.declared.error.Error.{Error}
 use Rattle.flat.specs.declared.error.Error.TheVariants.{Length, OutputTooShort}
 use Rattle.flat.proofs.Truths.{impossible}
@@ -27,9 +27,6 @@ use Rattle.flat.proofs.Outputs.{writes_refused, writes_type, few_kinds, few_args
 use Rattle.encoded.specs.Encoding.{number, args_from, encoding, encoded_size, count_in, kinds_in, args_in, size_fits}
 use Rattle.encoded.specs.Encoding.{decoding}
 use Rattle.encoded.specs.Answer.{nodes_in, fitting_bytes, bytes_over, Encodes, DecodeEnsures, Puts}
-use Rattle.flat.specs.declared.Root.{Root}
-use Rattle.flat.specs.declared.Written.{Written}
-use Rattle.encoded.specs.declared.Encoded.{Encoded}
 use Rattle.encoded.proofs.Laws.{args_from_length, args_from_at, size_parts}
 
 -- ---- the number of nodes
@@ -100,6 +97,15 @@ nodes_few w nodes s = go (size_fits w nodes s) refl
     go true f = (sized w nodes s f).few
     go false f = omega arith
 
+-- short bytes have few nodes
+pub short_few : (w nodes few : ℕ) (s : List ℕ) → length s ≤ encoded_size w few → nodes_in w nodes s ≤ few
+unfolding nodes_in
+short_few w nodes few s h = go (size_fits w nodes s) refl
+  where
+    go : (b : Bool) → size_fits w nodes s ≡ b → cond b (count_in s) 0 ≤ few
+    go true f = le_of_mul-le-mul_left {k = w + 1} (omega (arith, (sized w nodes s f).size)) (omega arith)
+    go false f = omega arith
+
 -- where the number of nodes is 0
 pub nodes_none : (w nodes : ℕ) (s : List ℕ) {n : ℕ} → n ≡ nodes_in w nodes s → n ≡ 0 → size_fits w nodes s ≡ false
 unfolding nodes_in
@@ -114,7 +120,7 @@ pub decoding_none :
 unfolding decoding
 decoding_none w nodes deep s e h = rw (nodes_none w nodes s e h)
 
--- ---- what `check` tells where it answers Valid
+-- ---- what `check` tells where it passes
 
 -- the bytes are those of a tree of n nodes
 pub record EncodedForm (w nodes deep n : ℕ) (s : List ℕ) : Type 0 where
@@ -153,10 +159,10 @@ type_form {w} {nodes} {deep} {s} t e =
     record { sized = rw n at z; tree = t; reads = e; kinds = h.kinds; args = h.args; tree_size = refl }
 
 pub encoded_form :
-    {w nodes deep n : ℕ} {s : List ℕ} {a : Checked} → a ≡ Valid → a ≡ checked_of (decoding w nodes deep s)
-    → n ≡ count_in s → EncodedForm w nodes deep n s
-encoded_form {w} {nodes} {deep} {n} {s} v e c =
-    let r = checked_type (decoding w nodes deep s) (sym v ∙ e) in
+    {w nodes deep n : ℕ} {s : List ℕ} → Ok tt ≡ checked_of (decoding w nodes deep s) → n ≡ count_in s
+    → EncodedForm w nodes deep n s
+encoded_form {w} {nodes} {deep} {n} {s} e c =
+    let r = checked_type (decoding w nodes deep s) e in
     let f : EncodedForm w nodes deep (size r.0) s = type_form r.0 r.1 in
     rw (f.sized.count ∙ sym c) at f
 
@@ -166,10 +172,15 @@ pub counted_form :
     → EncodedForm w nodes deep m s
 counted_form f c = rw (sym (c ∙ nodes_sized f.sized)) at f
 
--- ---- the root, where a check answers Valid
+-- ---- the root, where a check passes
 
 -- where the root's kind and argument stand in the bytes
-pub form_root : {w nodes deep n : ℕ} {s : List ℕ} → EncodedForm w nodes deep n s → (Root.Node (get_or s 2 0) (number (take w (drop (2 + n) s))) ≡ root_of (decoding w nodes deep s)) × RootFits (Root.Node (get_or s 2 0) (number (take w (drop (2 + n) s))))
+abbrev pub first : ℕ → ℕ → List ℕ → Node
+first w n s = record { kind = get_or s 2 0; arg = number (take w (drop (2 + n) s)) }
+
+pub form_root :
+    {w nodes deep n : ℕ} {s : List ℕ} → EncodedForm w nodes deep n s
+    → (Ok (first w n s) ≡ root_of (decoding w nodes deep s)) × RootFits (Ok (first w n s))
 form_root {w} {nodes} {deep} {n} {s} f =
     let z = f.sized in
     let e = decoding_sized z deep in
@@ -180,21 +191,18 @@ form_root {w} {nodes} {deep} {n} {s} f =
 -- ---- what `decode` and `encode` come to
 
 pub decodes_refused :
-    (w nodes deep : ℕ) (s : List ℕ) {ks xs : List ℕ} {a : Checked} {e : Error}
-    → a ≡ Checked.Refused e
-    → a ≡ checked_of (decoding w nodes deep s)
-    → DecodeEnsures w nodes deep s ks xs ks xs (Written.Refused e)
+    (w nodes deep : ℕ) (s : List ℕ) {ks xs : List ℕ} {e : Error} → Err e ≡ checked_of (decoding w nodes deep s)
+    → DecodeEnsures w nodes deep s ks xs ks xs (Err e)
 unfolding fitting
-decodes_refused w nodes deep s {e = e} v h =
-    writes_refused (rw (checked_refused (decoding w nodes deep s) e (sym v ∙ h)))
+decodes_refused w nodes deep s {e = e} h = writes_refused (rw (checked_refused (decoding w nodes deep s) e h))
 
 module _ {w nodes deep n : ℕ} {s ks xs : List ℕ} (f : EncodedForm w nodes deep n s) where
-  pub decodes_few_kinds : length ks < n → DecodeEnsures w nodes deep s ks xs ks xs (Written.Refused OutputTooShort)
+  pub decodes_few_kinds : length ks < n → DecodeEnsures w nodes deep s ks xs ks xs (Err OutputTooShort)
   decodes_few_kinds h =
       writes_refused (ap (fitting (length ks) (length xs)) f.reads ∙ few_kinds _ _ f.tree (rw f.tree_size h))
 
   pub decodes_few_args :
-      n ≤ length ks → length xs < n → DecodeEnsures w nodes deep s ks xs ks xs (Written.Refused OutputTooShort)
+      n ≤ length ks → length xs < n → DecodeEnsures w nodes deep s ks xs ks xs (Err OutputTooShort)
   decodes_few_args g h = writes_refused (ap (fitting (length ks) (length xs)) f.reads ∙ few_args _ _ f.tree (rw f.tree_size g) (rw f.tree_size h))
 
   -- the two parts of s, over the front of the two arrays
@@ -202,23 +210,23 @@ module _ {w nodes deep n : ℕ} {s ks xs : List ℕ} (f : EncodedForm w nodes de
       {ks' xs' : List ℕ}
       → n ≤ length ks
       → n ≤ length xs
-      → ks' ≡ over (take (2 + n - 2) (drop 2 s)) ks
+      → ks' ≡ take (2 + n - 2) (drop 2 s) ++ drop n ks
       → xs' ≡ args_from w n (take (length s - (2 + n)) (drop (2 + n) s)) ++ drop n xs
-      → DecodeEnsures w nodes deep s ks xs ks' xs' (Written.Nodes n)
+      → DecodeEnsures w nodes deep s ks xs ks' xs' (Ok n)
   decodes_type g h k a =
       let z = f.sized in
       let fits = ap (fitting (length ks) (length xs)) f.reads ∙ room _ _ f.tree (rw f.tree_size g) (rw f.tree_size h) in
-      writes_type fits (sym f.tree_size) (rw (← f.kinds, ← kinds_part z) k)
+      writes_type fits (sym f.tree_size) (rw (← f.kinds, kinds_length z, ← kinds_part z) k)
       (rw (← f.args, args_length z, ← args_part z) a)
 
 pub encodes_refused :
-    {w : ℕ} {r : Reading} {e : Error} {out : List ℕ} → r ≡ refused e → Encodes w r out out (Encoded.Refused e)
+    {w : ℕ} {r : Reading} {e : Error} {out : List ℕ} → r ≡ refused e → Encodes w r out out (Err e)
 unfolding bytes_over
 encodes_refused h = rw h (record { answers = refl; bytes = refl })
 
 -- what `put` leaves of a tree's two arrays is what `encode` leaves of the tree
 pub puts_type :
-    (t : DataType) {w : ℕ} {ks xs out out' : List ℕ} {a : Encoded} → ks ≡ kinds_of t → xs ≡ args_of t
+    (t : DataType) {w : ℕ} {ks xs out out' : List ℕ} {a : Result ℕ Error} → ks ≡ kinds_of t → xs ≡ args_of t
     → Puts w ks xs out out' a → Encodes w (fitting_bytes w (length out) (type t)) out out' a
 unfolding fitting_bytes bytes_over
 puts_type t {w} {ks} {xs} {out} {out'} {a} k x p =
@@ -226,7 +234,7 @@ puts_type t {w} {ks} {xs} {out} {out'} {a} k x p =
     go (leb (encoded_size w (size t)) (length out)) (rw n at p.answers) (rw (n, k, x) at p.bytes)
   where
     go :
-        (b : Bool) → a ≡ cond b (Encoded.Bytes (encoded_size w (size t))) (Encoded.Refused OutputTooShort)
+        (b : Bool) → a ≡ cond b (Ok (encoded_size w (size t))) (Err OutputTooShort)
         → out' ≡ cond b (over (encoding w (kinds_of t) (args_of t)) out) out
         → Encodes w (unless b OutputTooShort (type t)) out out' a
     go true e f = record { answers = e; bytes = f }

@@ -3,53 +3,20 @@
 use mathlib.Core.Path.{◌≡◌, refl, sym, ap, ◌∙◌}
 use mathlib.Core.List.{List, [], ◌∷◌, ◌++◌, append_assoc, append-nil}
 use Prim.Native.Nat.{ℕ, zero, suc, ◌+◌, ◌-◌, ◌*◌, ◌/◌, ◌%◌, ◌^◌, ◌≤◌, ◌<◌}
-use native.Mathlib.Nat.{zero-add, zero-mul, suc-mul, add_comm, add-suc, pow-suc, mul_comm, add-mul, one-mul}
-use native.Mathlib.Nat.{div-lt_iff_lt-mul}
+use native.Mathlib.Nat.{zero-mul, suc-mul, add_comm, add-suc, pow-suc, mul_comm, add-mul, one-mul}
+use native.Mathlib.Nat.{div-lt_iff_lt-mul, div-one, div-div-eq-div-mul}
 use native.Mathlib.Numerals.{add-one}
 use native.Mathlib.Omega.{arith}
 use lib.Dec.{lit<}
-use lib.ListN.{length, get_or, take, drop, set, length-append, length-take, length-drop, length-set, take-append-drop}
-use lib.Seq.{drop-cons, drop-drop, drop-length, length-take-le, take_at, take-add, take-length, drop_at, paste-suc}
+use lib.ListN.{length, get_or, take, drop, length-append, length-take, length-drop, take-append-drop}
+use lib.Seq.{drop-cons, drop-drop, length-take-le, take_at, drop_at}
 use lib.Seq.{ext_get_or, get_or-take, get_or-drop}
-use borrow.Author.Rules.{part_to_end}
+use borrow.Rule.Slice.PartMut.{put_mid}
+use Rattle.std.proofs.lemmas.List.{take_all}
+use Rattle.std.proofs.lemmas.Slice.{take-put_mid}
 use Rattle.encoded.specs.Encoding.{little_endian, number, arg_bytes, args_from, encoding, encoded_size}
 use Rattle.encoded.specs.RoundTrip.{Below}
-
--- ---- a list that is written from the front
-
--- The first i elements of s were written over the front of d, which is d' now.
-pub record Copied (s d d' : List ℕ) (i : ℕ) : Type 0 where
-  pub here : i ≤ length s
-  pub even : length d' ≡ length d
-  pub is : d' ≡ take i s ++ drop i d
-
-pub copied_none : {s d : List ℕ} → Copied s d d 0
-copied_none = record { here = omega arith; even = refl; is = refl }
-
-module _ {s d d' : List ℕ} {i : ℕ} (c : Copied s d d' i) where
-  pub copied_one : {v : ℕ} → i < length s → i < length d → v ≡ get_or s i 0 → Copied s d (set d' i v) (i + 1)
-  copied_one h k e =
-      record {
-        here = omega arith;
-        even = simp length-set c.even;
-        is = rw (e, c.is, add-one) (simp zero-add at (paste-suc d 0 s i 0 (omega arith) h));
-      }
-
-  pub copied_all : length s ≤ i → d' ≡ s ++ drop (length s) d
-  copied_all h = let end : i ≡ length s = omega arith in rw (c.is, end, take-length)
-
--- nothing stands past a part that goes to the end
-rest_none : (d : List ℕ) (at : ℕ) → drop (length d - at) (drop at d) ≡ []
-rest_none d at = rw (← length-drop, drop-length)
-
--- a list d that is p and then what is left of q, whose part from the end of p on is lent and comes back as y, with b
--- at its front: b follows p
-pub write_next :
-    (d p q b y : List ℕ) (at k : ℕ) → d ≡ p ++ drop at q → length p ≡ at
-    → y ≡ b ++ drop k (take (length d - at) (drop at d))
-    → take at d ++ (y ++ drop (length d - at) (drop at d)) ≡ (p ++ b) ++ drop (at + k) q
-write_next d p q b y at k e n f =
-    rw (rest_none, f, part_to_end, append-nil, e, take_at, drop_at, drop-drop, append_assoc)
+use Rattle.std.specs.Int.{bytes_low_first}
 
 -- ---- numbers as bytes
 
@@ -70,6 +37,17 @@ unfolding number
 number_bytes zero s at k h = refl
 number_bytes (suc w) s at k h =
     rw (drop-cons s (at + k) 0 (omega arith), ← add-suc, number_bytes w s at (suc k) (omega arith))
+
+-- the library's bytes, from byte i upward, are those of what is left of v
+low_first : (i w v : ℕ) → bytes_low_first i w v ≡ little_endian w (v / 256 ^ i)
+unfolding little_endian
+low_first i zero v = refl
+low_first zero (suc w) v = rw (low_first 1 w v, div-one) refl
+low_first (suc i) (suc w) v = rw (low_first (suc (suc i)) w v, pow-suc 256 (suc i), ← div-div-eq-div-mul) refl
+
+-- those that `to_le_bytes` gives
+pub le_bytes : (w v : ℕ) → bytes_low_first 0 w v ≡ little_endian w v
+le_bytes w v = rw low_first (ap (little_endian w) (div-one v))
 
 pub little_endian_length : (w v : ℕ) → length (little_endian w v) ≡ w
 unfolding little_endian
@@ -116,6 +94,15 @@ args_from_at w zero bs i h = absurd (omega arith)
 args_from_at w (suc n) bs zero h = rw zero-mul
 args_from_at w (suc n) bs (suc i) h = rw (args_from_at w n (drop w bs) i (omega arith), drop-drop, suc-mul, add_comm w)
 
+-- n arguments that were read each from its own w bytes
+pub args_read_all :
+    (n : ℕ) (bs xs : List ℕ) → length xs ≡ n
+    → ((k : ℕ) → k < length xs → get_or xs k 0 ≡ number (take 8 (drop (8 * k) bs))) → xs ≡ args_from 8 n bs
+args_read_all n bs xs e f =
+    ext_get_or 0 _ _ (e ∙ sym (args_from_length 8 n bs))
+    (λ i h. let k : i < n = omega arith in
+    f i h ∙ ap (λ (j : ℕ). number (take 8 (drop j bs))) (mul_comm 8 i) ∙ sym (args_from_at 8 n bs i k))
+
 pub arg_bytes_length : (w : ℕ) (xs : List ℕ) → length (arg_bytes w xs) ≡ length xs * w
 unfolding arg_bytes
 arg_bytes_length w [] = sym (zero-mul w)
@@ -131,25 +118,31 @@ arg_bytes_at w (a ∷ xs) (suc i) h =
     rw (suc-mul, add_comm (i * w) w, ← drop-drop (i * w) w)
     (simp (drop_at, little_endian_length) (arg_bytes_at w xs i (omega arith)))
 
--- the bytes of the arguments xs were written up to the i-th: one argument more, to the part of d' that was lent
+-- the bytes of one argument more
+arg_bytes_more :
+    (w : ℕ) (xs : List ℕ) (i : ℕ) → i < length xs
+    → arg_bytes w (take (suc i) xs) ≡ arg_bytes w (take i xs) ++ little_endian w (get_or xs i 0)
+unfolding arg_bytes
+arg_bytes_more w [] i h = absurd (omega arith)
+arg_bytes_more w (a ∷ xs) zero h = append-nil (little_endian w a)
+arg_bytes_more w (a ∷ xs) (suc i) h =
+    ap (λ (l : List ℕ). little_endian w a ++ l) (arg_bytes_more w xs i (omega arith)) ∙ sym (append_assoc (little_endian w a) _ _)
+
+-- the first i arguments were written to the front of out, and then the next one was
 pub args_next :
-    (xs : List ℕ) (i : ℕ) {d d' y : List ℕ}
-    → Copied (arg_bytes 8 xs) d d' (i * 8)
-    → i < length xs
-    → y ≡ little_endian 8 (get_or xs i 0) ++ drop 8 (take (length d' - i * 8) (drop (i * 8) d'))
-    → length (take (i * 8) d' ++ (y ++ drop (length d' - i * 8) (drop (i * 8) d'))) ≡ length d'
-    → Copied (arg_bytes 8 xs) d (take (i * 8) d' ++ (y ++ drop (length d' - i * 8) (drop (i * 8) d'))) ((i + 1) * 8)
-args_next xs i {d} {d'} {y} c h e l =
-    let all = arg_bytes 8 xs in
-    let long = arg_bytes_length 8 xs in
-    let next : (i + 1) * 8 ≡ i * 8 + 8 = omega arith in
-    record {
-      here = omega arith;
-      even = l ∙ c.even;
-      is =
-          rw (next, take-add (i * 8) 8 all, arg_bytes_at 8 xs i h)
-          (write_next d' (take (i * 8) all) d (little_endian 8 (get_or xs i 0)) y (i * 8) 8 c.is (length-take-le (i * 8) all c.here) e);
-    }
+    (xs : List ℕ) (i : ℕ) (out : List ℕ) {ys : List ℕ} → i < length xs → 8 * i ≤ length out
+    → take (8 * i) out ≡ arg_bytes 8 (take i xs) → ys ≡ little_endian 8 (get_or xs i 0)
+    → take (8 * (i + 1)) (put_mid (8 * i) (8 * i + 8 - 8 * i) out ys) ≡ arg_bytes 8 (take (i + 1) xs)
+args_next xs i out {ys} h room e f =
+    let long : length ys ≡ 8 = ap length f ∙ little_endian_length 8 _ in
+    rw add-one
+    (take-put_mid (8 * i) (8 * i + 8 - 8 * i) out ys (8 * suc i) (omega arith) room ∙ rw (e, f) (sym (arg_bytes_more 8 xs i h)))
+
+-- all were written, and filled out
+pub args_written :
+    (xs : List ℕ) {i : ℕ} {out : List ℕ} → length xs ≤ i → length out ≤ 8 * i
+    → take (8 * i) out ≡ arg_bytes 8 (take i xs) → out ≡ arg_bytes 8 xs
+args_written xs {i} {out} h k e = sym (take_all (8 * i) out k) ∙ e ∙ ap (arg_bytes 8) (take_all i xs h)
 
 -- arguments that fit w bytes each are read back from them
 pub args_from_arg_bytes : (w : ℕ) (xs : List ℕ) → Below (256 ^ w) xs → args_from w (length xs) (arg_bytes w xs) ≡ xs
@@ -179,6 +172,12 @@ args_below w n bs f i h =
 
 -- ---- the whole
 
+-- d is p and then what is left of q; ys was written to it behind p
+write_next :
+    (p q : List ℕ) {d : List ℕ} (ys : List ℕ) (at k end : ℕ) → at + k ≡ end → d ≡ p ++ drop at q → length p ≡ at
+    → put_mid at k d ys ≡ (p ++ ys) ++ drop end q
+write_next p q ys at k end h e n = rw (e, take_at p _ at n, drop_at p _ at n, drop-drop, h, append_assoc)
+
 -- the count, the kinds and the arguments come to the size of n nodes
 pub size_parts : (w n : ℕ) → encoded_size w n ≡ 2 + n + n * w
 size_parts w n = rw (add-mul, one-mul, mul_comm w n) (omega arith)
@@ -195,3 +194,17 @@ pub encoding_over : (w : ℕ) (ks xs out : List ℕ) → length xs ≡ length ks
 unfolding encoding
 encoding_over w ks xs out e =
     rw (encoding_length w ks xs e, size_parts, e, append_assoc (little_endian 2 (length ks)) ks)
+
+-- the three parts, written to out one after the other
+pub put_parts :
+    (ks xs out : List ℕ) {h k x : List ℕ} → length ks ≡ length xs → h ≡ little_endian 2 (length ks) → k ≡ ks
+    → x ≡ arg_bytes 8 xs
+    → put_mid (2 + length ks) (2 + 9 * length ks - (2 + length ks)) (put_mid 2 (2 + length ks - 2) (h ++ drop 2 out) k) x
+    ≡ encoding 8 ks xs ++ drop (length (encoding 8 ks xs)) out
+put_parts ks xs out {h} {k} {x} e f g l =
+    let n = length ks in
+    let head : length h ≡ 2 = ap length f ∙ little_endian_length 2 n in
+    let two : put_mid 2 (2 + n - 2) (h ++ drop 2 out) k ≡ (h ++ k) ++ drop (2 + n) out = write_next h out k 2 (2 + n - 2) (2 + n) (omega arith) refl head in
+    let long : length (h ++ k) ≡ 2 + n = rw (length-append, head, g) in
+    let three : put_mid (2 + n) (2 + 9 * n - (2 + n)) (put_mid 2 (2 + n - 2) (h ++ drop 2 out) k) x ≡ ((h ++ k) ++ x) ++ drop (2 + n + length xs * 8) out = write_next (h ++ k) out x (2 + n) (2 + 9 * n - (2 + n)) (2 + n + length xs * 8) (omega arith) two long in
+    three ∙ rw (f, g, l) (encoding_over 8 ks xs out (sym e))

@@ -3,6 +3,7 @@ use mathlib.Core.Path.{◌≡◌, refl, sym, ap, ◌∙◌}
 use mathlib.Core.Bool.{Bool, true, false, ◌&&◌}
 use mathlib.Core.List.{List, [], ◌∷◌}
 use Prim.Native.Nat.{ℕ, ◌≤◌, ◌<◌}
+use Rattle.std.specs.Prelude.{Ok}
 use native.Mathlib.Omega.{arith}
 use borrow.Author.Rules.{part_to_end}
 use lib.ListN.{length, get_or, take, drop}
@@ -11,7 +12,7 @@ use Rattle.flat.specs.Kind
 use Rattle.flat.specs.Argument.{plain_leaf}
 use Rattle.flat.specs.Tree.{leaf, head_kind, head_arg}
 use Rattle.flat.specs.Reading.{type, one_plain, root_of, RootFits}
-use Rattle.flat.specs.declared.Root.{Root}
+use Rattle.flat.specs.declared.Node.{Node}
 use Rattle.flat.proofs.Truths.{both_true}
 use Rattle.flat.proofs.Plain.{kinds_told, plain_fits, PlainType, plain_type}
 use Rattle.encoded.specs.Encoding.{number, args_from, kinds_in, args_in, size_fits, decoding}
@@ -76,7 +77,11 @@ plain_bytes {w} {nodes} {s} e =
     }
 
 -- the root of a plain leaf
-pub plain_root : {w nodes : ℕ} (deep : ℕ) {s : List ℕ} → PlainBytes w nodes s
-    → (Root.Node (get_or s 2 0) 0 ≡ root_of (decoding w nodes deep s)) × RootFits (Root.Node (get_or s 2 0) 0)
+abbrev pub plain : List ℕ → Node
+plain s = record { kind = get_or s 2 0; arg = 0 }
+
+pub plain_root :
+    {w nodes : ℕ} (deep : ℕ) {s : List ℕ} → PlainBytes w nodes s
+    → (Ok (plain s) ≡ root_of (decoding w nodes deep s)) × RootFits (Ok (plain s))
 unfolding head_kind head_arg
 plain_root deep p = (ap root_of (sym (p.reads deep)), (omega (arith, p.low), (plain_fits _ _ p.plain).2))

@@ -4,6 +4,7 @@ use mathlib.Core.Path.{◌≡◌, refl, sym, ap, ap₂, ◌∙◌}
 use mathlib.Core.Bool.{Bool, true, false, ◌&&◌}
 use mathlib.Core.List.{List, ◌++◌}
 use Prim.Native.Nat.{ℕ, ◌+◌, ◌^◌, ◌≤◌, ◌<◌}
+use Rattle.std.specs.Prelude.{Result, Ok}
 use native.Mathlib.Omega.{arith}
 use borrow.Author.Tests.{le-leb}
 use lib.Dec.{leb}
@@ -12,13 +13,12 @@ use lib.Seq.{take_at, drop_at, drop-drop, length-take-le}
 use Rattle.flat.specs.Tree.{DataType, size, kinds_of, args_of}
 use Rattle.flat.specs.Reading.{Reading, refused, type, unless, reading, IsType}
 use Rattle.flat.specs.Output.{over, fitting, kinds_over, args_over, written_of, Writes}
-use Rattle.flat.specs.declared.Written.{Written}
+use Rattle.flat.specs.declared.error.Error.{Error}
 use Rattle.flat.specs.declared.error.Error.TheVariants.{OutputTooShort}
 use Rattle.flat.proofs.Truths.{impossible}
 use Rattle.flat.proofs.Sizes.{length_kinds, length_args, size_pos}
 use Rattle.flat.proofs.Meaning.{form_length, form_even, passes, holds, holds_form}
 use Rattle.flat.proofs.Outputs.{room}
-use Rattle.encoded.specs.declared.Encoded.{Encoded}
 use Rattle.encoded.specs.Encoding.{little_endian, arg_bytes, encoding, encoded_size, count_in, kinds_in, args_in}
 use Rattle.encoded.specs.Encoding.{size_fits, decoding}
 use Rattle.encoded.specs.Answer.{fitting_bytes, encoded_of, bytes_over, Encodes}
@@ -131,15 +131,15 @@ tree_bytes w t =
 -- `encode` answers the bytes of a type that it was given, where they have room; and where it answers in bytes, it was
 -- given a type, whose bytes stand at the front
 encode_gives :
-    (w : ℕ) (t : DataType) {out out' : List ℕ} {answer : Encoded} → encoded_size w (size t) ≤ length out
+    (w : ℕ) (t : DataType) {out out' : List ℕ} {answer : Result ℕ Error} → encoded_size w (size t) ≤ length out
     → Encodes w (fitting_bytes w (length out) (type t)) out out' answer
-    → (answer ≡ Encoded.Bytes (encoded_size w (size t))) × (out' ≡ over (encoding w (kinds_of t) (args_of t)) out)
+    → (answer ≡ Ok (encoded_size w (size t))) × (out' ≡ over (encoding w (kinds_of t) (args_of t)) out)
 unfolding fitting_bytes bytes_over
 encode_gives w t {out} h e = let fits = le-leb (encoded_size w (size t)) (length out) h in (rw fits at e.answers, rw fits at e.bytes)
 
 encode_tells :
     (w : ℕ) (r : Reading) {out out' : List ℕ} {n : ℕ}
-    → Encodes w (fitting_bytes w (length out) r) out out' (Encoded.Bytes n)
+    → Encodes w (fitting_bytes w (length out) r) out out' (Ok n)
     → (t : DataType) × (r ≡ type t) × (take n out' ≡ encoding w (kinds_of t) (args_of t))
 unfolding fitting_bytes bytes_over
 encode_tells w (refused d) e = let a = e.answers in impossible cc
@@ -147,7 +147,7 @@ encode_tells w (type t) {out} {out'} {n} e =
     (t, refl, go (leb (encoded_size w (size t)) (length out)) e.answers e.bytes)
   where
     go :
-        (b : Bool) → Encoded.Bytes n ≡ encoded_of w (unless b OutputTooShort (type t))
+        (b : Bool) → Ok n ≡ encoded_of w (unless b OutputTooShort (type t))
         → out' ≡ bytes_over w (unless b OutputTooShort (type t)) out → take n out' ≡ encoding w (kinds_of t) (args_of t)
     go true a o = let m : encoded_size w (size t) ≡ n = cc in rw o (take_at _ _ n (tree_bytes w t ∙ m))
     go false a o = impossible cc
@@ -155,22 +155,22 @@ encode_tells w (type t) {out} {out'} {n} e =
 -- `decode` answers the nodes of the type that its bytes are, where the arrays lent have room; and where it answers in
 -- nodes, the bytes are a type, which stands at the front
 decode_gives :
-    (t : DataType) {ks xs ks' xs' : List ℕ} {answer : Written} → size t ≤ length ks → size t ≤ length xs
+    (t : DataType) {ks xs ks' xs' : List ℕ} {answer : Result ℕ Error} → size t ≤ length ks → size t ≤ length xs
     → Writes (fitting (length ks) (length xs) (type t)) ks xs ks' xs' answer
-    → (answer ≡ Written.Nodes (size t)) × (ks' ≡ over (kinds_of t) ks) × (xs' ≡ over (args_of t) xs)
+    → (answer ≡ Ok (size t)) × (ks' ≡ over (kinds_of t) ks) × (xs' ≡ over (args_of t) xs)
 unfolding kinds_over args_over
 decode_gives t {ks} {xs} k x d = let fits = room (length ks) (length xs) t k x in (rw fits at d.answers, rw fits at d.kinds, rw fits at d.args)
 
 decode_tells :
     (r : Reading) {ks xs ks' xs' : List ℕ} {n : ℕ}
-    → Writes (fitting (length ks) (length xs) r) ks xs ks' xs' (Written.Nodes n)
+    → Writes (fitting (length ks) (length xs) r) ks xs ks' xs' (Ok n)
     → (t : DataType) × (r ≡ type t) × (take n ks' ≡ kinds_of t) × (take n xs' ≡ args_of t)
 unfolding fitting kinds_over args_over
 decode_tells (refused e) d = let a = d.answers in impossible cc
 decode_tells (type t) {ks} {xs} {ks'} {xs'} {n} d = let f = go (leb (size t) (length ks) && leb (size t) (length xs)) d.answers d.kinds d.args in (t, refl, f.0, f.1)
   where
     go :
-        (b : Bool) → Written.Nodes n ≡ written_of (unless b OutputTooShort (type t))
+        (b : Bool) → Ok n ≡ written_of (unless b OutputTooShort (type t))
         → ks' ≡ kinds_over (unless b OutputTooShort (type t)) ks → xs' ≡ args_over (unless b OutputTooShort (type t)) xs
         → (take n ks' ≡ kinds_of t) × (take n xs' ≡ args_of t)
     go true a k x = let m : size t ≡ n = cc in (rw k (take_at _ _ n (length_kinds t ∙ m)), rw x (take_at _ _ n (length_args t ∙ m)))
@@ -186,10 +186,10 @@ reads_back {w} {nodes} {deep} small wide = record {
       let f = holds_form h in
       let back : decoding w nodes deep (take n out') ≡ type t = rw front (type_back w nodes deep t small h.is_type (below_more (args_of t) wide (rw h.args at fit))) in
       let g = decode_gives t (omega (arith, form_length f)) (omega (arith, form_length f, form_even f)) (rw back at d) in
-      (g.0 ∙ ap Written.Nodes (sym (form_length f)), rw h.kinds g.1, rw h.args g.2);
+      (g.0 ∙ ap Ok (sym (form_length f)), rw h.kinds g.1, rw h.args g.2);
   decoded = λ s ks xs ks' xs' n bytes d out out' answer o e.
       let (t, r, k, x) = decode_tells (decoding w nodes deep s) d in
       let l : length s ≡ encoded_size w (size t) = (type_form t r).sized.size in
       let g = encode_gives w t (omega arith) (rw (k, x, passes nodes deep t (decoded_holds w nodes deep s t r).is_type) at e) in
-      (g.0 ∙ ap Encoded.Bytes (sym l), rw (type_bytes w nodes deep s t bytes r) at g.1);
+      (g.0 ∙ ap Ok (sym l), rw (type_bytes w nodes deep s t bytes r) at g.1);
 }

@@ -9,12 +9,10 @@ ghost use Rattle.std.specs.Prelude.{◌≡◌, ◌≤◌, length};
 ghost use Rattle.flat.specs.Reading.{checked_of, root_of, RootFits};
 ghost use Rattle.flat.specs.Output.{over};
 ghost use Rattle.encoded.specs.Encoding.{args_in, decoding};
-ghost use Rattle.encoded.specs.Found.{encoded_found};
-ghost use Rattle.encoded.specs.Answer.{nodes_in, plain_in, encoded_number, encoded_value};
-ghost use Rattle.encoded.specs.Answer.{Opens, EncodeEnsures, DecodeEnsures, Puts};
+ghost use Rattle.encoded.specs.Answer.{nodes_in, plain_in, Opens, EncodeEnsures, DecodeEnsures, Puts};
 
 use flat::error::Error;
-use flat::{Checked, Flat, Optional, Root, Written, argument};
+use flat::{Flat, Node, argument};
 
 // The layout of an encoded type.
 #[derive(Clone, Copy)]
@@ -32,46 +30,8 @@ impl Encoding {
     pub const SOME: usize = 64;
 }
 
-// What encoding answers: the number of bytes written.
-#[derive(Clone, Copy)]
-pub enum Encoded {
-    Bytes(usize),
-    Refused(Error),
-}
-
-impl Encoded {
-    // Document 01's number.
-    pub fn number(self) -> u64
-        ensures { result ≡ encoded_number self }
-    {
-        match self {
-            Encoded::Bytes(_) => 0,
-            Encoded::Refused(e) => e.number(),
-        }
-    }
-
-    // The value beside the number.
-    pub fn value(self) -> u64
-        ensures { result ≡ encoded_value self }
-    {
-        match self {
-            Encoded::Bytes(n) => n as u64,
-            Encoded::Refused(_) => 0,
-        }
-    }
-
-    // The answer of a call that may find nothing, where it encoded what it found.
-    pub fn found(self) -> Optional
-        ensures { result ≡ encoded_found self }
-    {
-        match self {
-            Encoded::Bytes(n) => Optional::Some(n),
-            Encoded::Refused(e) => Optional::Refused(e),
-        }
-    }
-}
-
 // How many nodes an encoded type has; 0 where its length is not that of any.
+#[tactic(auto, unfolding(crate::specs::Answer::nodes_in, crate::specs::Encoding::size_fits))]
 pub fn node_count(encoded: &[u8]) -> usize
     ensures { result ≡ nodes_in Encoding.ARGUMENT_BYTES Flat.MAX_NODES encoded.now }
 {
@@ -79,13 +39,7 @@ pub fn node_count(encoded: &[u8]) -> usize
         return 0;
     }
     let n = bytes::count(encoded);
-    if n == 0 {
-        return 0;
-    }
-    if n > Flat::MAX_NODES {
-        return 0;
-    }
-    if encoded.len() != 2 + (Encoding::ARGUMENT_BYTES + 1) * n {
+    if n == 0 || n > Flat::MAX_NODES || encoded.len() != 2 + (Encoding::ARGUMENT_BYTES + 1) * n {
         return 0;
     }
     n
@@ -95,14 +49,11 @@ pub fn node_count(encoded: &[u8]) -> usize
 pub fn is_plain(encoded: &[u8]) -> bool
     ensures { result ≡ plain_in Encoding.ARGUMENT_BYTES Flat.MAX_NODES encoded.now }
 {
-    if node_count(encoded) != 1 {
-        return false;
-    }
-    argument::is_plain(encoded[2], bytes::word(encoded, 3))
+    node_count(encoded) == 1 && argument::is_plain(encoded[2], bytes::word(encoded, 3))
 }
 
 // Checks an encoded type of n nodes, with room for its arguments.
-fn check_with(encoded: &[u8], n: usize, args: &mut [u64]) -> Checked
+fn check_with(encoded: &[u8], n: usize, args: &mut [u64]) -> Result<(), Error>
     requires { let counted = nodes_in Encoding.ARGUMENT_BYTES Flat.MAX_NODES encoded.now in
         let room = length args.old in
         (n ≡ counted) × (n ≡ 0 → ⊥) × (n ≤ room) }
@@ -111,71 +62,72 @@ fn check_with(encoded: &[u8], n: usize, args: &mut [u64]) -> Checked
         (result ≡ checked_of (decoding Encoding.ARGUMENT_BYTES Flat.MAX_NODES Flat.MAX_DEPTH s)) × (args.new ≡ read) }
 {
     let m = 2 + n;
-    bytes::read_args(&encoded[m..], n, args);
+    bytes::read_args(&encoded[m..], &mut args[..n]);
     flat::check(&encoded[2..m], &args[..n])
 }
 
+// Checks an encoded type of n nodes, with an array of its own for at most N arguments.
+fn check_in<const N: usize>(encoded: &[u8], n: usize) -> Result<(), Error>
+    requires { let counted = nodes_in Encoding.ARGUMENT_BYTES Flat.MAX_NODES encoded.now in
+        (n ≡ counted) × (n ≡ 0 → ⊥) × (n ≤ N) × (N ≤ Flat.MAX_NODES) }
+    ensures { let is = decoding Encoding.ARGUMENT_BYTES Flat.MAX_NODES Flat.MAX_DEPTH encoded.now in
+        result ≡ checked_of is }
+{
+    let mut args = [0u64; N];
+    check_with(encoded, n, &mut args)
+}
+
 // Whether bytes are an encoded type, of any number of nodes.
-fn check_nodes(encoded: &[u8]) -> Checked
+fn check_nodes(encoded: &[u8]) -> Result<(), Error>
     ensures { let is = decoding Encoding.ARGUMENT_BYTES Flat.MAX_NODES Flat.MAX_DEPTH encoded.now in
         result ≡ checked_of is }
 {
     let n = node_count(encoded);
     if n == 0 {
-        return Checked::Refused(Error::Length);
+        return Err(Error::Length);
     }
     if n <= Encoding::FEW {
-        let mut few = [0u64; Encoding::FEW];
-        return check_with(encoded, n, &mut few);
+        return check_in::<{ Encoding::FEW }>(encoded, n);
     }
     if n <= Encoding::SOME {
-        let mut some = [0u64; Encoding::SOME];
-        return check_with(encoded, n, &mut some);
+        return check_in::<{ Encoding::SOME }>(encoded, n);
     }
-    let mut many = [0u64; Flat::MAX_NODES];
-    check_with(encoded, n, &mut many)
+    check_in::<{ Flat::MAX_NODES }>(encoded, n)
 }
 
 // Whether bytes are an encoded type.
-pub fn check(encoded: &[u8]) -> Checked
+pub fn check(encoded: &[u8]) -> Result<(), Error>
     ensures { let is = decoding Encoding.ARGUMENT_BYTES Flat.MAX_NODES Flat.MAX_DEPTH encoded.now in
         result ≡ checked_of is }
 {
     if is_plain(encoded) {
-        return Checked::Valid;
+        return Ok(());
     }
-    check_nodes(&encoded[0..])
+    check_nodes(encoded)
 }
 
 // Decodes a type to the front of kinds and args: refusals 1 to 5, then 8.
-pub fn decode(encoded: &[u8], kinds: &mut [u8], args: &mut [u64]) -> Written
+pub fn decode(encoded: &[u8], kinds: &mut [u8], args: &mut [u64]) -> Result<usize, Error>
     ensures { let s = encoded.now in
         let ks = kinds.old in
         let xs = args.old in
         DecodeEnsures Encoding.ARGUMENT_BYTES Flat.MAX_NODES Flat.MAX_DEPTH s ks xs kinds.new args.new result }
 {
-    match check(encoded) {
-        Checked::Refused(e) => Written::Refused(e),
-        Checked::Valid => {
-            let n = bytes::count(encoded);
-            if kinds.len() < n {
-                return Written::Refused(Error::OutputTooShort);
-            }
-            if args.len() < n {
-                return Written::Refused(Error::OutputTooShort);
-            }
-            let m = 2 + n;
-            bytes::copy(&encoded[2..m], kinds);
-            bytes::read_args(&encoded[m..], n, args);
-            Written::Nodes(n)
-        }
+    check(encoded)?;
+    let n = bytes::count(encoded);
+    if kinds.len() < n || args.len() < n {
+        return Err(Error::OutputTooShort);
     }
+    let m = 2 + n;
+    kinds[..n].copy_from_slice(&encoded[2..m]);
+    bytes::read_args(&encoded[m..], &mut args[..n]);
+    Ok(n)
 }
 
 // Checks an encoded type and reads its arguments to the front of args: refusals 1 to 5. Its kinds stay where they
 // are, `&encoded[2..2 + n]`. Not an entry point, but a helper for the crates here, which lend it arrays of their own:
 // it asks for room, and it reads the arguments before it checks them, so a refusal can leave args changed.
-pub fn open(encoded: &[u8], args: &mut [u64]) -> Written
+pub fn open(encoded: &[u8], args: &mut [u64]) -> Result<usize, Error>
     requires { let counted = nodes_in Encoding.ARGUMENT_BYTES Flat.MAX_NODES encoded.now in
         counted ≤ length args.old }
     ensures { let s = encoded.now in
@@ -184,38 +136,40 @@ pub fn open(encoded: &[u8], args: &mut [u64]) -> Written
 {
     let n = node_count(encoded);
     if n == 0 {
-        return Written::Refused(Error::Length);
+        return Err(Error::Length);
     }
-    match check_with(encoded, n, args) {
-        Checked::Valid => Written::Nodes(n),
-        Checked::Refused(e) => Written::Refused(e),
-    }
+    check_with(encoded, n, args)?;
+    Ok(n)
 }
 
 // The root of bytes that are not one plain leaf.
-fn root_of(encoded: &[u8]) -> Root
+fn root_of(encoded: &[u8]) -> Result<Node, Error>
     ensures { let is = decoding Encoding.ARGUMENT_BYTES Flat.MAX_NODES Flat.MAX_DEPTH encoded.now in
         (result ≡ root_of is) × RootFits result }
 {
-    match check_nodes(encoded) {
-        Checked::Refused(e) => Root::Refused(e),
-        Checked::Valid => Root::Node(encoded[2], bytes::word(encoded, 2 + node_count(encoded))),
-    }
+    check_nodes(encoded)?;
+    Ok(Node {
+        kind: encoded[2],
+        arg: bytes::word(encoded, 2 + node_count(encoded)),
+    })
 }
 
 // Checks an encoded type, and gives its root: refusals 1 to 5.
-pub fn check_root(encoded: &[u8]) -> Root
+pub fn check_root(encoded: &[u8]) -> Result<Node, Error>
     ensures { let is = decoding Encoding.ARGUMENT_BYTES Flat.MAX_NODES Flat.MAX_DEPTH encoded.now in
         (result ≡ root_of is) × RootFits result }
 {
     if is_plain(encoded) {
-        return Root::Node(encoded[2], 0);
+        return Ok(Node {
+            kind: encoded[2],
+            arg: 0,
+        });
     }
-    root_of(&encoded[0..])
+    root_of(encoded)
 }
 
 // Encodes two arrays, which it doesn't check, to the front of out, unless that is too short: refusal 8.
-pub fn put(kinds: &[u8], args: &[u64], out: &mut [u8]) -> Encoded
+pub fn put(kinds: &[u8], args: &[u64], out: &mut [u8]) -> Result<usize, Error>
     requires { let n = length kinds.now in
         (n ≡ length args.now) × (n ≤ Flat.MAX_NODES) }
     ensures { let ks = kinds.now in
@@ -225,23 +179,21 @@ pub fn put(kinds: &[u8], args: &[u64], out: &mut [u8]) -> Encoded
     let n = kinds.len();
     let size = 2 + (Encoding::ARGUMENT_BYTES + 1) * n;
     if out.len() < size {
-        return Encoded::Refused(Error::OutputTooShort);
+        return Err(Error::OutputTooShort);
     }
     let m = 2 + n;
-    bytes::put_count(out, n);
-    bytes::copy(kinds, &mut out[2..]);
-    bytes::write_args(args, &mut out[m..]);
-    Encoded::Bytes(size)
+    out[..2].copy_from_slice(&(n as u16).to_le_bytes());
+    out[2..m].copy_from_slice(kinds);
+    bytes::write_args(args, &mut out[m..size]);
+    Ok(size)
 }
 
 // Encodes a flat type to the front of out: refusals 1 to 5, then 8.
-pub fn encode(kinds: &[u8], args: &[u64], out: &mut [u8]) -> Encoded
+pub fn encode(kinds: &[u8], args: &[u64], out: &mut [u8]) -> Result<usize, Error>
     ensures { let ks = kinds.now in
         let xs = args.now in
         EncodeEnsures Encoding.ARGUMENT_BYTES Flat.MAX_NODES Flat.MAX_DEPTH ks xs out.old out.new result }
 {
-    match flat::check(kinds, args) {
-        Checked::Valid => put(kinds, args, out),
-        Checked::Refused(e) => Encoded::Refused(e),
-    }
+    flat::check(kinds, args)?;
+    put(kinds, args, out)
 }

@@ -1,5 +1,4 @@
 -- Laws of the calls on one encoded type: what stands where its bytes were opened, and what the answers come to.
-mod Opening
 mod Asking
 mod Parts
 mod Forms

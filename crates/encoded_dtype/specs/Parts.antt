@@ -1,19 +1,23 @@
--- The parts of a type that a call finds. Assumes nothing: these are definitions.
-use Rattle.std.specs.Prelude.{List, ℕ}
-use Rattle.std.proofs.Math.Option.{Option, some}
-use Rattle.flat.specs.Tree.{DataType}
-use Rattle.dtype_inner.specs.Inner.{inner_dtype, leaf_dtype, array_leaf_dtype}
-use Rattle.dtype_inner.specs.Nodes.{inner_nodes, leaf_nodes, array_leaf_nodes}
-use Rattle.encoded_dtype.specs.declared.Part.{Part}
+-- The part of a type that its last nodes are. Assumes nothing: these are definitions.
+use Rattle.std.specs.Prelude.{◌≡◌, ℕ, ◌≤◌}
+use Rattle.std.specs.Prelude.{Option, None, Some, unwrap_or}
+use Rattle.flat.specs.Tree.{DataType, size, kinds_of, args_of}
+use Rattle.flat.specs.Reader.{map_o}
+use Rattle.flat.specs.Reading.{Reading, refused, type}
+use Rattle.dtype_inner.specs.Part.{part_kinds, part_args, Last}
 
--- the part of a type
-abbrev pub part_of : Part → DataType → Option DataType
-part_of Part.Inner = inner_dtype
-part_of Part.Leaf = λ t. some (leaf_dtype t)
-part_of Part.ArrayLeaf = array_leaf_dtype
+-- there are so many nodes
+abbrev pub NoMoreThan : ℕ → Option ℕ → Type 0
+NoMoreThan n None = Unit {0}
+NoMoreThan n (Some m) = m ≤ n
 
--- its number of nodes, by the type's kinds
-unfoldable pub part_nodes : Part → List ℕ → ℕ
-part_nodes Part.Inner = inner_nodes
-part_nodes Part.Leaf = leaf_nodes
-part_nodes Part.ArrayLeaf = array_leaf_nodes
+-- What is found in t, if something is, has so many nodes: the last ones of t.
+pub record LastOf (t : DataType) (o : Option DataType) (nodes : Option ℕ) : Type 0 where
+  pub count : nodes ≡ map_o size o
+  pub kinds : Last (unwrap_or nodes 0) (kinds_of t) (part_kinds o)
+  pub args : Last (unwrap_or nodes 0) (args_of t) (part_args o)
+
+-- where there is a type, so many of its last nodes are the part
+abbrev pub EndsIn : (DataType → Option DataType) → Option ℕ → Reading → Type 0
+EndsIn part nodes (refused e) = Unit {0}
+EndsIn part nodes (type t) = LastOf t (part t) nodes

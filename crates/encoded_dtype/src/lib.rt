@@ -2,240 +2,213 @@
 // in anew.
 #![tactic(auto)]
 
-ghost use Rattle.std.specs.Prelude.{◌≡◌, ◌≤◌, length};
+ghost use Rattle.std.specs.Prelude.{◌≡◌, ◌≤◌, ℕ, Option, Some, length, take, drop};
+ghost use Rattle.flat.specs.Tree.{DataType};
 ghost use Rattle.flat.specs.Reading.{type};
 ghost use Rattle.encoded.specs.Encoding.{decoding};
-ghost use Rattle.encoded.specs.Answer.{nodes_in, args_opened, fitting_bytes, Encodes};
+ghost use Rattle.encoded.specs.Answer.{nodes_in, fitting_bytes, Encodes};
+ghost use Rattle.encoded.specs.Found.{fitting_found_bytes, EncodesFound};
 ghost use Rattle.dtype.specs.Answer.{answer_of};
 ghost use Rattle.dtype.specs.Predicates.{predicate_of};
+ghost use Rattle.dtype_inner.specs.Inner.{inner_dtype, leaf_dtype, array_leaf_dtype};
+ghost use Rattle.dtype_inner.specs.Part.{part_reading};
 ghost use Rattle.dtype_inner.specs.Shape.{shape_of};
 ghost use Rattle.dtype_build.specs.Build.{materialized, physical};
-ghost use Rattle.dtype_build.specs.Leaf.{leaf_of};
-ghost use Rattle.encoded.specs.Found.{fitting_found_bytes, EncodesFound};
-ghost use Rattle.dtype_inner.specs.Part.{part_reading};
-ghost use Rattle.encoded_dtype.specs.Parts.{part_of, part_nodes};
-ghost use Rattle.encoded_dtype.specs.Forms.{form_of, RoomFor, EncodesForm};
+ghost use Rattle.dtype_build.specs.Leaf.{leaf_with};
+ghost use Rattle.encoded_dtype.specs.Parts.{NoMoreThan, EndsIn};
+ghost use Rattle.encoded_dtype.specs.Forms.{form_of};
 
-use dtype::answer::{Answer, yes_no};
 use dtype::predicate::{Predicate, told_by};
 use dtype_build::any_refused;
-use dtype_build::leaf::{Form, kind_form};
+use dtype_build::leaf::{Form, Materialized, Physical};
 use dtype_build::walk::node_form;
 use dtype_inner::Shape;
-use encoded::{Encoded, Encoding};
+use encoded::Encoding;
 use flat::error::Error;
-use flat::{Checked, Flat, Optional, Written};
+use flat::{Flat, Node};
+
+// The kinds of an encoded type, where they stand; none where its length is not that of any.
+fn kinds(encoded: &[u8]) -> &[u8]
+    ensures { let n = nodes_in Encoding.ARGUMENT_BYTES Flat.MAX_NODES encoded.now in
+        result.now ≡ take n (drop 2 encoded.now) }
+{
+    let n = encoded::node_count(encoded);
+    if n == 0 {
+        return &[];
+    }
+    &encoded[2..2 + n]
+}
 
 // What a predicate says of any type, told by the kinds where they stand.
-fn ask_nodes(p: Predicate, encoded: &[u8]) -> Answer
+fn ask_nodes(p: Predicate, encoded: &[u8]) -> Result<bool, Error>
     ensures { result ≡ answer_of (predicate_of p)
         (decoding Encoding.ARGUMENT_BYTES Flat.MAX_NODES Flat.MAX_DEPTH encoded.now) }
 {
-    match encoded::check(encoded) {
-        Checked::Valid => {
-            let n = encoded::node_count(encoded);
-            yes_no(told_by(p, &encoded[2..2 + n]))
-        }
-        Checked::Refused(e) => Answer::Refused(e),
-    }
+    encoded::check(encoded)?;
+    Ok(told_by(p, kinds(encoded)))
 }
 
 // What a predicate says of the type: refusals 1 to 5.
-pub fn ask(p: Predicate, encoded: &[u8]) -> Answer
+pub fn ask(p: Predicate, encoded: &[u8]) -> Result<bool, Error>
     ensures { result ≡ answer_of (predicate_of p)
         (decoding Encoding.ARGUMENT_BYTES Flat.MAX_NODES Flat.MAX_DEPTH encoded.now) }
 {
     if encoded::is_plain(encoded) {
-        return yes_no(told_by(p, &encoded[2..3]));
+        return Ok(told_by(p, &encoded[2..3]));
     }
-    ask_nodes(p, &encoded[0..])
+    ask_nodes(p, encoded)
 }
 
-// Which part: the inner type, the leaf type, or the type under an Array's consecutive Arrays.
-#[derive(Clone, Copy)]
-pub enum Part {
-    Inner,
-    Leaf,
-    ArrayLeaf,
-}
-
-// How many nodes the part has, of a type of these kinds; 0 where there is none.
-fn part_nodes(part: Part, kinds: &[u8]) -> usize
-    ensures { result ≡ part_nodes part kinds.now }
+// Encodes the last nodes of a type, so many of them, with an array of its own for at most N arguments.
+fn put_last_in<const N: usize>(
+    encoded: &[u8],
+    nodes: Option<usize>,
+    out: &mut [u8],
+) -> Result<Option<usize>, Error>
+    requires { let counted = nodes_in Encoding.ARGUMENT_BYTES Flat.MAX_NODES encoded.now in
+        NoMoreThan counted nodes × (counted ≤ N) × (N ≤ Flat.MAX_NODES) }
+    ensures { let is = decoding Encoding.ARGUMENT_BYTES Flat.MAX_NODES Flat.MAX_DEPTH encoded.now in
+        (part : DataType → Option DataType) → EndsIn part nodes is
+        → EncodesFound Encoding.ARGUMENT_BYTES
+        (fitting_found_bytes Encoding.ARGUMENT_BYTES (length out.old) (part_reading part is)) out.old out.new result }
 {
-    match part {
-        Part::Inner => dtype_inner::inner_nodes(kinds),
-        Part::Leaf => dtype_inner::leaf_nodes(kinds),
-        Part::ArrayLeaf => dtype_inner::array_leaf_nodes(kinds),
-    }
+    let mut args = [0u64; N];
+    let n = encoded::open(encoded, &mut args)?;
+    let Some(last) = nodes else {
+        return Ok(None);
+    };
+    let kinds = &encoded[2..2 + n];
+    let values = &args[..n];
+    let at = n - last;
+    Ok(Some(encoded::put(&kinds[at..], &values[at..], out)?))
 }
 
-// Encodes the part, which stands at the type's end, to the front of out.
-fn part_in(part: Part, encoded: &[u8], args: &mut [u64], out: &mut [u8]) -> Optional
-    requires { nodes_in Encoding.ARGUMENT_BYTES Flat.MAX_NODES encoded.now ≤ length args.old }
-    ensures { let part = part_reading (part_of part)
-        (decoding Encoding.ARGUMENT_BYTES Flat.MAX_NODES Flat.MAX_DEPTH encoded.now) in
-        let fitting = fitting_found_bytes Encoding.ARGUMENT_BYTES (length out.old) part in
-        let left = args_opened Encoding.ARGUMENT_BYTES Flat.MAX_NODES encoded.now args.old in
-        EncodesFound Encoding.ARGUMENT_BYTES fitting out.old out.new result × (args.new ≡ left) }
+// Encodes the last nodes of a type, so many of them, to the front of out: refusals 1 to 5, then 8. They are what its
+// part is, whichever that is.
+fn put_last(encoded: &[u8], nodes: Option<usize>, out: &mut [u8]) -> Result<Option<usize>, Error>
+    requires { NoMoreThan (nodes_in Encoding.ARGUMENT_BYTES Flat.MAX_NODES encoded.now) nodes }
+    ensures { let is = decoding Encoding.ARGUMENT_BYTES Flat.MAX_NODES Flat.MAX_DEPTH encoded.now in
+        (part : DataType → Option DataType) → EndsIn part nodes is
+        → EncodesFound Encoding.ARGUMENT_BYTES
+        (fitting_found_bytes Encoding.ARGUMENT_BYTES (length out.old) (part_reading part is)) out.old out.new result }
 {
-    match encoded::open(encoded, args) {
-        Written::Nodes(n) => {
-            let kinds = &encoded[2..2 + n];
-            let values = &args[..n];
-            let m = part_nodes(part, kinds);
-            if m == 0 {
-                return Optional::Nothing;
-            }
-            let at = n - m;
-            encoded::put(&kinds[at..], &values[at..], out).found()
-        }
-        Written::Refused(e) => Optional::Refused(e),
+    if encoded::node_count(encoded) <= Encoding::FEW {
+        return put_last_in::<{ Encoding::FEW }>(encoded, nodes, out);
     }
+    put_last_in::<{ Flat::MAX_NODES }>(encoded, nodes, out)
 }
 
-// Encodes a part of the type to the front of out: refusals 1 to 5, then 8. None where the type has no such part.
-pub fn part_of(part: Part, encoded: &[u8], out: &mut [u8]) -> Optional
-    ensures { let part = part_reading (part_of part)
+// Encodes the type under a List or an Array to the front of out: refusals 1 to 5, then 8. None where there is none.
+pub fn inner_dtype(encoded: &[u8], out: &mut [u8]) -> Result<Option<usize>, Error>
+    ensures { let part = part_reading inner_dtype
         (decoding Encoding.ARGUMENT_BYTES Flat.MAX_NODES Flat.MAX_DEPTH encoded.now) in
         let fitting = fitting_found_bytes Encoding.ARGUMENT_BYTES (length out.old) part in
         EncodesFound Encoding.ARGUMENT_BYTES fitting out.old out.new result }
 {
-    if encoded::node_count(encoded) <= Encoding::FEW {
-        let mut args = [0u64; Encoding::FEW];
-        return part_in(part, encoded, &mut args, out);
-    }
-    let mut args = [0u64; Flat::MAX_NODES];
-    part_in(part, encoded, &mut args, out)
+    let nodes = dtype_inner::inner_nodes(kinds(encoded));
+    put_last(encoded, nodes, out)
 }
 
-// The shape, with an array that has room for the arguments.
-fn shape_in(encoded: &[u8], args: &mut [u64]) -> Shape
-    requires { nodes_in Encoding.ARGUMENT_BYTES Flat.MAX_NODES encoded.now ≤ length args.old }
-    ensures { let left = args_opened Encoding.ARGUMENT_BYTES Flat.MAX_NODES encoded.now args.old in
-        (result ≡ shape_of Flat.MAX_DEPTH (decoding Encoding.ARGUMENT_BYTES Flat.MAX_NODES Flat.MAX_DEPTH encoded.now))
-        × (args.new ≡ left) }
+// Encodes the type under all Lists and Arrays to the front of out: refusals 1 to 5, then 8.
+pub fn leaf_dtype(encoded: &[u8], out: &mut [u8]) -> Result<Option<usize>, Error>
+    ensures { let part = part_reading (λ t. Some (leaf_dtype t))
+        (decoding Encoding.ARGUMENT_BYTES Flat.MAX_NODES Flat.MAX_DEPTH encoded.now) in
+        let fitting = fitting_found_bytes Encoding.ARGUMENT_BYTES (length out.old) part in
+        EncodesFound Encoding.ARGUMENT_BYTES fitting out.old out.new result }
 {
-    match encoded::open(encoded, args) {
-        Written::Nodes(n) => dtype_inner::array_shape(&encoded[2..2 + n], &args[..n]),
-        Written::Refused(e) => Shape::refused(e),
-    }
+    let nodes = dtype_inner::leaf_nodes(kinds(encoded));
+    put_last(encoded, Some(nodes), out)
+}
+
+// Encodes the type under an Array's consecutive Arrays to the front of out: refusals 1 to 5, then 8. None where there
+// is none.
+pub fn array_leaf_dtype(encoded: &[u8], out: &mut [u8]) -> Result<Option<usize>, Error>
+    ensures { let part = part_reading array_leaf_dtype
+        (decoding Encoding.ARGUMENT_BYTES Flat.MAX_NODES Flat.MAX_DEPTH encoded.now) in
+        let fitting = fitting_found_bytes Encoding.ARGUMENT_BYTES (length out.old) part in
+        EncodesFound Encoding.ARGUMENT_BYTES fitting out.old out.new result }
+{
+    let nodes = dtype_inner::array_leaf_nodes(kinds(encoded));
+    put_last(encoded, nodes, out)
+}
+
+// The shape, with an array of its own for at most N arguments.
+fn shape_in<const N: usize>(encoded: &[u8]) -> Result<Shape, Error>
+    requires { (nodes_in Encoding.ARGUMENT_BYTES Flat.MAX_NODES encoded.now ≤ N) × (N ≤ Flat.MAX_NODES) }
+    ensures { result ≡ shape_of Flat.MAX_DEPTH
+        (decoding Encoding.ARGUMENT_BYTES Flat.MAX_NODES Flat.MAX_DEPTH encoded.now) }
+{
+    let mut args = [0u64; N];
+    let n = encoded::open(encoded, &mut args)?;
+    Ok(dtype_inner::array_shape(&encoded[2..2 + n], &args[..n]))
 }
 
 // The widths down an Array's consecutive Arrays: refusals 1 to 5.
-pub fn get_shape(encoded: &[u8]) -> Shape
+pub fn get_shape(encoded: &[u8]) -> Result<Shape, Error>
     ensures { result ≡ shape_of Flat.MAX_DEPTH
         (decoding Encoding.ARGUMENT_BYTES Flat.MAX_NODES Flat.MAX_DEPTH encoded.now) }
 {
     if encoded::node_count(encoded) <= Encoding::FEW {
-        let mut args = [0u64; Encoding::FEW];
-        return shape_in(encoded, &mut args);
+        return shape_in::<{ Encoding::FEW }>(encoded);
     }
-    let mut args = [0u64; Flat::MAX_NODES];
-    shape_in(encoded, &mut args)
+    shape_in::<{ Flat::MAX_NODES }>(encoded)
 }
 
-// Encodes a plain leaf in the given form to the front of out: it needs no lent arrays.
-fn put_plain(form: Form, kind: u8, out: &mut [u8]) -> Encoded
-    ensures { let fitting = fitting_bytes Encoding.ARGUMENT_BYTES (length out.old) (type (leaf_of form kind 0)) in
+// Encodes a plain leaf in the form F to the front of out: it needs no arrays.
+fn put_plain<F: Form>(kind: u8, out: &mut [u8]) -> Result<usize, Error>
+    ensures { let formed = type (leaf_with F.kind_in kind 0) in
+        let fitting = fitting_bytes Encoding.ARGUMENT_BYTES (length out.old) formed in
         Encodes Encoding.ARGUMENT_BYTES fitting out.old out.new result }
 {
-    let new = kind_form(form, kind, 0);
-    let kinds = [new];
-    let args = [0u64];
-    encoded::put(&kinds, &args, out)
+    let new = F::kind(Node { kind, arg: 0 });
+    encoded::put(&[new], &[0], out)
 }
 
-// Builds the type in the given form in two lent arrays, and encodes it from there to the front of out.
-fn form_in(
-    form: Form,
+// Builds the type in the form F in arrays of its own for at most N nodes, and encodes it from there to the front of
+// out.
+fn form_in<F: Form, const N: usize>(
     allow_unknown: bool,
     encoded: &[u8],
-    args: &mut [u64],
-    new_kinds: &mut [u8],
-    new_args: &mut [u64],
     out: &mut [u8],
-) -> Encoded
-    requires { RoomFor (nodes_in Encoding.ARGUMENT_BYTES Flat.MAX_NODES encoded.now) args.old new_kinds.old
-        new_args.old }
-    ensures { let s = encoded.now in
-        let formed = form_of form allow_unknown (decoding Encoding.ARGUMENT_BYTES Flat.MAX_NODES Flat.MAX_DEPTH s) in
-        let kinds = new_kinds.new in
-        EncodesForm Encoding.ARGUMENT_BYTES Flat.MAX_NODES s formed args.old new_kinds.old new_args.old
-        out.old args.new kinds new_args.new out.new result }
+) -> Result<usize, Error>
+    requires { (nodes_in Encoding.ARGUMENT_BYTES Flat.MAX_NODES encoded.now ≤ N) × (N ≤ Flat.MAX_NODES) }
+    ensures { let formed = form_of F.kind_in allow_unknown
+        (decoding Encoding.ARGUMENT_BYTES Flat.MAX_NODES Flat.MAX_DEPTH encoded.now) in
+        let fitting = fitting_bytes Encoding.ARGUMENT_BYTES (length out.old) formed in
+        Encodes Encoding.ARGUMENT_BYTES fitting out.old out.new result }
 {
-    match encoded::open(encoded, args) {
-        Written::Nodes(n) => {
-            let kinds = &encoded[2..2 + n];
-            if any_refused(kinds, allow_unknown) {
-                return Encoded::Refused(Error::Unknown);
-            }
-            let m = node_form(form, kinds, &args[..n], new_kinds, new_args);
-            encoded::put(&new_kinds[..m], &new_args[..m], out)
-        }
-        Written::Refused(e) => Encoded::Refused(e),
+    let mut args = [0u64; N];
+    let n = encoded::open(encoded, &mut args)?;
+    let kinds = &encoded[2..2 + n];
+    if any_refused(kinds, allow_unknown) {
+        return Err(Error::Unknown);
     }
+    let mut new_kinds = [0u8; N];
+    let mut new_args = [0u64; N];
+    let m = node_form::<F>(kinds, &args[..n], &mut new_kinds, &mut new_args);
+    encoded::put(&new_kinds[..m], &new_args[..m], out)
 }
 
-// Encodes a small type in the given form to the front of out. Small and large arrays stand in functions of their own,
-// so that no call has both on its stack.
-fn form_few(form: Form, allow_unknown: bool, encoded: &[u8], out: &mut [u8]) -> Encoded
-    requires { nodes_in Encoding.ARGUMENT_BYTES Flat.MAX_NODES encoded.now ≤ Encoding.FEW }
-    ensures { let formed = form_of form allow_unknown
-        (decoding Encoding.ARGUMENT_BYTES Flat.MAX_NODES Flat.MAX_DEPTH encoded.now) in
-        let fitting = fitting_bytes Encoding.ARGUMENT_BYTES (length out.old) formed in
-        Encodes Encoding.ARGUMENT_BYTES fitting out.old out.new result }
-{
-    let mut args = [0u64; Encoding::FEW];
-    let mut kinds = [0u8; Encoding::FEW];
-    let mut new = [0u64; Encoding::FEW];
-    form_in(
-        form,
-        allow_unknown,
-        encoded,
-        &mut args,
-        &mut kinds,
-        &mut new,
-        out,
-    )
-}
-
-// Encodes any type in the given form to the front of out.
-fn form_many(form: Form, allow_unknown: bool, encoded: &[u8], out: &mut [u8]) -> Encoded
-    ensures { let formed = form_of form allow_unknown
-        (decoding Encoding.ARGUMENT_BYTES Flat.MAX_NODES Flat.MAX_DEPTH encoded.now) in
-        let fitting = fitting_bytes Encoding.ARGUMENT_BYTES (length out.old) formed in
-        Encodes Encoding.ARGUMENT_BYTES fitting out.old out.new result }
-{
-    let mut args = [0u64; Flat::MAX_NODES];
-    let mut kinds = [0u8; Flat::MAX_NODES];
-    let mut new = [0u64; Flat::MAX_NODES];
-    form_in(
-        form,
-        allow_unknown,
-        encoded,
-        &mut args,
-        &mut kinds,
-        &mut new,
-        out,
-    )
-}
-
-// Encodes the type in the given form to the front of out, with arrays that have room for its nodes.
-fn form_of(form: Form, allow_unknown: bool, encoded: &[u8], out: &mut [u8]) -> Encoded
-    ensures { let formed = form_of form allow_unknown
+// Encodes the type in the form F to the front of out. Small and large arrays stand in functions of their own, so that
+// no call has both on its stack.
+fn form_of<F: Form>(allow_unknown: bool, encoded: &[u8], out: &mut [u8]) -> Result<usize, Error>
+    ensures { let formed = form_of F.kind_in allow_unknown
         (decoding Encoding.ARGUMENT_BYTES Flat.MAX_NODES Flat.MAX_DEPTH encoded.now) in
         let fitting = fitting_bytes Encoding.ARGUMENT_BYTES (length out.old) formed in
         Encodes Encoding.ARGUMENT_BYTES fitting out.old out.new result }
 {
     if encoded.len() <= 2 + (Encoding::ARGUMENT_BYTES + 1) * Encoding::FEW {
-        return form_few(form, allow_unknown, encoded, out);
+        return form_in::<F, { Encoding::FEW }>(allow_unknown, encoded, out);
     }
-    form_many(form, allow_unknown, encoded, out)
+    form_in::<F, { Flat::MAX_NODES }>(allow_unknown, encoded, out)
 }
 
 // The type with each unknown type made known: refusals 1 to 5, 7, then 8.
-pub fn materialize_unknown(encoded: &[u8], allow_unknown: bool, out: &mut [u8]) -> Encoded
+pub fn materialize_unknown(
+    encoded: &[u8],
+    allow_unknown: bool,
+    out: &mut [u8],
+) -> Result<usize, Error>
     ensures { let known = materialized allow_unknown
         (decoding Encoding.ARGUMENT_BYTES Flat.MAX_NODES Flat.MAX_DEPTH encoded.now) in
         let fitting = fitting_bytes Encoding.ARGUMENT_BYTES (length out.old) known in
@@ -243,21 +216,21 @@ pub fn materialize_unknown(encoded: &[u8], allow_unknown: bool, out: &mut [u8]) 
 {
     if encoded::is_plain(encoded) {
         if any_refused(&encoded[2..3], allow_unknown) {
-            return Encoded::Refused(Error::Unknown);
+            return Err(Error::Unknown);
         }
-        return put_plain(Form::Materialized, encoded[2], out);
+        return put_plain::<Materialized>(encoded[2], out);
     }
-    form_of(Form::Materialized, allow_unknown, &encoded[0..], out)
+    form_of::<Materialized>(allow_unknown, encoded, out)
 }
 
 // Its physical form: refusals 1 to 5, then 8. An `Unknown(Any)` is no reason to refuse it.
-pub fn to_physical(encoded: &[u8], out: &mut [u8]) -> Encoded
+pub fn to_physical(encoded: &[u8], out: &mut [u8]) -> Result<usize, Error>
     ensures { let stored = physical (decoding Encoding.ARGUMENT_BYTES Flat.MAX_NODES Flat.MAX_DEPTH encoded.now) in
         let fitting = fitting_bytes Encoding.ARGUMENT_BYTES (length out.old) stored in
         Encodes Encoding.ARGUMENT_BYTES fitting out.old out.new result }
 {
     if encoded::is_plain(encoded) {
-        return put_plain(Form::Physical, encoded[2], out);
+        return put_plain::<Physical>(encoded[2], out);
     }
-    form_of(Form::Physical, true, &encoded[0..], out)
+    form_of::<Physical>(true, encoded, out)
 }

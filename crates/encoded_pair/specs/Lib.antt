@@ -1,3 +1,2 @@
--- What is asked of two types, and what the arrays hold that are lent for their arguments.
+-- What is asked of two types.
 pub mod Asked
-pub mod Lent

@@ -2,7 +2,7 @@
 use mathlib.Core.Path.{◌≡◌, refl, sym, ap, ◌∙◌}
 use mathlib.Core.Bool.{Bool, true, false}
 use mathlib.Core.List.{List}
-use mathlib.Core.Option.{Option, none, some}
+use Rattle.std.specs.Prelude.{Option, None, Some, Ok, Err}
 use Prim.Native.Nat.{ℕ, ◌*◌, ◌≤◌, ◌<◌}
 use native.Mathlib.Omega.{arith}
 use borrow.Author.Tests.{le-leb, lt-leb, lt-ltb, le-ltb, eq-eqb, ne_eqb, eqb-true}
@@ -15,9 +15,7 @@ use Rattle.flat.specs.Refusals.{FlatForm}
 use Rattle.flat.specs.Walk.{type_at}
 use Rattle.flat.specs.Scan.{start, scan_type}
 use Rattle.flat.specs.Span.{span_within}
-use Rattle.flat.specs.declared.span.Span.TheVariants.{Ends, TooDeep}
 use Rattle.flat.specs.declared.error.Error.TheVariants.{Length, Kind, Argument, Shape, Depth}
-use Rattle.flat.specs.declared.Checked.TheVariants.{Valid, Refused}
 use Rattle.flat.proofs.Truths.{never}
 use Rattle.flat.proofs.Scans.{arguments_kinds}
 use Rattle.flat.proofs.Meaning.{form_length, form_read, form_stands, form_fits, read_form}
@@ -31,24 +29,24 @@ module _ (deep : ℕ) {ks xs : List ℕ} {t : DataType} (f : FlatForm ks xs t) w
   whole_form = rw (form_read f, eq-eqb (size t) (length ks) (sym (form_length f)))
 
   pub too_deep :
-      TooDeep ≡ span_within deep (type_at ks xs) → Refused Depth ≡ checked_of (shaped deep (length ks) (node_at ks xs))
+      None ≡ span_within deep (type_at ks xs) → Err Depth ≡ checked_of (shaped deep (length ks) (node_at ks xs))
   too_deep e = rw (whole_form, lt-leb (depth t) deep (type_deeper deep t (e ∙ ap (span_within deep) (form_stands f).1)))
 
   pub one_type :
-      (n : ℕ) → Ends n ≡ span_within deep (type_at ks xs) → Valid ≡ checked_of (shaped deep (length ks) (node_at ks xs))
+      (n : ℕ) → Some n ≡ span_within deep (type_at ks xs) → Ok tt ≡ checked_of (shaped deep (length ks) (node_at ks xs))
   one_type n e =
       rw (whole_form, le-leb (depth t) deep (type_ended deep t n (e ∙ ap (span_within deep) (form_stands f).1)).1)
 
 -- ---- 1 to 3, and then the rest
 pub uneven :
     (nodes deep : ℕ) (ks xs : List ℕ) → (length ks ≡ length xs → ⊥)
-    → Refused Length ≡ checked_of (reading nodes deep ks xs)
+    → Err Length ≡ checked_of (reading nodes deep ks xs)
 unfolding reading length_fits
 uneven nodes deep ks xs e = rw (ne_eqb (length ks) (length xs) e)
 
 pub no_node :
     (nodes deep : ℕ) (ks xs : List ℕ) → length ks ≡ length xs → length ks ≡ 0
-    → Refused Length ≡ checked_of (reading nodes deep ks xs)
+    → Err Length ≡ checked_of (reading nodes deep ks xs)
 unfolding reading length_fits
 no_node nodes deep ks xs e z = rw (eq-eqb (length ks) (length xs) e, le-ltb 0 (length ks) (omega arith))
 
@@ -58,7 +56,7 @@ pub record Lengths (ks xs : List ℕ) : Type 0 where
   pub some : 0 < length ks
 
 module _ (nodes deep : ℕ) {ks xs : List ℕ} (l : Lengths ks xs) where
-  pub too_many : nodes < length ks → Refused Length ≡ checked_of (reading nodes deep ks xs)
+  pub too_many : nodes < length ks → Err Length ≡ checked_of (reading nodes deep ks xs)
   unfolding reading length_fits
   too_many h = rw (eq-eqb (length ks) (length xs) l.even, lt-ltb 0 (length ks) l.some, lt-leb (length ks) nodes h)
 
@@ -68,12 +66,12 @@ module _ (nodes deep : ℕ) {ks xs : List ℕ} (l : Lengths ks xs) where
     fits = rw (eq-eqb (length ks) (length xs) l.even, lt-ltb 0 (length ks) l.some, le-leb (length ks) nodes h)
 
     -- 2 comes before 3
-    pub bad_kind : kinds_fit ks ≡ false → Refused Kind ≡ checked_of (reading nodes deep ks xs)
+    pub bad_kind : kinds_fit ks ≡ false → Err Kind ≡ checked_of (reading nodes deep ks xs)
     unfolding reading
     bad_kind k = rw (fits, k)
 
     pub bad_argument :
-        kinds_fit ks ≡ true → arguments_fit ks xs ≡ false → Refused Argument ≡ checked_of (reading nodes deep ks xs)
+        kinds_fit ks ≡ true → arguments_fit ks xs ≡ false → Err Argument ≡ checked_of (reading nodes deep ks xs)
     unfolding reading
     bad_argument k a = rw (fits, k, a)
 
@@ -93,17 +91,17 @@ module _ (nodes deep : ℕ) {ks xs : List ℕ} (l : Lengths ks xs) where
     -- 4, where the scan passes none
     pub no_shape :
         arguments_fit ks xs ≡ true → scan_type (2 * nodes) start ks xs ≡ false
-        → Refused Shape ≡ checked_of (reading nodes deep ks xs)
+        → Err Shape ≡ checked_of (reading nodes deep ks xs)
     no_shape a f = go (node_at ks xs) refl ∙ fit_nodes a
       where
         whole :
-            (t : DataType) → node_at ks xs ≡ some t → (b : Bool) → eqb (size t) (length ks) ≡ b
-            → Refused Shape ≡ checked_of (unless b Shape (unless (leb (depth t) deep) Depth (type t)))
+            (t : DataType) → node_at ks xs ≡ Some t → (b : Bool) → eqb (size t) (length ks) ≡ b
+            → Err Shape ≡ checked_of (unless b Shape (unless (leb (depth t) deep) Depth (type t)))
         whole t q true n =
             let form = read_form t q (eqb-true (size t) (length ks) n) l.even a in
             never (sym f ∙ complete nodes form (omega (arith, form_length form)))
         whole t q false n = refl
 
-        go : (p : Option DataType) → node_at ks xs ≡ p → Refused Shape ≡ checked_of (shaped deep (length ks) p)
-        go none q = refl
-        go (some t) q = whole t q (eqb (size t) (length ks)) refl
+        go : (p : Option DataType) → node_at ks xs ≡ p → Err Shape ≡ checked_of (shaped deep (length ks) p)
+        go None q = refl
+        go (Some t) q = whole t q (eqb (size t) (length ks)) refl

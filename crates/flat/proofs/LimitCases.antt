@@ -5,7 +5,8 @@ use Prim.Native.Nat.{ℕ, zero, suc, ◌≤◌, ◌<◌}
 use native.Mathlib.Omega.{arith}
 use Rattle.flat.specs.Argument.{argument_fits, argument_rule}
 use Rattle.flat.specs.Tree.{DataType, size, depth, count, kinds_of, args_of}
-use Rattle.flat.specs.Reading.{Ruled, RuledFields, checked_number}
+use Rattle.flat.specs.Reading.{Ruled, RuledFields}
+use Rattle.flat.specs.Refusal.{answer_number}
 use Rattle.flat.specs.Limits.{int8, lists, fields_of, wide, Passes, Gets, DepthLimit, NodeLimit}
 use Rattle.flat.proofs.Sizes.{size_pos}
 use Rattle.flat.proofs.Meaning.{own_form, form_length, form_even, passes}
@@ -22,7 +23,7 @@ module _ (nodes deep : ℕ) (t : DataType) (r : Ruled t) where
       let f = own_form t r in
       let l = form_length f in
       let p = size_pos t in
-      sym (ap checked_number (too_many nodes deep (record { even = form_even f; some = omega arith }) (omega arith)))
+      sym (ap answer_number (too_many nodes deep (record { even = form_even f; some = omega arith }) (omega arith)))
 
   too_deep : size t ≤ nodes → deep < depth t → Gets 5 nodes deep t
   too_deep s d = (refusals nodes deep (kinds_of t) (args_of t)).five.1 (t, own_form t r, s, d)

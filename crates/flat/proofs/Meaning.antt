@@ -3,7 +3,7 @@
 use mathlib.Core.Path.{◌≡◌, refl, sym, ap, ap₂, subst, ◌∙◌}
 use mathlib.Core.Bool.{Bool, true, false, ◌&&◌}
 use mathlib.Core.List.{List, [], ◌++◌, append_assoc, append-nil}
-use mathlib.Core.Option.{Option, none, some}
+use Rattle.std.specs.Prelude.{Option, None, Some, Ok, Err}
 use Prim.Native.Nat.{ℕ, ◌≤◌}
 use native.Mathlib.Omega.{arith}
 use borrow.Author.Tests.{le-leb, lt-ltb, eq-eqb, leb-true, eqb-true}
@@ -19,7 +19,6 @@ use Rattle.flat.specs.Reading.{reading, checked_of, Ruled, RuledFields, IsType}
 use Rattle.flat.specs.Refusals.{FlatForm, NodesFit}
 use Rattle.flat.specs.declared.error.Error.{Error}
 use Rattle.flat.specs.declared.error.Error.TheVariants.{Length, Kind, Argument, Shape, Depth}
-use Rattle.flat.specs.declared.Checked.TheVariants as answer
 use Rattle.flat.specs.Walk.{Valid, type_at}
 use Rattle.flat.proofs.Truths.{impossible, both_true}
 use Rattle.flat.proofs.Sizes.{length_kinds, length_args, size_pos}
@@ -89,7 +88,7 @@ module _ {ks xs : List ℕ} {t : DataType} (f : FlatForm ks xs t) where
   pub at_args : xs ≡ args_of t ++ []
   at_args = f.args ∙ sym (append-nil (args_of t))
 
-  pub form_read : node_at ks xs ≡ some t
+  pub form_read : node_at ks xs ≡ Some t
   form_read = ap₂ node_at at_kinds at_args ∙ read_back t (good t f.ruled) [] []
 
   -- The type stands at the front, so a walk may start there.
@@ -155,10 +154,10 @@ passed false e r t q = impossible cc
 
 -- A tree that was read from all the nodes, whose arguments fit: the arrays are its flat form.
 pub read_form :
-    {ks xs : List ℕ} (t : DataType) → node_at ks xs ≡ some t → size t ≡ length ks → length ks ≡ length xs
+    {ks xs : List ℕ} (t : DataType) → node_at ks xs ≡ Some t → size t ≡ length ks → length ks ≡ length xs
     → arguments_fit ks xs ≡ true → FlatForm ks xs t
 read_form {ks} {xs} t q n e f =
-    let o : Sound ks xs (some t) = subst (λ (v : Option DataType). Sound ks xs v) q (sound ks xs) in
+    let o : Sound ks xs (Some t) = subst (λ (v : Option DataType). Sound ks xs v) q (sound ks xs) in
     let k : ks ≡ kinds_of t ++ [] = o.0 ∙ ap (λ (l : List ℕ). kinds_of t ++ l) (drop_of_length-le ks {i = size t} (omega arith)) in
     let a : xs ≡ args_of t ++ [] = o.1 ∙ ap (λ (l : List ℕ). args_of t ++ l) (drop_of_length-le xs {i = size t} (omega arith)) in
     record { kinds = k ∙ append-nil (kinds_of t); args = a ∙ append-nil (args_of t); ruled = (ruled t o.2 [] [] (sym (ap₂ arguments_fit k a) ∙ f)).0 }
@@ -185,8 +184,8 @@ module _ (nodes deep : ℕ) (ks xs : List ℕ) (t : DataType) where
   one_type :
       NodesFit nodes ks xs → (p : Option DataType) → node_at ks xs ≡ p → shaped deep (length ks) p ≡ type t
       → Holds nodes deep ks xs t
-  one_type f none q r = impossible cc
-  one_type f (some u) q r =
+  one_type f None q r = impossible cc
+  one_type f (Some u) q r =
       let l = lengths_fit nodes ks xs f.lengths in
       let s = passed (eqb (size u) (length ks)) Shape (unless (leb (depth u) deep) Depth (type u)) t r in
       let w = passed (leb (depth u) deep) Depth (type u) t s.1 in
@@ -209,11 +208,11 @@ module _ (nodes deep : ℕ) (ks xs : List ℕ) (t : DataType) where
   stands q = form_stands (holds_form (holds q))
 
 -- What the check's answer tells of the reading.
-pub checked_type : (r : Reading) → answer.Valid ≡ checked_of r → (t : DataType) × (r ≡ type t)
+pub checked_type : (r : Reading) → Ok tt ≡ checked_of r → (t : DataType) × (r ≡ type t)
 checked_type (refused e) q = impossible cc
 checked_type (type t) q = (t, refl)
 
-pub checked_refused : (r : Reading) (e : Error) → answer.Refused e ≡ checked_of r → r ≡ refused e
+pub checked_refused : (r : Reading) (e : Error) → Err e ≡ checked_of r → r ≡ refused e
 checked_refused (refused d) e q = let y : d ≡ e = cc in ap refused y
 checked_refused (type t) e q = impossible cc
 
@@ -228,7 +227,7 @@ pub record Passed (nodes deep : ℕ) (ks xs : List ℕ) : Type 0 where
   pub front : type_at ks xs ≡ tree
 
 pub check_passed :
-    {nodes deep : ℕ} {ks xs : List ℕ} → answer.Valid ≡ checked_of (reading nodes deep ks xs) → Passed nodes deep ks xs
+    {nodes deep : ℕ} {ks xs : List ℕ} → Ok tt ≡ checked_of (reading nodes deep ks xs) → Passed nodes deep ks xs
 check_passed {nodes} {deep} {ks} {xs} e =
     let r = checked_type (reading nodes deep ks xs) e in
     let h = holds nodes deep ks xs r.0 r.1 in

@@ -4,7 +4,7 @@
 use mathlib.Core.Path.{◌≡◌, refl, ap, ap₂, ◌∙◌}
 use mathlib.Core.Bool.{Bool, true, false}
 use mathlib.Core.List.{List, [], ◌∷◌}
-use mathlib.Core.Option.{Option, none, some}
+use Rattle.std.specs.Prelude.{Option, None, Some}
 use Prim.Native.Nat.{ℕ, zero, suc, ◌+◌, ◌-◌, ◌≤◌, ◌<◌}
 use native.Mathlib.Omega.{arith}
 use native.Mathlib.Numerals.{sub-one, add-one}
@@ -37,8 +37,8 @@ same_under_field p p' f f' false m a ks xs e g = refl
 same_under_field p p' f f' true m a ks xs e g = rw e (go (p' ks xs))
   where
     go : (r : Option DataType) → bind_o r (λ t. map_o (field a t) (f m (drop (size t) ks) (drop (size t) xs))) ≡ bind_o r (λ t. map_o (field a t) (f' m (drop (size t) ks) (drop (size t) xs)))
-    go none = refl
-    go (some t) = ap (map_o (field a t)) (g (size t))
+    go None = refl
+    go (Some t) = ap (map_o (field a t)) (g (size t))
 
 -- The bound does not matter, where it is as large as the list.
 mutual
@@ -95,7 +95,7 @@ pub node_at_lem : (ks xs : List ℕ) (at : ℕ) → at < length ks → at < leng
 node_at_lem ks xs at h h' s e = ap₂ node_at (drop-cons ks at 0 h) (drop-cons xs at 0 h') ∙ node_step _ _ ∙ rw (add-one, e)
 
 -- fields at a position
-pub fields_zero : (ks xs : List ℕ) → fields_at 0 ks xs ≡ some empty
+pub fields_zero : (ks xs : List ℕ) → fields_at 0 ks xs ≡ Some empty
 fields_zero ks xs = fields_step 0 ks xs
 
 module _ (m : ℕ) (ks xs : List ℕ) (at : ℕ) (p : 0 < m) (h : at < length ks) (h' : at < length xs) where

@@ -3,7 +3,7 @@
 use mathlib.Core.Path.{◌≡◌, refl, sym, ap, ap₂, ◌∙◌, subst}
 use mathlib.Core.Bool.{Bool, true, false, cond}
 use mathlib.Core.List.{List, [], ◌∷◌, ◌++◌, append_assoc}
-use mathlib.Core.Option.{Option, none, some}
+use Rattle.std.specs.Prelude.{Option, None, Some}
 use Prim.Native.Nat.{ℕ, zero, suc, ◌+◌, ◌≤◌}
 use native.Mathlib.Omega.{arith}
 use lib.Dec.{leb, eqb}
@@ -36,7 +36,7 @@ mutual
 
   pub read_in :
       (t : DataType) → Good t → (n : ℕ) (ks xs : List ℕ) → size t ≤ n
-      → node_in n (kinds_of t ++ ks) (args_of t ++ xs) ≡ some t
+      → node_in n (kinds_of t ++ ks) (args_of t ++ xs) ≡ Some t
   read_in (leaf k a) g zero ks xs h = absurd (omega arith)
   read_in (leaf k a) g (suc n) ks xs h = rw (le-leb k Kind.UnknownIntNeg g)
   read_in (list t) g zero ks xs h = absurd (omega arith)
@@ -48,7 +48,7 @@ mutual
 
   pub reads_in :
       (fs : Fields) → Goods fs → (n : ℕ) (ks xs : List ℕ) → sizes fs ≤ n
-      → fields_in n (count fs) (kinds_ofs fs ++ ks) (args_ofs fs ++ xs) ≡ some fs
+      → fields_in n (count fs) (kinds_ofs fs ++ ks) (args_ofs fs ++ xs) ≡ Some fs
   reads_in empty g zero ks xs h = refl
   reads_in empty g (suc n) ks xs h = refl
   reads_in (field name t fs) g zero ks xs h = absurd (omega arith)
@@ -105,30 +105,30 @@ joined l A B n m p q =
 
 -- What is read is good, and its flat form stands at the front.
 abbrev pub Sound : List ℕ → List ℕ → Option DataType → Type 0
-Sound ks xs none = Unit {0}
-Sound ks xs (some t) = (ks ≡ kinds_of t ++ drop (size t) ks) × (xs ≡ args_of t ++ drop (size t) xs) × Good t
+Sound ks xs None = Unit {0}
+Sound ks xs (Some t) = (ks ≡ kinds_of t ++ drop (size t) ks) × (xs ≡ args_of t ++ drop (size t) xs) × Good t
 
 abbrev pub Sounds : ℕ → List ℕ → List ℕ → Option Fields → Type 0
-Sounds m ks xs none = Unit {0}
-Sounds m ks xs (some fs) =
+Sounds m ks xs None = Unit {0}
+Sounds m ks xs (Some fs) =
     (ks ≡ kinds_ofs fs ++ drop (sizes fs) ks) × (xs ≡ args_ofs fs ++ drop (sizes fs) xs) × Goods fs × (count fs ≡ m)
 
 sound_list : (ks xs : List ℕ) (r : Option DataType) → Sound ks xs r → Sound (Kind.List ∷ ks) (0 ∷ xs) (map_o list r)
 unfolding size kinds_of args_of Good
-sound_list ks xs none h = tt
-sound_list ks xs (some t) h = (ap (λ (l : List ℕ). Kind.List ∷ l) h.0, ap (λ (l : List ℕ). 0 ∷ l) h.1, h.2)
+sound_list ks xs None h = tt
+sound_list ks xs (Some t) h = (ap (λ (l : List ℕ). Kind.List ∷ l) h.0, ap (λ (l : List ℕ). 0 ∷ l) h.1, h.2)
 
 sound_array :
     (a : ℕ) (ks xs : List ℕ) (r : Option DataType) → Sound ks xs r → Sound (Kind.Array ∷ ks) (a ∷ xs) (map_o (array a) r)
 unfolding size kinds_of args_of Good
-sound_array a ks xs none h = tt
-sound_array a ks xs (some t) h = (ap (λ (l : List ℕ). Kind.Array ∷ l) h.0, ap (λ (l : List ℕ). a ∷ l) h.1, h.2)
+sound_array a ks xs None h = tt
+sound_array a ks xs (Some t) h = (ap (λ (l : List ℕ). Kind.Array ∷ l) h.0, ap (λ (l : List ℕ). a ∷ l) h.1, h.2)
 
 sound_struct :
     (a : ℕ) (ks xs : List ℕ) (r : Option Fields) → Sounds a ks xs r → Sound (Kind.Struct ∷ ks) (a ∷ xs) (map_o struct r)
 unfolding size kinds_of args_of Good
-sound_struct a ks xs none h = tt
-sound_struct a ks xs (some fs) h = (ap (λ (l : List ℕ). Kind.Struct ∷ l) h.0, ap₂ ◌∷◌ (sym h.3) h.1, h.2)
+sound_struct a ks xs None h = tt
+sound_struct a ks xs (Some fs) h = (ap (λ (l : List ℕ). Kind.Struct ∷ l) h.0, ap₂ ◌∷◌ (sym h.3) h.1, h.2)
 
 module _ (node : Reads DataType) (fs : ℕ → Reads Fields) (node-sound : (ks xs : List ℕ) → Sound ks xs (node ks xs)) (fs-sound : (m : ℕ) (ks xs : List ℕ) → Sounds m ks xs (fs m ks xs)) where
   under_sound :
@@ -146,11 +146,11 @@ module _ (node : Reads DataType) (fs : ℕ → Reads Fields) (node-sound : (ks x
   step_sound (k ∷ ks) (a ∷ xs) = under_sound (children k a) (view k a) ks xs
 
   sound_field :
-      (m k a : ℕ) → k ≡ Kind.Field → (ks xs : List ℕ) (t : DataType) → Sound ks xs (some t) → (r : Option Fields)
+      (m k a : ℕ) → k ≡ Kind.Field → (ks xs : List ℕ) (t : DataType) → Sound ks xs (Some t) → (r : Option Fields)
       → Sounds m (drop (size t) ks) (drop (size t) xs) r → Sounds (suc m) (k ∷ ks) (a ∷ xs) (map_o (field a t) r)
   unfolding size kinds_of args_of Good count
-  sound_field m k a e ks xs t h none g = tt
-  sound_field m k a e ks xs t h (some f) g =
+  sound_field m k a e ks xs t h None g = tt
+  sound_field m k a e ks xs t h (Some f) g =
       (ap₂ ◌∷◌ e (joined ks (kinds_of t) (kinds_ofs f) (size t) (sizes f) h.0 g.0), ap (λ (l : List ℕ). a ∷ l) (joined xs (args_of t) (args_ofs f) (size t) (sizes f) h.1 g.1), (h.2, g.2), ap suc g.3)
 
   under_field_sound :
@@ -160,8 +160,8 @@ module _ (node : Reads DataType) (fs : ℕ → Reads Fields) (node-sound : (ks x
   under_field_sound m k a true e ks xs = go (node ks xs) (node-sound ks xs)
     where
       go : (r : Option DataType) → Sound ks xs r → Sounds (suc m) (k ∷ ks) (a ∷ xs) (bind_o r (λ t. map_o (field a t) (fs m (drop (size t) ks) (drop (size t) xs))))
-      go none h = tt
-      go (some t) h =
+      go None h = tt
+      go (Some t) h =
           sound_field m k a (eqb-true k Kind.Field e) ks xs t h (fs m (drop (size t) ks) (drop (size t) xs))
           (fs-sound m (drop (size t) ks) (drop (size t) xs))
 
@@ -184,7 +184,7 @@ mutual
   sounds_in (suc n) = steps_sound (node_in n) (fields_in n) (sound_in n) (sounds_in n)
 
 -- ---- the readers without a bound
-pub read_back : (t : DataType) → Good t → (ks xs : List ℕ) → node_at (kinds_of t ++ ks) (args_of t ++ xs) ≡ some t
+pub read_back : (t : DataType) → Good t → (ks xs : List ℕ) → node_at (kinds_of t ++ ks) (args_of t ++ xs) ≡ Some t
 unfolding node_at
 read_back t g ks xs = read_in t g (length (kinds_of t ++ ks)) ks xs (simp (length-append, length_kinds) (omega arith))
 
@@ -197,22 +197,22 @@ unfolding fields_at
 sounds m ks xs = sounds_in (length ks) m ks xs
 
 -- A type that was read has as many nodes as stand there, at most.
-pub bounded : (ks xs : List ℕ) (t : DataType) → node_at ks xs ≡ some t → size t ≤ length ks
+pub bounded : (ks xs : List ℕ) (t : DataType) → node_at ks xs ≡ Some t → size t ≤ length ks
 bounded ks xs t e =
-    let s : Sound ks xs (some t) = subst (λ (r : Option DataType). Sound ks xs r) e (sound ks xs) in
+    let s : Sound ks xs (Some t) = subst (λ (r : Option DataType). Sound ks xs r) e (sound ks xs) in
     omega (arith, simp (length-append, length_kinds) at (ap length s.0))
 
-pub bounds : (m : ℕ) (ks xs : List ℕ) (fs : Fields) → fields_at m ks xs ≡ some fs → sizes fs ≤ length ks
+pub bounds : (m : ℕ) (ks xs : List ℕ) (fs : Fields) → fields_at m ks xs ≡ Some fs → sizes fs ≤ length ks
 bounds m ks xs fs e =
-    let s : Sounds m ks xs (some fs) = subst (λ (r : Option Fields). Sounds m ks xs r) e (sounds m ks xs) in
+    let s : Sounds m ks xs (Some fs) = subst (λ (r : Option Fields). Sounds m ks xs r) e (sounds m ks xs) in
     omega (arith, simp (length-append, length_kindss) at (ap length s.0))
 
-pub count_is : (m : ℕ) (ks xs : List ℕ) (fs : Fields) → fields_at m ks xs ≡ some fs → count fs ≡ m
+pub count_is : (m : ℕ) (ks xs : List ℕ) (fs : Fields) → fields_at m ks xs ≡ Some fs → count fs ≡ m
 count_is m ks xs fs e =
-    let s : Sounds m ks xs (some fs) = subst (λ (r : Option Fields). Sounds m ks xs r) e (sounds m ks xs) in s.3
+    let s : Sounds m ks xs (Some fs) = subst (λ (r : Option Fields). Sounds m ks xs r) e (sounds m ks xs) in s.3
 
-pub count_read : (m : ℕ) (ks xs : List ℕ) (fs : Fields) → fields_at m ks xs ≡ some fs → m ≤ sizes fs
+pub count_read : (m : ℕ) (ks xs : List ℕ) (fs : Fields) → fields_at m ks xs ≡ Some fs → m ≤ sizes fs
 count_read m ks xs fs e =
-    let s : Sounds m ks xs (some fs) = subst (λ (r : Option Fields). Sounds m ks xs r) e (sounds m ks xs) in
+    let s : Sounds m ks xs (Some fs) = subst (λ (r : Option Fields). Sounds m ks xs r) e (sounds m ks xs) in
     let h = count_le fs in
     omega (arith, s.3)

@@ -2,7 +2,7 @@
 use mathlib.Core.Path.{◌≡◌, refl, sym, ap, ◌∙◌}
 use mathlib.Core.Bool.{Bool, true, false}
 use mathlib.Core.List.{List}
-use mathlib.Core.Option.{Option, none, some}
+use Rattle.std.specs.Prelude.{Option, None, Some}
 use Prim.Native.Nat.{ℕ, ◌≤◌, ◌<◌}
 use native.Mathlib.Omega.{arith}
 use borrow.Author.Tests.{eqb-true, eqb-false, leb-true, leb-false}
@@ -11,7 +11,8 @@ use lib.ListN.{length}
 use Rattle.flat.specs.Tree.{DataType, size, depth}
 use Rattle.flat.specs.Reader.{node_at}
 use Rattle.flat.specs.Reading.{Reading, refused, type, unless, length_fits, kinds_fit, arguments_fit, shaped}
-use Rattle.flat.specs.Reading.{reading, checked_of, checked_number}
+use Rattle.flat.specs.Reading.{reading, checked_of}
+use Rattle.flat.specs.Refusal.{answer_number}
 use Rattle.flat.specs.Refusals.{FlatForm, NodesFit, RefusalLaws}
 use Rattle.flat.specs.declared.error.Error.TheVariants.{Length, Kind, Argument, Shape, Depth}
 use Rattle.flat.proofs.Truths.{never, impossible}
@@ -27,12 +28,12 @@ module _ (nodes deep : ℕ) (ks xs : List ℕ) where
     too_deep : (t : DataType) → FlatForm ks xs t → size t ≤ nodes → deep < depth t → Outcome (refused Depth)
     one_type : (t : DataType) → FlatForm ks xs t → depth t ≤ deep → Outcome (type t)
 
-  same_tree : {t u : DataType} → FlatForm ks xs t → node_at ks xs ≡ some u → t ≡ u
+  same_tree : {t u : DataType} → FlatForm ks xs t → node_at ks xs ≡ Some u → t ≡ u
   same_tree f q = let e = form_read f in cc
 
   shape_outcome : NodesFit nodes ks xs → (p : Option DataType) → node_at ks xs ≡ p → Outcome (shaped deep (length ks) p)
-  shape_outcome f none q = no_tree f (λ t g. let e = form_read g in impossible cc)
-  shape_outcome f (some u) q = whole (eqb (size u) (length ks)) refl
+  shape_outcome f None q = no_tree f (λ t g. let e = form_read g in impossible cc)
+  shape_outcome f (Some u) q = whole (eqb (size u) (length ks)) refl
     where
       level : FlatForm ks xs u → (b : Bool) → leb (depth u) deep ≡ b → Outcome (unless b Depth (type u))
       level g true e = one_type u g (leb-true (depth u) deep e)
@@ -69,7 +70,7 @@ module _ (nodes deep : ℕ) (ks xs : List ℕ) where
       by_lengths false e = bad_lengths e
 
   four_only :
-      {r : Reading} → Outcome r → checked_number (checked_of r) ≡ 4
+      {r : Reading} → Outcome r → answer_number (checked_of r) ≡ 4
       → NodesFit nodes ks xs × ((t : DataType) → FlatForm ks xs t → ⊥)
   four_only (bad_lengths f) e = absurd (omega arith)
   four_only (bad_kind f) e = absurd (omega arith)
@@ -80,7 +81,7 @@ module _ (nodes deep : ℕ) (ks xs : List ℕ) where
 
   four_given :
       NodesFit nodes ks xs → ((t : DataType) → FlatForm ks xs t → ⊥) → {r : Reading} → Outcome r
-      → checked_number (checked_of r) ≡ 4
+      → answer_number (checked_of r) ≡ 4
   four_given f n (bad_lengths e) = never (sym e ∙ f.lengths)
   four_given f n (bad_kind e) = never (sym e ∙ f.kinds)
   four_given f n (bad_argument e) = never (sym e ∙ f.args)
@@ -89,7 +90,7 @@ module _ (nodes deep : ℕ) (ks xs : List ℕ) where
   four_given f n (one_type t g d) = absurd (n t g)
 
   five_only :
-      {r : Reading} → Outcome r → checked_number (checked_of r) ≡ 5
+      {r : Reading} → Outcome r → answer_number (checked_of r) ≡ 5
       → (t : DataType) × FlatForm ks xs t × (size t ≤ nodes) × (deep < depth t)
   five_only (bad_lengths f) e = absurd (omega arith)
   five_only (bad_kind f) e = absurd (omega arith)
@@ -100,7 +101,7 @@ module _ (nodes deep : ℕ) (ks xs : List ℕ) where
 
   five_given :
       {t : DataType} → FlatForm ks xs t → size t ≤ nodes → deep < depth t → {r : Reading} → Outcome r
-      → checked_number (checked_of r) ≡ 5
+      → answer_number (checked_of r) ≡ 5
   five_given f s d (bad_lengths e) = never (sym e ∙ (form_fits f s).lengths)
   five_given f s d (bad_kind e) = never (sym e ∙ (form_fits f s).kinds)
   five_given f s d (bad_argument e) = never (sym e ∙ (form_fits f s).args)

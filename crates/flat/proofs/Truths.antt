@@ -1,8 +1,9 @@
 -- Small truths that the proofs of every crate cite. Assumes nothing.
-use mathlib.Core.Path.{◌≡◌, refl, sym, ◌∙◌}
+use mathlib.Core.Path.{◌≡◌, refl, sym, ap, subst, ◌∙◌}
+use Rattle.std.specs.Prelude.{Result, Err}
 use mathlib.Core.Bool.{Bool, true, false, not, ◌&&◌}
 use mathlib.Core.List.{List, [], ◌∷◌}
-use Prim.Native.Nat.{ℕ, ◌<◌}
+use Prim.Native.Nat.{ℕ, ◌<◌, ◌+◌, ◌-◌}
 use native.Mathlib.Omega.{arith}
 use borrow.Author.Tests.{not-true, not-false}
 use lib.Dec.{T}
@@ -47,3 +48,14 @@ fact {A} a = record { states = A; proof = a }
 pub over_one : (out : List ℕ) → 0 < length out → (y : ℕ) → set out 0 y ≡ over (y ∷ []) out
 over_one [] h y = absurd (omega arith)
 over_one (x ∷ out) h y = refl
+
+-- ---- a loop over n rounds, of which k are done: what is left
+pub none_done : (P : ℕ → Type 0) (n : ℕ) → P n → P (n - 0)
+none_done P n p = subst P (let e : n ≡ n - 0 = omega arith in e) p
+
+pub one_done : (P : ℕ → Type 0) (n k : ℕ) → P (n - k - 1) → P (n - (k + 1))
+one_done P n k p = subst P (let e : n - k - 1 ≡ n - (k + 1) = omega arith in e) p
+
+-- What a `?` hands on.
+pub handed_on : {T E : Type 0} {r : Result T E} {d : E} → (y : E) × (r ≡ Err y) × (y ≡ d) → r ≡ Err d
+handed_on p = p.1 ∙ ap Err p.2

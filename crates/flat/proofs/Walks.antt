@@ -3,7 +3,7 @@
 use mathlib.Core.Path.{◌≡◌, refl, sym, ap, ap₂, ◌∙◌, subst}
 use mathlib.Core.Bool.{Bool, true, false}
 use mathlib.Core.List.{List}
-use mathlib.Core.Option.{Option, none, some}
+use Rattle.std.specs.Prelude.{Option, None, Some}
 use Prim.Native.Nat.{ℕ, zero, suc, ◌+◌, ◌-◌, ◌≤◌, ◌<◌}
 use native.Mathlib.Omega.{arith}
 use lib.Dec.{eqb}
@@ -32,11 +32,11 @@ length_from j l = rw (rest, length-drop)
 pub shorter : (l : List ℕ) (n t : ℕ) → length l ≡ t → 0 < length l → length (from (n + 1) l) < t
 shorter l n t e h = let a = length_from (n + 1) l in omega arith
 
-pub node_of : (ks xs : List ℕ) (t : DataType) → length ks ≡ length xs → node_at ks xs ≡ some t → FrontType ks xs t
+pub node_of : (ks xs : List ℕ) (t : DataType) → length ks ≡ length xs → node_at ks xs ≡ Some t → FrontType ks xs t
 node_of ks xs t e r = record { read = r; even = e; pos = size_pos t; within = bounded ks xs t r }
 
 pub run_of :
-    (m : ℕ) (ks xs : List ℕ) (fs : Fields) → length ks ≡ length xs → fields_at m ks xs ≡ some fs → FrontFields m ks xs fs
+    (m : ℕ) (ks xs : List ℕ) (fs : Fields) → length ks ≡ length xs → fields_at m ks xs ≡ Some fs → FrontFields m ks xs fs
 run_of m ks xs fs e r = record { read = r; even = e; pos = count_read m ks xs fs r; within = bounds m ks xs fs r }
 
 part_even : (j : ℕ) (ks xs : List ℕ) → length ks ≡ length xs → length (from j ks) ≡ length (from j xs)
@@ -57,9 +57,9 @@ pub data AtNode (ks xs : List ℕ) : DataType → Type 0 where
       {fs : Fields} → get_or ks 0 0 ≡ Kind.Struct → FrontFields (get_or xs 0 0) (from 1 ks) (from 1 xs) fs
       → AtNode ks xs (struct fs)
 
-some_of : {A B : Type 0} (f : A → B) (q : Option A) (b : B) → map_o f q ≡ some b → (a : A) × (q ≡ some a) × (b ≡ f a)
-some_of f none b e = impossible cc
-some_of f (some a) b e = (a, refl, cc)
+some_of : {A B : Type 0} (f : A → B) (q : Option A) (b : B) → map_o f q ≡ Some b → (a : A) × (q ≡ Some a) × (b ≡ f a)
+some_of f None b e = impossible cc
+some_of f (Some a) b e = (a, refl, cc)
 
 pub at_node : (ks xs : List ℕ) (t : DataType) → FrontType ks xs t → AtNode ks xs t
 at_node ks xs t n =
@@ -68,14 +68,14 @@ at_node ks xs t n =
   where
     one :
         (f : DataType → DataType) → Unary (get_or ks 0 0) (get_or xs 0 0) f
-        → map_o f (node_at (drop 1 ks) (drop 1 xs)) ≡ some t → AtNode ks xs t
+        → map_o f (node_at (drop 1 ks) (drop 1 xs)) ≡ Some t → AtNode ks xs t
     one f u e = let s = some_of f (node_at (drop 1 ks) (drop 1 xs)) t e in
         subst (λ (z : DataType). AtNode ks xs z) (sym s.2)
         (at_one u (node_of (from 1 ks) (from 1 xs) s.0 (part_even 1 ks xs n.even) (rw (rest, rest) s.1)))
 
     go :
         {k a : ℕ} (s : Children) → View k a s → get_or ks 0 0 ≡ k → get_or xs 0 0 ≡ a
-        → under_node node_at fields_at s (get_or ks 0 0) (get_or xs 0 0) (drop 1 ks) (drop 1 xs) ≡ some t → AtNode ks xs t
+        → under_node node_at fields_at s (get_or ks 0 0) (get_or xs 0 0) (drop 1 ks) (drop 1 xs) ≡ Some t → AtNode ks xs t
     go no_child (is_leaf h) p q e =
         subst (λ (z : DataType). AtNode ks xs z) (let y : leaf (get_or ks 0 0) (get_or xs 0 0) ≡ t = cc in y)
         (at_leaf (omega arith))
@@ -104,9 +104,9 @@ at_run (suc m) ks xs fs r = by_field (eqb (get_or ks 0 0) Kind.Field) refl (sym 
         rest l (n + 1) ∙ ap (λ (i : ℕ). drop i l) (let z : n + 1 ≡ 1 + size t = omega arith in z) ∙ sym
         (drop-drop (size t) 1 l)
 
-    at_type : get_or ks 0 0 ≡ Kind.Field → (q : Option DataType) → node_at (drop 1 ks) (drop 1 xs) ≡ q → bind_o q (λ t. map_o (field (get_or xs 0 0) t) (fields_at (suc m - 1) (drop (size t) (drop 1 ks)) (drop (size t) (drop 1 xs)))) ≡ some fs → AtRun (suc m) ks xs fs
-    at_type k none q e = impossible cc
-    at_type k (some t) q e =
+    at_type : get_or ks 0 0 ≡ Kind.Field → (q : Option DataType) → node_at (drop 1 ks) (drop 1 xs) ≡ q → bind_o q (λ t. map_o (field (get_or xs 0 0) t) (fields_at (suc m - 1) (drop (size t) (drop 1 ks)) (drop (size t) (drop 1 xs)))) ≡ Some fs → AtRun (suc m) ks xs fs
+    at_type k None q e = impossible cc
+    at_type k (Some t) q e =
         let s = some_of (field (get_or xs 0 0) t) (fields_at (suc m - 1) (drop (size t) (drop 1 ks)) (drop (size t) (drop 1 xs))) fs e in
         subst (λ (z : Fields). AtRun (suc m) ks xs z) (sym s.2)
         (at_field (omega arith) k (node_of (from 1 ks) (from 1 xs) t (part_even 1 ks xs r.even) (rw (rest, rest) q))
@@ -115,17 +115,17 @@ at_run (suc m) ks xs fs r = by_field (eqb (get_or ks 0 0) Kind.Field) refl (sym 
 
     by_field :
         (b : Bool) → eqb (get_or ks 0 0) Kind.Field ≡ b
-        → under_field node_at fields_at b (suc m - 1) (get_or xs 0 0) (drop 1 ks) (drop 1 xs) ≡ some fs
+        → under_field node_at fields_at b (suc m - 1) (get_or xs 0 0) (drop 1 ks) (drop 1 xs) ≡ Some fs
         → AtRun (suc m) ks xs fs
     by_field false k e = impossible cc
     by_field true k e = at_type (eqb-true (get_or ks 0 0) Kind.Field k) (node_at (drop 1 ks) (drop 1 xs)) refl e
 
 -- ---- the laws in the words of a walk's contract
-pub type_is : (ks xs : List ℕ) (t : DataType) → node_at ks xs ≡ some t → type_at ks xs ≡ t
+pub type_is : (ks xs : List ℕ) (t : DataType) → node_at ks xs ≡ Some t → type_at ks xs ≡ t
 unfolding type_at
 type_is ks xs t e = ap (with_default (leaf 0 0)) e
 
-pub run_is : (m : ℕ) (ks xs : List ℕ) (fs : Fields) → fields_at m ks xs ≡ some fs → run_at m ks xs ≡ fs
+pub run_is : (m : ℕ) (ks xs : List ℕ) (fs : Fields) → fields_at m ks xs ≡ Some fs → run_at m ks xs ≡ fs
 unfolding run_at
 run_is m ks xs fs e = ap (with_default empty) e
 

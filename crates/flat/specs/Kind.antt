@@ -1,7 +1,7 @@
 -- The kinds of a node: document 01's codes, by the names of dtype.rs. `Unknown(Int(v))` has two codes, by the sign of
 -- v (document 01's dyn v); UnknownAny, UnknownStr and UnknownFloat are its any, str and dyn float. A Field is a node
 -- of its own, over the type that it names. Assumes nothing: these are definitions.
-use Rattle.std.specs.Prelude.{ℕ}
+use Rattle.std.specs.Prelude.{ℕ, Bool, ◌&&◌, leb}
 
 abbrev pub Null : ℕ
 Null = 0
@@ -98,3 +98,7 @@ Struct = 30
 
 abbrev pub Field : ℕ
 Field = 31
+
+-- a kind from low to high
+unfoldable pub between : ℕ → ℕ → ℕ → Bool
+between low high k = leb low k && leb k high

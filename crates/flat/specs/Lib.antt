@@ -1,6 +1,7 @@
 -- What a flat type means, and what the contracts of `flat` cite.
 pub mod Kind
 pub mod Refusal
+pub mod Reply
 pub mod Argument
 pub mod Tree
 pub mod Reader

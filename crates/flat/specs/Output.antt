@@ -1,13 +1,11 @@
 -- What a call that writes a type leaves in the two lent arrays. Assumes nothing: these are definitions.
 use Rattle.std.specs.Prelude.{◌≡◌, ◌&&◌, List, ◌++◌, ℕ, leb, length, drop}
-use Rattle.std.proofs.Math.Option.{Option, none, some}
-use Rattle.flat.specs.Refusal.{number_of}
+use Rattle.std.specs.Prelude.{Option, None, Some, Result, Ok, Err}
 use Rattle.flat.specs.Tree.{size, kinds_of, args_of}
 use Rattle.flat.specs.Reader.{map_o}
 use Rattle.flat.specs.Reading.{Reading, refused, type, unless}
 use Rattle.flat.specs.declared.error.Error.TheVariants.{OutputTooShort}
-use Rattle.flat.specs.declared.Written.{Written}
-use Rattle.flat.specs.declared.Optional.{Optional}
+use Rattle.flat.specs.declared.error.Error.{Error}
 
 -- 8: the output arrays, of k kinds and a arguments, are shorter than the result, where there is one
 unfoldable pub fitting : ℕ → ℕ → Reading → Reading
@@ -30,23 +28,13 @@ args_over (refused e) out = out
 args_over (type t) out = over (args_of t) out
 
 -- the answer of a call that writes a type: the number of nodes
-abbrev pub written_of : Reading → Written
-written_of (refused e) = Written.Refused e
-written_of (type t) = Written.Nodes (size t)
-
--- document 01's number of an answer
-abbrev pub written_number : Written → ℕ
-written_number (Written.Nodes n) = 0
-written_number (Written.Refused e) = number_of e
-
--- the value beside the number: how many nodes were written
-abbrev pub written_value : Written → ℕ
-written_value (Written.Nodes n) = n
-written_value (Written.Refused e) = 0
+abbrev pub written_of : Reading → Result ℕ Error
+written_of (refused e) = Err e
+written_of (type t) = Ok (size t)
 
 -- What a call that writes a type comes to: its answer, and the two lent arrays, ks and xs before the call, ks' and
 -- xs' after.
-pub record Writes (r : Reading) (ks xs ks' xs' : List ℕ) (answer : Written) : Type 0 where
+pub record Writes (r : Reading) (ks xs ks' xs' : List ℕ) (answer : Result ℕ Error) : Type 0 where
   pub answers : answer ≡ written_of r
   pub kinds : ks' ≡ kinds_over r ks
   pub args : xs' ≡ args_over r xs
@@ -58,36 +46,25 @@ abbrev pub fitting_found : ℕ → ℕ → Option Reading → Option Reading
 fitting_found k a = map_o (fitting k a)
 
 -- the answer of a call whose result may be None: the number of nodes
-abbrev pub optional_of : Option Reading → Optional
-optional_of none = Optional.Nothing
-optional_of (some (refused e)) = Optional.Refused e
-optional_of (some (type t)) = Optional.Some (size t)
-
--- document 01's number of an answer that may be None
-abbrev pub optional_number : Optional → ℕ
-optional_number (Optional.Some n) = 0
-optional_number Optional.Nothing = 0
-optional_number (Optional.Refused e) = number_of e
-
--- the value beside the number: how many nodes or bytes, 0 for None
-abbrev pub optional_value : Optional → ℕ
-optional_value (Optional.Some n) = n
-optional_value Optional.Nothing = 0
-optional_value (Optional.Refused e) = 0
+abbrev pub optional_of : Option Reading → Result (Option ℕ) Error
+optional_of None = Ok None
+optional_of (Some (refused e)) = Err e
+optional_of (Some (type t)) = Ok (Some (size t))
 
 -- a lent array of kinds after the call
 abbrev pub kinds_found : Option Reading → List ℕ → List ℕ
-kinds_found none out = out
-kinds_found (some r) out = kinds_over r out
+kinds_found None out = out
+kinds_found (Some r) out = kinds_over r out
 
 -- a lent array of arguments after the call
 abbrev pub args_found : Option Reading → List ℕ → List ℕ
-args_found none out = out
-args_found (some r) out = args_over r out
+args_found None out = out
+args_found (Some r) out = args_over r out
 
 -- What a call whose result may be None comes to: its answer, and the two lent arrays, ks and xs before the call, ks'
 -- and xs' after.
-pub record WritesFound (found : Option Reading) (ks xs ks' xs' : List ℕ) (answer : Optional) : Type 0 where
+pub record WritesFound (found : Option Reading) (ks xs ks' xs' : List ℕ) (answer : Result (Option ℕ) Error)
+    : Type 0 where
   pub answers : answer ≡ optional_of found
   pub kinds : ks' ≡ kinds_found found ks
   pub args : xs' ≡ args_found found xs

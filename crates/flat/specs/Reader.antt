@@ -1,6 +1,6 @@
 -- Which tree stands at the front of two lists, if one does. Assumes nothing: these are definitions.
 use Rattle.std.specs.Prelude.{Bool, true, false, cond, List, [], ◌∷◌, ℕ, zero, suc, leb, eqb, length, drop}
-use Rattle.std.proofs.Math.Option.{Option, none, some}
+use Rattle.std.specs.Prelude.{Option, None, Some}
 use Rattle.flat.specs.Kind
 use Rattle.flat.specs.Tree.{DataType, leaf, list, array, struct, Fields, empty, field, size}
 
@@ -20,13 +20,13 @@ children k a =
 
 -- f of what there is, if there is something
 abbrev pub map_o : {A B : Type 0} → (A → B) → Option A → Option B
-map_o f none = none
-map_o f (some a) = some (f a)
+map_o f None = None
+map_o f (Some a) = Some (f a)
 
 -- what f makes of what there is, if there is something
 abbrev pub bind_o : {A B : Type 0} → Option A → (A → Option B) → Option B
-bind_o none f = none
-bind_o (some a) f = f a
+bind_o None f = None
+bind_o (Some a) f = f a
 
 -- a reader of what stands at the front of the kinds and the arguments
 abbrev pub Reads : Type 0 → Type 0
@@ -34,34 +34,34 @@ Reads A = List ℕ → List ℕ → Option A
 
 -- a node of the kind k and the argument a, given readers for what stands under it
 abbrev pub under_node : Reads DataType → (ℕ → Reads Fields) → Children → ℕ → ℕ → Reads DataType
-under_node node fs no_child k a ks xs = some (leaf k a)
+under_node node fs no_child k a ks xs = Some (leaf k a)
 under_node node fs under_list k a ks xs = map_o list (node ks xs)
 under_node node fs under_array k a ks xs = map_o (array a) (node ks xs)
 under_node node fs fields k a ks xs = map_o struct (fs a ks xs)
-under_node node fs no_type k a ks xs = none
+under_node node fs no_type k a ks xs = None
 
 -- the node at the front
 abbrev pub step_node : Reads DataType → (ℕ → Reads Fields) → Reads DataType
-step_node node fs [] xs = none
-step_node node fs (k ∷ ks) [] = none
+step_node node fs [] xs = None
+step_node node fs (k ∷ ks) [] = None
 step_node node fs (k ∷ ks) (a ∷ xs) = under_node node fs (children k a) k a ks xs
 
 -- a field of the name a, where a field stands, its type at the front of ks and xs, and m fields after that
 abbrev pub under_field : Reads DataType → (ℕ → Reads Fields) → Bool → ℕ → ℕ → Reads Fields
 under_field node fs true m a ks xs =
     bind_o (node ks xs) (λ t. map_o (field a t) (fs m (drop (size t) ks) (drop (size t) xs)))
-under_field node fs false m a ks xs = none
+under_field node fs false m a ks xs = None
 
 -- so many fields at the front
 abbrev pub step_fields : Reads DataType → (ℕ → Reads Fields) → ℕ → Reads Fields
-step_fields node fs zero ks xs = some empty
-step_fields node fs (suc m) [] xs = none
-step_fields node fs (suc m) (k ∷ ks) [] = none
+step_fields node fs zero ks xs = Some empty
+step_fields node fs (suc m) [] xs = None
+step_fields node fs (suc m) (k ∷ ks) [] = None
 step_fields node fs (suc m) (k ∷ ks) (a ∷ xs) = under_field node fs (eqb k Kind.Field) m a ks xs
 
 -- reads nothing
 abbrev pub never : {A : Type 0} → Reads A
-never ks xs = none
+never ks xs = None
 
 -- The two readers with a bound n on how deep the reading goes, which only serves to define them by recursion. The laws
 -- `node_step` and `fields_step` (proofs/Positions.antt) are the readers without it.

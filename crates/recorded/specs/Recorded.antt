@@ -1,7 +1,7 @@
 -- An answer of the crate's own text to a nested join, and whether the definition gives it. Assumes nothing: these are
 -- definitions.
 use Rattle.std.specs.Prelude.{Bool, true, false, ◌&&◌, List, [], ◌∷◌, ℕ, eqb}
-use Rattle.std.proofs.Math.Option.{Option, none, some}
+use Rattle.std.specs.Prelude.{Option, None, Some}
 use Rattle.flat.specs.Tree.{DataType, kinds_of, args_of}
 use Rattle.supertype_nested.specs.Nested.{SuperTypeOptions, options, supertype_tree}
 
@@ -29,10 +29,10 @@ unfoldable pub same_nodes : DataType → DataType → Bool
 same_nodes t u = same_numbers (kinds_of t) (kinds_of u) && same_numbers (args_of t) (args_of u)
 
 abbrev pub same_answer : Option DataType → Option DataType → Bool
-same_answer none none = true
-same_answer none (some u) = false
-same_answer (some t) none = false
-same_answer (some t) (some u) = same_nodes t u
+same_answer None None = true
+same_answer None (Some u) = false
+same_answer (Some t) None = false
+same_answer (Some t) (Some u) = same_nodes t u
 
 -- the definition gives the answer
 unfoldable pub agrees : Recorded → Bool

@@ -1,2 +1,1 @@
-mod Compare
 mod Input

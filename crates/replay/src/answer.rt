@@ -1,79 +1,45 @@
 // Whether a recorded answer is the one that a call gave.
-ghost use Rattle.std.specs.Prelude.{◌≡◌, []};
-ghost use Rattle.replay.specs.Answer.{Decides, record_of};
+ghost use Rattle.std.specs.Prelude.{◌≡◌, [], ◌++◌, Decides};
+ghost use Rattle.replay.specs.Answer.{record_of};
 
-// A kind as a number.
-fn wide(kind: u8) -> u64
-    ensures { result ≡ kind }
-{
-    kind as u64
-}
+use flat::reply::Reply;
 
 // Whether the numbers are these kinds.
 fn same_kinds(numbers: &[u64], kinds: &[u8]) -> bool
     ensures { Decides result (numbers.now ≡ kinds.now) }
 {
-    if numbers.len() != kinds.len() {
-        return false;
-    }
-    let mut i = 0;
-    while i < numbers.len() {
-        if numbers[i] != wide(kinds[i]) {
-            return false;
-        }
-        i += 1;
-    }
-    true
-}
-
-// Whether the numbers are these others.
-pub fn same_numbers(numbers: &[u64], others: &[u64]) -> bool
-    ensures { Decides result (numbers.now ≡ others.now) }
-{
-    if numbers.len() != others.len() {
-        return false;
-    }
-    let mut i = 0;
-    while i < numbers.len() {
-        if numbers[i] != others[i] {
-            return false;
-        }
-        i += 1;
-    }
-    true
+    numbers.len() == kinds.len()
+        && numbers
+            .iter()
+            .zip(kinds)
+            .all(|(&number, &kind)| number == u64::from(kind))
 }
 
 // An answer without a result.
-pub fn is_reply(recorded: &[u64], number: u64, value: u64) -> bool
-    ensures { Decides result (recorded.now ≡ record_of number value [] []) }
+#[tactic(auto, unfolding(crate::specs::Answer::record_of))]
+pub fn is_reply(recorded: &[u64], given: Reply) -> bool
+    ensures { Decides result (recorded.now ≡ record_of given [] []) }
 {
-    if recorded.len() != 2 {
+    recorded == [given.number, given.value].as_slice()
+}
+
+// Whether the numbers are these kinds and then these arguments.
+fn is_result(numbers: &[u64], kinds: &[u8], args: &[u64]) -> bool
+    ensures { Decides result (numbers.now ≡ kinds.now ++ args.now) }
+{
+    let Some((its_kinds, its_args)) = numbers.split_at_checked(kinds.len()) else {
         return false;
-    }
-    if recorded[0] != number {
-        return false;
-    }
-    recorded[1] == value
+    };
+    same_kinds(its_kinds, kinds) && its_args == args
 }
 
 // An answer whose result is kinds and arguments.
-pub fn is_answer(recorded: &[u64], number: u64, value: u64, kinds: &[u8], args: &[u64]) -> bool
-    ensures { let given = record_of number value kinds.now args.now in
-        Decides result (recorded.now ≡ given) }
+#[tactic(auto, unfolding(crate::specs::Answer::record_of))]
+pub fn is_answer(recorded: &[u64], given: Reply, kinds: &[u8], args: &[u64]) -> bool
+    ensures { Decides result (recorded.now ≡ record_of given kinds.now args.now) }
 {
-    if recorded.len() < 2 {
+    let [number, value, result @ ..] = recorded else {
         return false;
-    }
-    let nodes = kinds.len();
-    if recorded.len() - 2 < nodes {
-        return false;
-    }
-    if !is_reply(&recorded[..2], number, value) {
-        return false;
-    }
-    let from = 2 + nodes;
-    if !same_kinds(&recorded[2..from], kinds) {
-        return false;
-    }
-    same_numbers(&recorded[from..], args)
+    };
+    *number == given.number && *value == given.value && is_result(result, kinds, args)
 }

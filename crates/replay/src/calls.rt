@@ -1,277 +1,217 @@
-// The calls, by the numbers of their entry points. `recorded` is what a line has after the types of a call: its other
-// inputs, then its answer.
-use crate::answer::{is_answer, is_reply, same_numbers};
-use crate::output::{BuiltForm, JoinRule, is_built, is_joined};
-use crate::parts::{cut, first, from};
-use crate::reader::{Flag, NODES, TypeRead, read_flag, read_type, to_bytes};
+// The calls, by the numbers of their entry points. A line has the types of a call, then its other inputs, then its
+// answer. None where that isn't what stands there.
+use crate::answer::{is_answer, is_reply};
+use crate::output::is_written;
+use crate::reader::{NODES, read_flag, read_type, to_bytes};
 use channels::ChannelTypes;
-use dtype::answer::Answer;
+use dtype::time_units::coarser_unit;
 use dtype_cast::can_cast_to;
 use dtype_eq::{contains_dtype_recursive, equal};
+use dtype_inner::{
+    array_leaf_dtype, array_leaf_dtype_args, array_leaf_dtype_kinds, get_shape, inner_dtype,
+    inner_dtype_args, inner_dtype_kinds, leaf_dtype, leaf_dtype_args, leaf_dtype_kinds,
+};
 use flat::error::Error;
-use flat::{Flat, Optional};
+use flat::reply::{Reply, Value};
+use supertype::get_supertype_with_options;
+use supertype_lossless::get_numeric_upcast_supertype_lossless;
 use supertype_report::join_report;
 
-fn is_checked(kinds: &[u8], args: &[u64], recorded: &[u64]) -> bool {
-    let checked = flat::check(kinds, args);
-    is_reply(recorded, checked.number(), checked.value())
+// A call on one type, whose answer has no result.
+fn on_one<T: Value, F: FnOnce(&[u8], &[u64]) -> Result<T, Error>>(
+    line: &[u64],
+    call: F,
+) -> Option<bool>
+    requires { F.IsAlwaysCallable call }
+{
+    let mut room = [0; NODES];
+    let read = read_type(line, &mut room)?;
+    Some(is_reply(read.rest, call(read.kinds, read.args).into()))
 }
 
-fn predicate(entry: u64, kinds: &[u8], args: &[u64]) -> Answer {
-    match entry {
-        2 => dtype::is_nested(kinds, args),
-        3 => dtype::is_known(kinds, args),
-        4 => dtype::is_logical(kinds, args),
-        5 => dtype::is_primitive(kinds, args),
-        6 => dtype::is_primitive_numeric(kinds, args),
-        7 => dtype::is_temporal(kinds, args),
-        8 => dtype::is_float(kinds, args),
-        9 => dtype::is_integer(kinds, args),
-        10 => dtype::is_signed_integer(kinds, args),
-        11 => dtype::is_unsigned_integer(kinds, args),
-        12 => dtype::is_string(kinds, args),
-        13 => dtype::is_unknown(kinds, args),
-        14 => dtype::contains_unknown(kinds, args),
-        _ => dtype::contains_list_recursive(kinds, args),
-    }
+// A call on two types, whose answer has no result.
+fn on_two<T: Value, F: FnOnce(&[u8], &[u64], &[u8], &[u64]) -> Result<T, Error>>(
+    line: &[u64],
+    call: F,
+) -> Option<bool>
+    requires { F.IsAlwaysCallable call }
+{
+    let mut left_room = [0; NODES];
+    let mut right_room = [0; NODES];
+    let left = read_type(line, &mut left_room)?;
+    let right = read_type(left.rest, &mut right_room)?;
+    let answer = call(left.kinds, left.args, right.kinds, right.args);
+    Some(is_reply(right.rest, answer.into()))
 }
 
 // The room is recorded first. The port gives parts of the input and the recorded call copies, so only that one is
 // refused for its room.
-fn is_part(inner: Optional, kinds: &[u8], args: &[u64], recorded: &[u64]) -> bool {
-    if recorded.len() == 0 {
-        return false;
+fn is_part(
+    inner: Result<Option<usize>, Error>,
+    kinds: &[u8],
+    args: &[u64],
+    recorded: &[u64],
+) -> Option<bool> {
+    let (&room, recorded) = recorded.split_first()?;
+    let given = Reply::from(inner);
+    if given.value > room {
+        let refused: Result<(), Error> = Err(Error::OutputTooShort);
+        return Some(is_reply(recorded, refused.into()));
     }
-    let room = recorded[0];
-    let answer = &recorded[1..];
-    let nodes = inner.value();
-    if nodes > room {
-        return is_reply(answer, Error::OutputTooShort.number(), 0);
-    }
-    is_answer(answer, inner.number(), nodes, kinds, args)
+    Some(is_answer(recorded, given, kinds, args))
 }
 
-fn is_inner(entry: u64, kinds: &[u8], args: &[u64], recorded: &[u64]) -> bool {
-    match entry {
-        19 => is_part(
-            dtype_inner::inner_dtype(kinds, args),
-            dtype_inner::inner_dtype_kinds(kinds, args),
-            dtype_inner::inner_dtype_args(kinds, args),
-            recorded,
-        ),
-        20 => is_part(
-            dtype_inner::leaf_dtype(kinds, args),
-            dtype_inner::leaf_dtype_kinds(kinds, args),
-            dtype_inner::leaf_dtype_args(kinds, args),
-            recorded,
-        ),
-        _ => is_part(
-            dtype_inner::array_leaf_dtype(kinds, args),
-            dtype_inner::array_leaf_dtype_kinds(kinds, args),
-            dtype_inner::array_leaf_dtype_args(kinds, args),
-            recorded,
-        ),
-    }
+// A call that gives a part of a type: how many nodes it has, its kinds and its arguments.
+fn on_part<
+    N: FnOnce(&[u8], &[u64]) -> Result<Option<usize>, Error>,
+    K: for<'a> FnOnce(&'a [u8], &[u64]) -> &'a [u8],
+    A: for<'a> FnOnce(&[u8], &'a [u64]) -> &'a [u64],
+>(line: &[u64], nodes: N, kinds: K, args: A) -> Option<bool>
+    requires nodes { N.IsAlwaysCallable nodes }
+    requires kinds { K.IsAlwaysCallable kinds }
+    requires args { A.IsAlwaysCallable args }
+{
+    let mut room = [0; NODES];
+    let read = read_type(line, &mut room)?;
+    is_part(
+        nodes(read.kinds, read.args),
+        kinds(read.kinds, read.args),
+        args(read.kinds, read.args),
+        read.rest,
+    )
 }
 
-fn is_materialized(kinds: &[u8], args: &[u64], recorded: &[u64]) -> bool {
-    match read_flag(recorded, 0) {
-        Flag::Is(allow_unknown) => is_built(
-            BuiltForm::Materialized(allow_unknown),
-            kinds,
-            args,
-            from(recorded, 1),
-        ),
-        Flag::Nothing => false,
-    }
+fn is_physical(line: &[u64]) -> Option<bool> {
+    let mut room = [0; NODES];
+    let read = read_type(line, &mut room)?;
+    is_written(read.rest, |kinds, args| {
+        dtype_build::to_physical(read.kinds, read.args, kinds, args)
+    })
 }
 
-// Unused widths are 0.
-fn is_shape(number: u64, count: u64, widths: &[u64; Flat::MAX_DEPTH], recorded: &[u64]) -> bool {
-    let n = count as usize;
-    let unused = [0u64; Flat::MAX_DEPTH];
-    if !same_numbers(from(widths, n), from(&unused, n)) {
-        return false;
-    }
-    is_answer(recorded, number, count, b"", cut(widths, 0, n))
+// The flag is recorded first.
+fn is_materialized(line: &[u64]) -> Option<bool> {
+    let mut room = [0; NODES];
+    let read = read_type(line, &mut room)?;
+    let (allow_unknown, recorded) = read_flag(read.rest)?;
+    is_written(recorded, |kinds, args| {
+        dtype_build::materialize_unknown(read.kinds, read.args, allow_unknown, kinds, args)
+    })
 }
 
-fn is_shaped(kinds: &[u8], args: &[u64], recorded: &[u64]) -> bool {
-    let shape = dtype_inner::get_shape(kinds, args);
-    let widths = shape.widths;
-    is_shape(shape.number, shape.count, &widths, recorded)
+// The widths are recorded as arguments; unused ones are 0.
+fn is_shaped(line: &[u64]) -> Option<bool> {
+    let mut room = [0; NODES];
+    let read = read_type(line, &mut room)?;
+    let shape = get_shape(read.kinds, read.args);
+    let given = Reply::from(shape.map(|shape| shape.count));
+    let Ok(shape) = shape else {
+        return Some(is_reply(read.rest, given));
+    };
+    let (widths, unused) = shape.widths.split_at_checked(shape.count)?;
+    Some(unused.iter().all(|&width| width == 0) && is_answer(read.rest, given, &[], widths))
 }
 
 // The channel and the codes are recorded first, and as the result the codes that the merge leaves, beside a refusal
 // too.
-fn is_merged(kinds: &[u8], args: &[u64], recorded: &[u64]) -> bool {
-    if recorded.len() == 0 {
-        return false;
-    }
-    let channel = recorded[0] as usize;
-    let end = 1 + ChannelTypes::CHANNELS;
-    let mut codes = [0u8; ChannelTypes::CHANNELS];
-    if !to_bytes(cut(recorded, 1, end), &mut codes) {
-        return false;
-    }
-    let next = ChannelTypes { codes }.merge(channel, kinds, args);
-    let answer = next.answer;
-    let after = next.types.codes;
-    is_answer(
-        from(recorded, end),
-        answer.number(),
-        answer.value(),
-        &after,
-        &recorded[..0],
-    )
+fn is_merged(line: &[u64]) -> Option<bool> {
+    let mut room = [0; NODES];
+    let read = read_type(line, &mut room)?;
+    let (&channel, recorded) = read.rest.split_first()?;
+    let (before, recorded) = recorded.split_at_checked(ChannelTypes::CHANNELS)?;
+    let mut codes = [0; ChannelTypes::CHANNELS];
+    to_bytes(before, &mut codes)?;
+    let merged = ChannelTypes { codes }.merge(channel as usize, read.kinds, read.args);
+    let answer = merged.answer.into();
+    Some(is_answer(recorded, answer, &merged.types.codes, &[]))
 }
 
-fn agrees_on(entry: u64, kinds: &[u8], args: &[u64], recorded: &[u64]) -> bool {
-    match entry {
-        1 => is_checked(kinds, args, recorded),
-        2..=15 => {
-            let answer = predicate(entry, kinds, args);
-            is_reply(recorded, answer.number(), answer.value())
-        }
-        19..=21 => is_inner(entry, kinds, args, recorded),
-        22 => is_built(BuiltForm::Physical, kinds, args, recorded),
-        23 => is_materialized(kinds, args, recorded),
-        24 => is_shaped(kinds, args, recorded),
-        29 => is_merged(kinds, args, recorded),
-        _ => false,
-    }
+fn is_lossless(line: &[u64]) -> Option<bool> {
+    let mut left_room = [0; NODES];
+    let mut right_room = [0; NODES];
+    let left = read_type(line, &mut left_room)?;
+    let right = read_type(left.rest, &mut right_room)?;
+    is_written(right.rest, |kinds, args| {
+        get_numeric_upcast_supertype_lossless(
+            left.kinds,
+            left.args,
+            right.kinds,
+            right.args,
+            kinds,
+            args,
+        )
+    })
 }
 
 // The flags are recorded first.
-fn is_supertype(
-    left_kinds: &[u8],
-    left_args: &[u64],
-    right_kinds: &[u8],
-    right_args: &[u64],
-    recorded: &[u64],
-) -> bool {
-    match read_flag(recorded, 0) {
-        Flag::Is(implode_list) => match read_flag(recorded, 1) {
-            Flag::Is(to_string) => is_joined(
-                JoinRule::Supertype(implode_list, to_string),
-                left_kinds,
-                left_args,
-                right_kinds,
-                right_args,
-                from(recorded, 2),
-            ),
-            Flag::Nothing => false,
-        },
-        Flag::Nothing => false,
-    }
+fn is_supertype(line: &[u64]) -> Option<bool> {
+    let mut left_room = [0; NODES];
+    let mut right_room = [0; NODES];
+    let left = read_type(line, &mut left_room)?;
+    let right = read_type(left.rest, &mut right_room)?;
+    let (implode_list, recorded) = read_flag(right.rest)?;
+    let (to_string, recorded) = read_flag(recorded)?;
+    is_written(recorded, |kinds, args| {
+        get_supertype_with_options(
+            left.kinds,
+            left.args,
+            right.kinds,
+            right.args,
+            implode_list,
+            to_string,
+            kinds,
+            args,
+        )
+    })
 }
 
-fn agrees_on_two(
-    entry: u64,
-    left_kinds: &[u8],
-    left_args: &[u64],
-    right_kinds: &[u8],
-    right_args: &[u64],
-    recorded: &[u64],
-) -> bool {
-    match entry {
-        16 => {
-            let answer = equal(left_kinds, left_args, right_kinds, right_args);
-            is_reply(recorded, answer.number(), answer.value())
-        }
-        17 => {
-            let answer = contains_dtype_recursive(left_kinds, left_args, right_kinds, right_args);
-            is_reply(recorded, answer.number(), answer.value())
-        }
-        18 => {
-            let verdict = can_cast_to(left_kinds, left_args, right_kinds, right_args);
-            is_reply(recorded, verdict.number(), verdict.value())
-        }
-        26 => is_joined(
-            JoinRule::Lossless,
-            left_kinds,
-            left_args,
-            right_kinds,
-            right_args,
-            recorded,
-        ),
-        27 => is_supertype(left_kinds, left_args, right_kinds, right_args, recorded),
-        _ => {
-            let report = join_report(left_kinds, left_args, right_kinds, right_args);
-            is_reply(recorded, report.number(), report.value())
-        }
-    }
-}
-
-// The first n kinds: behind a reference, the array asks for no proof of its length.
-fn kinds_of(kinds: &[u8; NODES], n: usize) -> &[u8] {
-    first(kinds, n)
-}
-
-fn one_type(entry: u64, line: &[u64]) -> bool {
-    let mut kinds = [0u8; NODES];
-    match read_type(line, &mut kinds) {
-        TypeRead::At(n, args, end) => agrees_on(
-            entry,
-            kinds_of(&kinds, n),
-            cut(line, args, end),
-            from(line, end),
-        ),
-        TypeRead::Nothing => false,
-    }
-}
-
-// Reads the right type; the left one is read.
-fn right_type(entry: u64, left_kinds: &[u8], left_args: &[u64], line: &[u64]) -> bool {
-    let mut kinds = [0u8; NODES];
-    match read_type(line, &mut kinds) {
-        TypeRead::At(n, args, end) => agrees_on_two(
-            entry,
-            left_kinds,
-            left_args,
-            kinds_of(&kinds, n),
-            cut(line, args, end),
-            from(line, end),
-        ),
-        TypeRead::Nothing => false,
-    }
-}
-
-fn two_types(entry: u64, line: &[u64]) -> bool {
-    let mut kinds = [0u8; NODES];
-    match read_type(line, &mut kinds) {
-        TypeRead::At(n, args, end) => right_type(
-            entry,
-            kinds_of(&kinds, n),
-            cut(line, args, end),
-            from(line, end),
-        ),
-        TypeRead::Nothing => false,
-    }
-}
-
-fn two_units(line: &[u64]) -> bool {
-    if line.len() < 2 {
-        return false;
-    }
-    let left = line[0];
-    let right = line[1];
-    if left > 255 {
-        return false;
-    }
-    if right > 255 {
-        return false;
-    }
-    let unit = dtype::time_units::coarser_unit(left as u8, right as u8);
-    is_reply(&line[2..], unit.number(), unit.value())
+// Units stand by their numbers.
+fn is_coarser_unit(line: &[u64]) -> Option<bool> {
+    let [left, right, recorded @ ..] = line else {
+        return None;
+    };
+    let left = u8::try_from(*left).ok()?;
+    let right = u8::try_from(*right).ok()?;
+    Some(is_reply(recorded, coarser_unit(left, right).into()))
 }
 
 // Whether the port answers a call as a line has it, of which this is what follows the entry point's number.
-pub fn agrees(entry: u64, line: &[u64]) -> bool {
+pub fn agrees(entry: u64, line: &[u64]) -> Option<bool> {
     match entry {
-        16..=18 => two_types(entry, line),
-        25 => two_units(line),
-        26..=28 => two_types(entry, line),
-        _ => one_type(entry, line),
+        1 => on_one(line, flat::check),
+        2 => on_one(line, dtype::is_nested),
+        3 => on_one(line, dtype::is_known),
+        4 => on_one(line, dtype::is_logical),
+        5 => on_one(line, dtype::is_primitive),
+        6 => on_one(line, dtype::is_primitive_numeric),
+        7 => on_one(line, dtype::is_temporal),
+        8 => on_one(line, dtype::is_float),
+        9 => on_one(line, dtype::is_integer),
+        10 => on_one(line, dtype::is_signed_integer),
+        11 => on_one(line, dtype::is_unsigned_integer),
+        12 => on_one(line, dtype::is_string),
+        13 => on_one(line, dtype::is_unknown),
+        14 => on_one(line, dtype::contains_unknown),
+        15 => on_one(line, dtype::contains_list_recursive),
+        16 => on_two(line, equal),
+        17 => on_two(line, contains_dtype_recursive),
+        18 => on_two(line, can_cast_to),
+        19 => on_part(line, inner_dtype, inner_dtype_kinds, inner_dtype_args),
+        20 => on_part(line, leaf_dtype, leaf_dtype_kinds, leaf_dtype_args),
+        21 => on_part(
+            line,
+            array_leaf_dtype,
+            array_leaf_dtype_kinds,
+            array_leaf_dtype_args,
+        ),
+        22 => is_physical(line),
+        23 => is_materialized(line),
+        24 => is_shaped(line),
+        25 => is_coarser_unit(line),
+        26 => is_lossless(line),
+        27 => is_supertype(line),
+        28 => on_two(line, join_report),
+        29 => is_merged(line),
+        _ => None,
     }
 }

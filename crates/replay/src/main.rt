@@ -10,12 +10,10 @@
 mod answer;
 mod calls;
 mod output;
-mod parts;
 mod reader;
 
-ghost use Rattle.std.specs.Prelude.{◌≡◌, ◌≤◌, length, take, IfOk, IfSome};
+ghost use Rattle.std.specs.Prelude.{◌≡◌, take, IfOk, IfSome};
 
-use parts::cut;
 use reader::{NUMBERS, read_numbers};
 use std::alloc::Global;
 use std::io;
@@ -24,81 +22,14 @@ use std::io::Read;
 // The most bytes of input. More are not read, and then the last line is missing.
 const BYTES: usize = 524288;
 
-// What a line is: the last one, or a call that is answered here as recorded, or otherwise.
-#[derive(Clone, Copy)]
-enum Line {
-    Last,
-    Same,
-    Differs,
-}
-
-fn replay_numbers(numbers: &[u64; NUMBERS], n: usize) -> Line {
-    let entry = numbers[0];
-    if entry == 0 {
-        if n == 1 {
-            return Line::Last;
-        }
+// Whether a call is answered here as its line has it; None at the last line.
+fn replay_line(line: &[u8]) -> Option<bool> {
+    let mut room = [0; NUMBERS];
+    match read_numbers(line, &mut room) {
+        Some([0]) => None,
+        Some([entry, rest @ ..]) => Some(calls::agrees(*entry, rest).unwrap_or(false)),
+        _ => Some(false),
     }
-    if calls::agrees(entry, cut(numbers, 1, n)) {
-        Line::Same
-    } else {
-        Line::Differs
-    }
-}
-
-fn replay_line(text: &[u8]) -> Line {
-    let mut numbers = [0u64; NUMBERS];
-    let n = read_numbers(text, &mut numbers);
-    if n == 0 {
-        return Line::Differs;
-    }
-    replay_numbers(&numbers, n)
-}
-
-// Where the line ends that starts at `from`: at its line feed, or with the text.
-fn line_end(text: &[u8], from: usize) -> usize
-    requires { from ≤ length text.now }
-    ensures { (from ≤ result) × (result ≤ length text.now) }
-{
-    let mut at = from;
-    while at < text.len() {
-        if text[at] == b'\n' {
-            return at;
-        }
-        at += 1;
-    }
-    at
-}
-
-fn say_differs(rt: &impl Print, line: u64) -> io::Result<()> {
-    println!(rt; "line {line} differs")
-}
-
-fn say_all(rt: &impl Print, answers: u64, differ: u64) -> io::Result<()> {
-    println!(rt; "{answers} answers replayed, {differ} differ")
-}
-
-fn replay(rt: &impl Print, text: &[u8]) -> io::Result<()> {
-    let mut from = 0;
-    let mut answers = 0;
-    let mut differ = 0;
-    while from < text.len() {
-        let end = line_end(text, from);
-        match replay_line(&text[from..end]) {
-            Line::Last => return say_all(rt, answers, differ),
-            Line::Same => answers += 1,
-            Line::Differs => {
-                answers += 1;
-                differ += 1;
-                say_differs(rt, answers)?;
-            }
-        }
-        if end == text.len() {
-            break;
-        }
-        from = end + 1;
-    }
-    println!(rt; "the last line is missing")
 }
 
 // The bytes of the input, of which no more than BYTES are read.
@@ -110,7 +41,21 @@ fn read_text<R: Read + Drop>(alloc: Global, input: R) -> io::Result<Vec<u8>>
     Ok(text)
 }
 
+// The loop stands here and not in a function over `impl Print`: under a type parameter the check takes no invariant of
+// a loop whose iterator holds a closure.
 fn main(rt: HostRuntime) -> io::Result<()> {
     let text = read_text(rt.alloc(), rt.stdin())?;
-    replay(&rt, &text)
+    let mut answers: u64 = 0;
+    let mut differ: u64 = 0;
+    for line in text.split_inclusive(|&byte| byte == b'\n') {
+        let Some(agrees) = replay_line(line.strip_suffix(b"\n").unwrap_or(line)) else {
+            return println!(rt; "{answers} answers replayed, {differ} differ");
+        };
+        answers += 1;
+        if !agrees {
+            differ += 1;
+            println!(rt; "line {answers} differs")?;
+        }
+    }
+    println!(rt; "the last line is missing")
 }

@@ -1,4 +1,4 @@
-// Reads the numbers of a line, and a type or a flag among them.
+// Reads the numbers of a line, and a type or a flag among them. None where what is read doesn't stand there.
 use flat::Flat;
 
 // The most numbers of a line.
@@ -7,134 +7,60 @@ pub const NUMBERS: usize = 2048;
 // The most nodes of what is recorded as a type: one more than a type has.
 pub const NODES: usize = Flat::MAX_NODES + 1;
 
-// A number and the place after it.
-#[derive(Clone, Copy)]
-enum Number {
-    Is(u64, usize),
-    Nothing,
+// A number in decimal, without the sign that `parse` would take too.
+fn number(word: &[u8]) -> Option<u64> {
+    if word.starts_with(b"+") {
+        return None;
+    }
+    str::from_utf8(word).ok()?.parse().ok()
 }
 
-// A decimal digit's value; 10 for any other byte.
-fn digit(byte: u8) -> u64 {
-    if byte < b'0' {
-        return 10;
-    }
-    if byte > b'9' {
-        return 10;
-    }
-    let value = byte - b'0';
-    value as u64
-}
-
-// The number in decimal that starts at `from`; Nothing where no digit stands there or the number doesn't fit.
-fn read_number(text: &[u8], from: usize) -> Number {
-    let mut value: u64 = 0;
-    let mut at = from;
-    while at < text.len() {
-        let d = digit(text[at]);
-        if d > 9 {
-            break;
-        }
-        if value > u64::MAX / 10 {
-            return Number::Nothing;
-        }
-        let tens = value * 10;
-        if d > u64::MAX - tens {
-            return Number::Nothing;
-        }
-        value = tens + d;
-        at += 1;
-    }
-    if at == from {
-        return Number::Nothing;
-    }
-    Number::Is(value, at)
-}
-
-// Puts the numbers of a line, which have one space between them, at the front of `numbers`, and gives their count; 0
-// where it can't.
-pub fn read_numbers(text: &[u8], numbers: &mut [u64; NUMBERS]) -> usize {
-    let mut from = 0;
+// Reads the numbers of a line, which have one space between them, to `room`.
+pub fn read_numbers<'a>(line: &[u8], room: &'a mut [u64; NUMBERS]) -> Option<&'a [u64]> {
     let mut n = 0;
-    while n < NUMBERS {
-        match read_number(text, from) {
-            Number::Nothing => return 0,
-            Number::Is(value, end) => {
-                numbers[n] = value;
-                n += 1;
-                if end >= text.len() {
-                    return n;
-                }
-                if text[end] != b' ' {
-                    return 0;
-                }
-                from = end + 1;
-            }
-        }
+    for word in line.split(|&byte| byte == b' ') {
+        *room.get_mut(n)? = number(word)?;
+        n += 1;
     }
-    0
+    room.get(..n)
 }
 
-// How many kinds a type has that stands at the front of a line, and where its arguments start and end.
+// As many numbers as the first one says, and what follows them.
+fn counted(line: &[u64]) -> Option<(&[u64], &[u64])> {
+    let (&n, rest) = line.split_first()?;
+    rest.split_at_checked(n as usize)
+}
+
+// Copies numbers that are bytes to the front of `room`.
+pub fn to_bytes<'a>(numbers: &[u64], room: &'a mut [u8]) -> Option<&'a [u8]> {
+    let bytes = room.get_mut(..numbers.len())?;
+    for (byte, &number) in bytes.iter_mut().zip(numbers) {
+        *byte = u8::try_from(number).ok()?;
+    }
+    Some(bytes)
+}
+
+// A type that stands at the front of a line: its kinds and its arguments, and what follows it.
 #[derive(Clone, Copy)]
-pub enum TypeRead {
-    At(usize, usize, usize),
-    Nothing,
+pub struct TypeRead<'a> {
+    pub kinds: &'a [u8],
+    pub args: &'a [u64],
+    pub rest: &'a [u64],
 }
 
-// Copies numbers to the front of `bytes`; false where there are too many or one is no byte.
-pub fn to_bytes(numbers: &[u64], bytes: &mut [u8]) -> bool {
-    if numbers.len() > bytes.len() {
-        return false;
-    }
-    let mut i = 0;
-    while i < numbers.len() {
-        let x = numbers[i];
-        if x > 255 {
-            return false;
-        }
-        bytes[i] = x as u8;
-        i += 1;
-    }
-    true
+// Reads a type: the number of its kinds, the kinds, which go to `room`, the number of its arguments, the arguments.
+pub fn read_type<'a>(line: &'a [u64], room: &'a mut [u8; NODES]) -> Option<TypeRead<'a>> {
+    let (kinds, line) = counted(line)?;
+    let kinds = to_bytes(kinds, room)?;
+    let (args, rest) = counted(line)?;
+    Some(TypeRead { kinds, args, rest })
 }
 
-// Reads a type: the number of its kinds, the kinds, which go to the front of `kinds`, the number of its arguments, the
-// arguments.
-pub fn read_type(line: &[u64], kinds: &mut [u8; NODES]) -> TypeRead {
-    if line.len() == 0 {
-        return TypeRead::Nothing;
-    }
-    let n = line[0] as usize;
-    if n >= line.len() - 1 {
-        return TypeRead::Nothing;
-    }
-    let k = n + 1;
-    if !to_bytes(&line[1..k], kinds) {
-        return TypeRead::Nothing;
-    }
-    let m = line[k] as usize;
-    let args = k + 1;
-    if m > line.len() - args {
-        return TypeRead::Nothing;
-    }
-    TypeRead::At(n, args, args + m)
-}
-
-#[derive(Clone, Copy)]
-pub enum Flag {
-    Is(bool),
-    Nothing,
-}
-
-// Reads a flag, which is 0 or 1; Nothing where none stands there.
-pub fn read_flag(numbers: &[u64], at: usize) -> Flag {
-    if at >= numbers.len() {
-        return Flag::Nothing;
-    }
-    match numbers[at] {
-        0 => Flag::Is(false),
-        1 => Flag::Is(true),
-        _ => Flag::Nothing,
+// Reads a flag, which is 0 or 1, and gives what follows it too.
+pub fn read_flag(line: &[u64]) -> Option<(bool, &[u64])> {
+    match line {
+        [0, rest @ ..] => Some((false, rest)),
+        [1, rest @ ..] => Some((true, rest)),
+        _ => None,
     }
 }

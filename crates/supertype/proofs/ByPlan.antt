@@ -1,6 +1,7 @@
 -- The answer by its plan, for two types in the order of their kinds. Assumes nothing.
-use mathlib.Core.Path.{◌≡◌, refl, sym, ◌∙◌, ap, subst}
+use mathlib.Core.Path.{◌≡◌, refl, sym, ◌∙◌, ap}
 use mathlib.Core.Bool.{Bool, true, false, not, ◌&&◌, ◌||◌}
+use Rattle.std.specs.Prelude.{Option, None, Some}
 use Prim.Native.Nat.{ℕ, ◌+◌, ◌*◌, ◌/◌, ◌%◌, ◌≤◌, ◌<◌, max}
 use native.Mathlib.Nat.{max_comm}
 use native.Mathlib.Omega.{arith}
@@ -19,12 +20,12 @@ use Rattle.dtype.proofs.Runs.{says, of_run}
 use Rattle.supertype_numbers.specs.DynInt.{materialize_dyn_int}
 use Rattle.supertype_numbers.specs.Range.{Listed, is_listed}
 use Rattle.supertype_numbers.proofs.Tests.{to_listed}
-use Rattle.supertype_answer.specs.Join.{Node, Supertype, Some, Nothing, node, common_of}
-use Rattle.supertype_answer.specs.declared.Common.{Common}
+use Rattle.flat.specs.declared.Node.{Node}
+use Rattle.supertype_answer.specs.Join.{node}
 use Rattle.supertype_arms.specs.declared.plan.Plan.{Plan}
 use Rattle.supertype_arms.specs.declared.plan.Plan.TheVariants as plan
-use Rattle.supertype_arms.specs.Node.{unit_in, unit, zone, value, plain, fits}
-use Rattle.supertype_arms.specs.Supertype.{fits_orig_prec_scale, beside_integer, dyn_number, run, known_supertype}
+use Rattle.supertype_arms.specs.Node.{precision, scale, decimal, unit_in, unit, zone, value, plain, fits}
+use Rattle.supertype_arms.specs.Supertype.{beside_integer, dyn_number, run, known_supertype}
 use Rattle.supertype_arms.specs.Rule.{rule_of, Apart}
 use Rattle.supertype_arms.proofs.Areas.{code_of, alike}
 use Rattle.supertype_arms.proofs.Answers.{plain_zero, same_node, zones, everywhere, at_apart}
@@ -88,75 +89,70 @@ bare n f h =
     same_node n (plain_zero n f (is_true (plain n.kind) t))
 
 -- what the definition gives for two types in order
-abbrev given : Bool → Node → Node → Common
-given s l r = common_of (run known_supertype (rule_of s l.kind r.kind) l r)
+abbrev given : Bool → Node → Node → Option Node
+given s l r = run known_supertype (rule_of s l.kind r.kind) l r
 
 module _ {s : Bool} {l r : Node} where
-  by_plan : {p : Plan} (t : Supertype) → Planned s l r p → t ≡ run known_supertype p l r → common_of t ≡ given s l r
-  by_plan t w h = ap common_of (h ∙ ap (λ (x : Plan). run known_supertype x l r) w.is)
+  by_plan : {p : Plan} (t : Option Node) → Planned s l r p → t ≡ run known_supertype p l r → t ≡ given s l r
+  by_plan t w h = h ∙ ap (λ (x : Plan). run known_supertype x l r) w.is
 
-  pub none : Planned s l r plan.No → Common.Nothing ≡ given s l r
+  pub none : Planned s l r plan.No → None ≡ given s l r
   unfolding run
-  none w = by_plan Nothing w refl
+  none w = by_plan None w refl
 
-  pub left : Planned s l r plan.Left → Common.Some l.kind l.arg ≡ given s l r
+  pub left : Planned s l r plan.Left → Some l ≡ given s l r
   unfolding run
   left w = by_plan (Some l) w refl
 
-  pub right : Planned s l r plan.Right → Common.Some r.kind r.arg ≡ given s l r
+  pub right : Planned s l r plan.Right → Some r ≡ given s l r
   unfolding run
   right w = by_plan (Some r) w refl
 
-  pub kind : {k : ℕ} → Planned s l r (plan.Kind k) → Common.Some k 0 ≡ given s l r
+  pub kind : {k : ℕ} {n : Node} → Planned s l r (plan.Kind k) → n ≡ node k 0 → Some n ≡ given s l r
   unfolding run
-  kind {k} w = by_plan (Some (node k 0)) w refl
+  kind {k} {n} w h = by_plan (Some n) w (ap Some h)
 
-  pub decimals : {m : ℕ} → Planned s l r plan.Decimals
-      → m ≡ 256 * max (l.arg / 256) (r.arg / 256) + max (l.arg % 256) (r.arg % 256)
-      → Common.Some Kind.Decimal m ≡ given s l r
+  pub decimals : {n : Node} → Planned s l r plan.Decimals
+      → n ≡ decimal (max (precision l) (precision r)) (max (scale l) (scale r)) → Some n ≡ given s l r
   unfolding run
-  decimals {m} w h = by_plan (Some (node Kind.Decimal m)) w (rw h)
+  decimals {n} w h = by_plan (Some n) w (ap Some h)
 
-  pub decimal_kinds : Planned s l r plan.DecimalInteger
-      → (fits (node Kind.Decimal r.arg) ≡ true) × Listed l.kind
+  pub decimal_kinds : Planned s l r plan.DecimalInteger → (r.kind ≡ Kind.Decimal) × (fits r ≡ true) × Listed l.kind
   decimal_kinds w =
       let u = only w (λ a b. is_listed a && eqb b Kind.Decimal) (unfold everywhere is_listed in tt) in
-      let e = eqb→eq r.kind Kind.Decimal (and_right (is_listed l.kind) _ u) in (
-        subst (λ (k : ℕ). fits (node k r.arg) ≡ true) e w.fits_right,
-        to_listed l.kind (and_left (is_listed l.kind) _ u),
-      )
+      let e = eqb→eq r.kind Kind.Decimal (and_right (is_listed l.kind) _ u) in
+      (e, w.fits_right, to_listed l.kind (and_left (is_listed l.kind) _ u))
 
-  pub decimal_integer : {m : ℕ} → Planned s l r plan.DecimalInteger
-      → node Kind.Decimal m ≡ beside_integer (node Kind.Decimal r.arg) l.kind
-      → Common.Some Kind.Decimal m ≡ given s l r
-  unfolding run beside_integer fits_orig_prec_scale
-  decimal_integer {m} w h =
-      let k = (decimal_kinds w).1 in
-      by_plan (Some (node Kind.Decimal m)) w (rw (ne_eqb l.kind Kind.Decimal (omega arith)) (ap Some h))
-
-  pub dyn_decimal : {m : ℕ} → Planned s l r plan.DynDecimal → m ≡ 256 * (l.arg / 256) + dec128_max_prec
-      → Common.Some Kind.Decimal m ≡ given s l r
+  pub decimal_integer : {n : Node} → Planned s l r plan.DecimalInteger → n ≡ beside_integer r l.kind
+      → Some n ≡ given s l r
   unfolding run
-  dyn_decimal {m} w h = by_plan (Some (node Kind.Decimal m)) w (rw h)
+  decimal_integer {n} w h =
+      let k = (decimal_kinds w).2 in
+      by_plan (Some n) w (rw (ne_eqb l.kind Kind.Decimal (omega arith)) (ap Some h))
 
-  pub datetime_duration : {m : ℕ} → Planned s l r plan.DatetimeDuration
-      → m ≡ 4 * (l.arg / 4) + max (l.arg % 4) (r.arg % 4) → Common.Some Kind.Datetime m ≡ given s l r
+  pub dyn_decimal : {n : Node} → Planned s l r plan.DynDecimal → n ≡ decimal dec128_max_prec (scale l)
+      → Some n ≡ given s l r
   unfolding run
-  datetime_duration {m} w h =
+  dyn_decimal {n} w h = by_plan (Some n) w (ap Some h)
+
+  pub datetime_duration : {n : Node} → Planned s l r plan.DatetimeDuration
+      → n ≡ node Kind.Datetime (4 * (l.arg / 4) + max (l.arg % 4) (r.arg % 4)) → Some n ≡ given s l r
+  unfolding run
+  datetime_duration {n} w h =
       let k = pair w Kind.Datetime Kind.Duration (unfold everywhere in tt) in
       let f = unit_of_datetime l w.fits_left k.0 in
       let g = unit_of_duration r w.fits_right k.1 in
-      by_plan (Some (node Kind.Datetime m)) w
+      by_plan (Some n) w
       (rw (h, eq-eqb l.kind Kind.Datetime k.0, larger_unit l r f (omega arith)))
 
-  pub one_zone : {m : ℕ} → Planned s l r plan.Datetimes → l.arg / 4 ≡ r.arg / 4
-      → m ≡ 4 * (r.arg / 4) + max (r.arg % 4) (l.arg % 4) → Common.Some Kind.Datetime m ≡ given s l r
+  pub one_zone : {n : Node} → Planned s l r plan.Datetimes → l.arg / 4 ≡ r.arg / 4
+      → n ≡ node Kind.Datetime (4 * (r.arg / 4) + max (r.arg % 4) (l.arg % 4)) → Some n ≡ given s l r
   unfolding run
-  one_zone {m} w z h =
+  one_zone {n} w z h =
       let k = pair w Kind.Datetime Kind.Datetime (unfold everywhere in tt) in
       let f = unit_of_datetime l w.fits_left k.0 in
       let g = unit_of_datetime r w.fits_right k.1 in
-      by_plan (Some (node Kind.Datetime m)) w
+      by_plan (Some n) w
       (rw (
         h,
         zones (zone l) (zone r),
@@ -165,12 +161,12 @@ module _ {s : Bool} {l r : Node} where
         max_comm (r.arg % 4) (l.arg % 4),
       ))
 
-  pub two_zones : Planned s l r plan.Datetimes → (l.arg / 4 ≡ r.arg / 4 → ⊥) → Common.Nothing ≡ given s l r
+  pub two_zones : Planned s l r plan.Datetimes → (l.arg / 4 ≡ r.arg / 4 → ⊥) → None ≡ given s l r
   unfolding run
-  two_zones w n = by_plan Nothing w (rw (zones (zone l) (zone r), ne_eqb (zone l) (zone r) n))
+  two_zones w n = by_plan None w (rw (zones (zone l) (zone r), ne_eqb (zone l) (zone r) n))
 
   pub durations : {m : ℕ} → Planned s l r plan.Durations → m ≡ max l.arg r.arg
-      → Common.Some Kind.Duration m ≡ given s l r
+      → Some (node Kind.Duration m) ≡ given s l r
   unfolding run
   durations {m} w h =
       let k = pair w Kind.Duration Kind.Duration (unfold everywhere in tt) in
@@ -187,7 +183,7 @@ module _ {s : Bool} {l r : Node} where
       (leb→le Kind.UInt8 l.kind (and_left low _ u), leb→le l.kind Kind.Int64 (and_right low _ u))
 
   pub number : {k : ℕ} → Planned s l r plan.DynNumber
-      → Some (node k 0) ≡ dyn_number known_supertype (node l.kind 0) (value r) → Common.Some k 0 ≡ given s l r
+      → Some (node k 0) ≡ dyn_number known_supertype (node l.kind 0) (value r) → Some (node k 0) ≡ given s l r
   unfolding run
   number {k} w h =
       let b = number_kinds w in
@@ -196,7 +192,7 @@ module _ {s : Bool} {l r : Node} where
       (h ∙ ap (λ (n : Node). dyn_number known_supertype n (value r)) (bare l w.fits_left (omega arith))))
 
   pub boolean : {k : ℕ} → Planned s l r plan.DynBoolean → k ≡ materialize_dyn_int (value r)
-      → Common.Some k 0 ≡ given s l r
+      → Some (node k 0) ≡ given s l r
   unfolding run
   boolean {k} w h =
       let one : l.kind ≡ Kind.Boolean = eqb→eq _ _ (only w (λ a b. eqb a Kind.Boolean) (unfold everywhere in tt)) in

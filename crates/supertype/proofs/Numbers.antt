@@ -1,8 +1,11 @@
 -- The inner call: an integer type with the smallest type of a dyn int, which have no argument. Assumes nothing.
-use mathlib.Core.Path.{◌≡◌, sym}
+use mathlib.Core.Path.{◌≡◌, sym, ap₂, ◌∙◌}
 use mathlib.Core.Bool.{true, false, not, ◌&&◌, and-false}
-use Prim.Native.Nat.{ℕ, ◌≤◌, ◌<◌}
+use mathlib.Core.Logic.{◌⊎◌, inl, inr}
+use Rattle.std.specs.Prelude.{Option, None, Some}
+use Prim.Native.Nat.{ℕ, ◌≤◌, ◌<◌, min, max}
 use native.Mathlib.Omega.{arith}
+use native.Mathlib.Decide.{dec_lt}
 use lib.Dec.{T, leb, eqb, leb→le}
 use lib.IntN.{ℤ}
 use borrow.Author.Tests.{eq-eqb, ne_eqb, eqb-false, not-true}
@@ -12,10 +15,11 @@ use Rattle.flat.proofs.Truths.{is_true}
 use Rattle.dtype.specs.Predicate.{is_signed_integer, is_unsigned_integer}
 use Rattle.dtype.proofs.Runs.{says, of_run}
 use Rattle.supertype_numbers.specs.DynInt.{value_of, materialize_dyn_int_pos, materialize_smallest_dyn_int}
-use Rattle.supertype_answer.specs.Join.{Supertype, Some, Nothing, node}
+use Rattle.flat.specs.declared.Node.{Node}
+use Rattle.supertype_answer.specs.Join.{node}
 use Rattle.supertype_arms.specs.declared.plan.Plan.TheVariants as plan
 use Rattle.supertype_arms.specs.Supertype.{smallest_fitting, dyn_number, Call, run, known_supertype}
-use Rattle.supertype_arms.specs.Rule.{Settles}
+use Rattle.supertype_arms.specs.Rule.{rule_of, Settles}
 use Rattle.supertype_arms.proofs.Areas.{right, rule}
 use Rattle.supertype_arms.proofs.Bare.{of_one, up, down}
 use Rattle.supertype_arms.proofs.Recursive.{smallest_of}
@@ -51,7 +55,7 @@ smallest dt v k e =
 
 -- no inner call is made
 abbrev stop : Call
-stop l r = Nothing
+stop l r = None
 
 pub known_same : (a b : ℕ) → b ≡ a → Some (node a 0) ≡ known_supertype (node a 0) (node b 0)
 unfolding known_supertype
@@ -74,6 +78,21 @@ module _ (a b k : ℕ) (below : a < b) (numbers : b ≤ Kind.Float64) (e : Settl
   unfolding run known_supertype
   join_down = down stop true below numbers (e true)
 
+-- two kinds, whichever is the lesser
+pub join_either : {a b k m n : ℕ} → (a ≡ b → ⊥) → a ≤ Kind.Float64 → b ≤ Kind.Float64 → m ≡ min a b → n ≡ max a b
+    → Settles m n (plan.Kind k) → Some (node k 0) ≡ known_supertype (node a 0) (node b 0)
+join_either {a} {b} {k} {m} {n} d f g low high e = go (dec_lt a b)
+  where
+    go : Dec (a < b) → Some (node k 0) ≡ known_supertype (node a 0) (node b 0)
+    go (yes h) =
+        let i : m ≡ a = omega arith in
+        let j : n ≡ b = omega arith in
+        join_up a b k h g (λ s. e s ∙ ap₂ (rule_of s) i j)
+    go (no h) =
+        let i : m ≡ b = omega arith in
+        let j : n ≡ a = omega arith in
+        join_down b a k (omega arith) f (λ s. e s ∙ ap₂ (rule_of s) i j)
+
 pub known_boolean : (k : ℕ) → Kind.UInt8 ≤ k → k ≤ Kind.Int128
     → Some (node k 0) ≡ known_supertype (node Kind.Boolean 0) (node k 0)
 known_boolean k l h =
@@ -93,14 +112,11 @@ module _ (dt k : ℕ) (v : ℤ) (is-smallest : k ≡ smallest_fitting dt v) wher
         sym (of_run is_signed_integer true Kind.Int8 5 (unfold says in tt) k (omega arith)),
       )
 
-  pub no_uint64 : (t : Supertype) → (dt ≡ Kind.UInt64 → ⊥) → t ≡ known_supertype (node dt 0) (node k 0)
-      → t ≡ dyn_number known_supertype (node dt 0) v
+  -- no UInt64, or with no signed type
+  pub not_both : {t : Option Node} → ((dt ≡ Kind.UInt64) × (k < Kind.Int8)) ⊎ (dt ≡ Kind.UInt64 → ⊥)
+      → t ≡ known_supertype (node dt 0) (node k 0) → t ≡ dyn_number known_supertype (node dt 0) v
   unfolding dyn_number
-  no_uint64 t n e = rw (← is-smallest, ne_eqb dt Kind.UInt64 n) e
-
-  pub no_signed : (t : Supertype) → k < Kind.Int8 → t ≡ known_supertype (node dt 0) (node k 0)
-      → t ≡ dyn_number known_supertype (node dt 0) v
-  unfolding dyn_number
-  no_signed t h e =
+  not_both (inl h) e =
       rw (← is-smallest, sym (of_run is_signed_integer false Kind.Null 7 (unfold says in tt) k (omega arith)), and-false)
       e
+  not_both (inr n) e = rw (← is-smallest, ne_eqb dt Kind.UInt64 n) e

@@ -1,10 +1,12 @@
 -- Two types in either order. Assumes nothing.
 use mathlib.Core.Path.{◌≡◌, sym, ◌∙◌}
 use mathlib.Core.Bool.{Bool, true, false}
+use Rattle.std.specs.Prelude.{Some}
 use Prim.Native.Nat.{ℕ, ◌≤◌, ◌<◌}
 use native.Mathlib.Omega.{arith}
 use Rattle.flat.specs.Kind
-use Rattle.supertype_answer.specs.Join.{Node, Some, node}
+use Rattle.flat.specs.declared.Node.{Node}
+use Rattle.supertype_answer.specs.Join.{node}
 use Rattle.supertype_arms.specs.declared.plan.Plan.TheVariants as plan
 use Rattle.supertype_arms.specs.Node.{same, fits}
 use Rattle.supertype_arms.specs.Supertype.{plan_of, run, inner, supertype_with, known_supertype, supertype}

@@ -6,54 +6,39 @@ pub mod node;
 ghost use Rattle.std.specs.Prelude.{◌≡◌, false, length};
 ghost use Rattle.flat.specs.Reading.{reading, RootFits};
 ghost use Rattle.flat.specs.Output.{fitting_found, WritesFound};
-ghost use Rattle.supertype_answer.specs.Join.{node, result_of, joining, joining_roots};
+ghost use Rattle.supertype_answer.specs.Join.{result_of, joining, joining_roots};
 ghost use Rattle.supertype.specs.Pair.{pair_checked, root_supertype, supertype_of};
 
 use dtype::kind::is_nested;
 use flat::error::Error;
-use flat::{Checked, Flat, Optional, Root};
+use flat::{Flat, Node};
 use node::node_supertype;
-use supertype_answer::{Common, Found, put};
+use supertype_answer::put;
 
 // Whether two kinds may be joined: refusal 6.
-fn check_pair(left: u8, right: u8) -> Checked
+#[tactic(auto, unfolding(crate::specs::Pair::pair_checked))]
+fn check_pair(left: u8, right: u8) -> Result<(), Error>
     ensures { result ≡ pair_checked left right }
 {
-    if is_nested(left) {
-        return Checked::Refused(Error::Nested);
+    if is_nested(left) || is_nested(right) {
+        return Err(Error::Nested);
     }
-    if is_nested(right) {
-        return Checked::Refused(Error::Nested);
-    }
-    Checked::Valid
-}
-
-// What is found for two roots: 6, or the rule.
-fn join_nodes(to_string: bool, a: u8, x: u64, b: u8, y: u64) -> Found
-    requires { RootFits (Root.Node a x) × RootFits (Root.Node b y) }
-    ensures { result_of result ≡ root_supertype false to_string (node a x) (node b y) }
-{
-    match check_pair(a, b) {
-        Checked::Refused(e) => Found::Refused(e),
-        Checked::Valid => match node_supertype(to_string, a, x, b, y) {
-            Common::Some(k, v) => Found::Some(k, v),
-            Common::Nothing => Found::Nothing,
-        },
-    }
+    Ok(())
 }
 
 // What is found for the roots of two types: the refusal of the left, of the right, 6, or the rule.
-pub fn join_roots(to_string: bool, left: Root, right: Root) -> Found
+pub fn join_roots(
+    to_string: bool,
+    left: Result<Node, Error>,
+    right: Result<Node, Error>,
+) -> Result<Option<Node>, Error>
     requires { RootFits left × RootFits right }
     ensures { result_of result ≡ joining_roots (root_supertype false to_string) left right }
 {
-    match left {
-        Root::Refused(e) => Found::Refused(e),
-        Root::Node(k, a) => match right {
-            Root::Refused(e) => Found::Refused(e),
-            Root::Node(l, b) => join_nodes(to_string, k, a, l, b),
-        },
-    }
+    let l = left?;
+    let r = right?;
+    check_pair(l.kind, r.kind)?;
+    Ok(node_supertype(to_string, l, r))
 }
 
 // The type that two columns get when they are joined, to the front of out_kinds and out_args: refusals 1 to 5 of the
@@ -67,7 +52,7 @@ pub fn get_supertype_with_options(
     allow_primitive_to_string: bool,
     out_kinds: &mut [u8],
     out_args: &mut [u64],
-) -> Optional
+) -> Result<Option<usize>, Error>
     ensures { let left = reading Flat.MAX_NODES Flat.MAX_DEPTH left_kinds.now left_args.now in
         let right = reading Flat.MAX_NODES Flat.MAX_DEPTH right_kinds.now right_args.now in
         let found = joining (supertype_of allow_implode_list allow_primitive_to_string) left right in

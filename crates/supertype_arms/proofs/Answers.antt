@@ -1,7 +1,7 @@
 -- From plans of kinds to answers for types: what the definition gives in its two tries is what the plan of the kinds in
 -- order gives. Assumes nothing.
 use mathlib.Core.Path.{◌≡◌, refl, sym, ◌∙◌, ap, subst}
-use mathlib.Core.Bool.{Bool, true, false, not, ◌&&◌, ◌||◌, and_comm, and-false}
+use mathlib.Core.Bool.{Bool, true, false, not, cond, ◌&&◌, ◌||◌, and_comm, and-false}
 use mathlib.Core.List.{[], ◌∷◌}
 use Prim.Native.Nat.{ℕ, ◌≤◌, ◌<◌}
 use native.Mathlib.Nat.{max_comm}
@@ -21,7 +21,9 @@ use Rattle.dtype.specs.TimeUnit.{unit_number, unit_of}
 use Rattle.dtype.specs.declared.time_unit.TimeUnit.{TimeUnit}
 use Rattle.dtype.specs.declared.time_unit.TimeUnit.TheVariants.{Nanoseconds, Microseconds, Milliseconds}
 use Rattle.dtype.specs.TimeUnits.{get_time_units}
-use Rattle.supertype_answer.specs.Join.{Node, Supertype, Some, Nothing, node}
+use Rattle.flat.specs.declared.Node.{Node}
+use Rattle.supertype_answer.specs.Join.{node}
+use Rattle.std.specs.Prelude.{Option, None, Some}
 use Rattle.supertype_answer.proofs.Nodes.{no_argument}
 use Rattle.dtype.proofs.Coarser.{coarser}
 use Rattle.supertype_arms.specs.declared.plan.Plan.{Plan}
@@ -29,7 +31,8 @@ use Rattle.supertype_arms.specs.declared.plan.Plan.TheVariants.{No, Left, Right,
 use Rattle.supertype_arms.specs.declared.plan.Plan.TheVariants.{DatetimeDuration, Datetimes, Durations}
 use Rattle.supertype_arms.specs.declared.plan.Plan.TheVariants.{DynNumber, DynBoolean, DynDecimal}
 use Rattle.supertype_arms.specs.Node.{unit_in, unit, zone, same, plain, fits}
-use Rattle.supertype_arms.specs.Supertype.{is, plan_of, pick, Call, same_zone, run, or_else, inner, supertype_with}
+use Rattle.supertype_arms.specs.Supertype.{is, plan_of, Call, same_zone, run, inner, supertype_with}
+use Rattle.std.specs.Option.{option_or}
 use Rattle.supertype_arms.specs.Rule.{turn, or_plan, rule_of, skip, Apart}
 use Rattle.supertype_arms.proofs.Areas.{alike, alike_eq, right_at}
 
@@ -43,9 +46,9 @@ or_cases : (x y : Bool) {X : Type 0} → T (x || y) → (T x → X) → (T y →
 or_cases true y t f g = f t
 or_cases false y t f g = g t
 
-or_nothing : (s : Supertype) → or_else s Nothing ≡ s
+or_nothing : (s : Option Node) → option_or s None ≡ s
 or_nothing (Some n) = refl
-or_nothing Nothing = refl
+or_nothing None = refl
 
 eqb_sym : (a b : ℕ) → eqb a b ≡ eqb b a
 eqb_sym a b = go (ℕ_discrete a b)
@@ -132,7 +135,7 @@ module _ (call : Call) (l r : Node) where
   turned DynBoolean t = absurd t
   turned DynDecimal t = absurd t
 
-  none_after : (p q : Plan) → T (alike q No) → or_else (run call p l r) (run call q r l) ≡ run call p l r
+  none_after : (p q : Plan) → T (alike q No) → option_or (run call p l r) (run call q r l) ≡ run call p l r
   unfolding run
   none_after p q t = rw (alike_eq q No t) (or_nothing (run call p l r))
 
@@ -146,14 +149,14 @@ zones x y = go (ℕ_discrete x 0) (ℕ_discrete y 0)
     go (no e) d = simp (ne_eqb x 0 e)
 
 pick_twice : (a b : Bool) (x y : Node) → a ≡ b
-    → or_else (pick a (Some x) Nothing) (pick b (Some y) Nothing) ≡ pick a (Some x) Nothing
+    → option_or (cond a (Some x) None) (cond b (Some y) None) ≡ cond a (Some x) None
 pick_twice true b x y e = refl
 pick_twice false true x y e = never e
 pick_twice false false x y e = refl
 
 module _ (call : Call) (l r : Node) where
   merged : (p q : Plan) → T (merges l.kind r.kind p q)
-      → or_else (run call p l r) (run call q r l) ≡ run call (or_plan p (turn q)) l r
+      → option_or (run call p l r) (run call q r l) ≡ run call (or_plan p (turn q)) l r
   unfolding run
   merged No q t = turned call l r q t
   merged Left q t = refl
@@ -175,7 +178,7 @@ module _ (call : Call) (l r : Node) where
 -- two different types: both tries run a plan
 pub tries : (call : Call) (s : Bool) (l r : Node) → same l r ≡ false
     → supertype_with call s l r
-    ≡ or_else (run call (plan_of s l.kind r.kind) l r) (run call (plan_of s r.kind l.kind) r l)
+    ≡ option_or (run call (plan_of s l.kind r.kind) l r) (run call (plan_of s r.kind l.kind) r l)
 unfolding supertype_with inner
 tries call s l r e = rw (e, sym (same_sym l r) ∙ e)
 
@@ -212,13 +215,20 @@ lopsided a b =
     (is UnknownAny a && is String b) || (among (UnknownFloat ∷ UnknownIntPos ∷ UnknownIntNeg ∷ []) a && is UnknownStr b)
 
 -- pairs that don't depend on their order
-pub level_any : (a b : ℕ) → a ≡ UnknownAny → (b ≡ String → ⊥) → lopsided a b ≡ false
+level_any : (a b : ℕ) → a ≡ UnknownAny → (b ≡ String → ⊥) → lopsided a b ≡ false
 unfolding lopsided among
 level_any a b e n = rw (e, ne_eqb b String n)
 
 pub level : (a b : ℕ) → (a ≡ UnknownAny → ⊥) → (b ≡ UnknownStr → ⊥) → lopsided a b ≡ false
 unfolding lopsided
 level a b m n = rw (ne_eqb a UnknownAny m, ne_eqb b UnknownStr n, and-false)
+
+pub level_other : (a b : ℕ) → (a ≡ UnknownAny → b ≡ String → ⊥) → (b ≡ UnknownStr → ⊥) → lopsided a b ≡ false
+level_other a b m n = go (ℕ_discrete a UnknownAny)
+  where
+    go : Dec (a ≡ UnknownAny) → lopsided a b ≡ false
+    go (yes e) = level_any a b e (m e)
+    go (no d) = level a b d n
 
 -- the test t holds, and the plans p and q are these
 abbrev these : Bool → Plan → Plan → Plan → Plan → Bool
@@ -263,7 +273,7 @@ units_sym u v =
 module _ (call : Call) (l r : Node) (fl : fits l ≡ true) (fr : fits r ≡ true) where
   -- the answers of p and q, whichever is tried first
   abbrev Level : Plan → Plan → Type 0
-  Level p q = or_else (run call p l r) (run call q r l) ≡ or_else (run call q r l) (run call p l r)
+  Level p q = option_or (run call p l r) (run call q r l) ≡ option_or (run call q r l) (run call p l r)
 
   swapped : (p q : Plan) → T (swaps l.kind r.kind p q) → Level p q
   unfolding run

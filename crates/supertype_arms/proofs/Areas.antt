@@ -1,12 +1,12 @@
 -- A rule over two kinds: one test that antt computes, for all pairs of an area at once. Assumes nothing.
 use mathlib.Core.Path.{◌≡◌, refl, sym, ◌∙◌, ap, subst}
-use mathlib.Core.Bool.{Bool, true, false, cond, ◌&&◌, ◌||◌}
+use mathlib.Core.Bool.{Bool, true, false, ◌&&◌, ◌||◌}
 use mathlib.Core.List.{List, [], ◌∷◌}
 use Prim.Native.Nat.{ℕ, ◌+◌, ◌-◌, ◌≤◌, ◌<◌}
 use native.Mathlib.Omega.{arith}
-use lib.Dec.{T, eqb, ltb, eqb→eq}
+use lib.Dec.{T, eqb, eqb→eq}
 use lib.ListN.{get_or, get_or-eq_default}
-use Rattle.flat.specs.Kind.{String, Date, Time, UnknownAny, UnknownStr, UnknownFloat}
+use Rattle.flat.specs.Kind.{String, UnknownAny, UnknownStr, UnknownFloat}
 use Rattle.flat.specs.Tree.{head_kind}
 use Rattle.flat.proofs.Rules.{In, in_run, area, in_area, and_left, and_right, or_right}
 use Rattle.dtype.specs.Match.{among}
@@ -103,13 +103,6 @@ pub rule_apart : (f : Bool → ℕ → ℕ → Plan) (i m j n : ℕ) → T (area
     → In i m j n a b → skip a b ≡ false → f s a b ≡ rule_of s a b
 unfolding right_apart
 rule_apart f i m j n t s a b h e = is_right f s a b (or_right (right f a b) e (in_area (right_apart f) i m j n t a b h))
-
--- what `alone` answers for a time type with Time or an Unknown kind
-pub alone_right : (s : Bool) (a b : ℕ) → In Date 4 Time 6 a b → skip a b ≡ false
-    → cond (ltb b UnknownAny) No (Kind UnknownAny) ≡ rule_of s a b
-alone_right s a b h e =
-    rule_apart (λ s a b. cond (ltb b UnknownAny) No (Kind UnknownAny)) Date 4 Time 6
-    (unfold right_apart in tt) s a b h e
 
 pub apart_at : {k a b : ℕ} → a ≡ k → Apart a b → Apart k b
 apart_at {k} {a} {b} e h = subst (λ (i : ℕ). Apart i b) e h

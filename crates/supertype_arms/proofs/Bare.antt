@@ -12,7 +12,8 @@ use Rattle.flat.proofs.Truths.{is_true}
 use Rattle.dtype.specs.Predicate.{is_unknown_int}
 use Rattle.dtype.proofs.Runs.{says, of_run}
 use Rattle.dtype.proofs.Pairs.{nodes_same, left_known}
-use Rattle.supertype_answer.specs.Join.{Some, node}
+use Rattle.supertype_answer.specs.Join.{node}
+use Rattle.std.specs.Prelude.{Some}
 use Rattle.supertype_arms.specs.declared.plan.Plan.{Plan}
 use Rattle.supertype_arms.specs.Node.{same, fits}
 use Rattle.supertype_arms.specs.Supertype.{Call, run, inner, supertype_with}

@@ -17,7 +17,9 @@ use Rattle.supertype_numbers.specs.Range.{Listed}
 use Rattle.supertype_numbers.specs.Decimal.{fits_dec128, digits_of}
 use Rattle.supertype_numbers.proofs.Tests.{at}
 use Rattle.supertype_numbers.proofs.Digits.{digit_laws}
-use Rattle.supertype_answer.specs.Join.{Node, Some, node}
+use Rattle.flat.specs.declared.Node.{Node}
+use Rattle.supertype_answer.specs.Join.{node}
+use Rattle.std.specs.Prelude.{Some}
 use Rattle.supertype_arms.specs.declared.plan.Plan.TheVariants.{No, DecimalInteger}
 use Rattle.supertype_arms.specs.Node.{precision, scale, decimal, same, fits}
 use Rattle.supertype_arms.specs.Supertype.{is, plan_of, Call, fits_orig_prec_scale, beside_integer, run}
@@ -76,10 +78,10 @@ module _ {n : Node} (w : IsDecimal n) where
     beside = rw fits_by_digits
 
     -- what the code compares
-    pub kept : digits_of k ≤ precision n - scale n → node Decimal n.arg ≡ beside_integer n k
+    pub kept : digits_of k ≤ precision n - scale n → n ≡ beside_integer n k
     kept h =
         let e : n.arg ≡ 256 * scale n + precision n = omega arith in
-        sym (beside ∙ rw (le-leb (digits_of k) (precision n - scale n) h, ← e))
+        sym (beside ∙ rw (le-leb (digits_of k) (precision n - scale n) h, ← e) (λ i. node (sym w.kind i) n.arg))
 
     pub raised : (digits_of k ≤ precision n - scale n → ⊥) → decimal dec128_max_prec (scale n) ≡ beside_integer n k
     raised h = sym (beside ∙ rw (lt-leb (digits_of k) (precision n - scale n) (omega arith)))

@@ -19,13 +19,16 @@ use Rattle.dtype.specs.Predicate.{is_unknown_int, is_unsigned_integer}
 use Rattle.supertype_numbers.specs.Integer.{holds, first_that_holds}
 use Rattle.dtype.specs.Equality.{equal_node}
 use Rattle.supertype_numbers.specs.DynInt.{materialize_dyn_int, materialize_dyn_int_pos, materialize_smallest_dyn_int}
-use Rattle.supertype_answer.specs.Join.{Node, Some, Nothing, node}
+use Rattle.flat.specs.declared.Node.{Node}
+use Rattle.supertype_answer.specs.Join.{node}
+use Rattle.std.specs.Prelude.{None, Some}
 use Rattle.supertype_arms.specs.declared.plan.Plan.{Plan}
 use Rattle.supertype_arms.specs.declared.plan.Plan.TheVariants.{No, Left, Right, Kind, Decimals, DecimalInteger}
 use Rattle.supertype_arms.specs.declared.plan.Plan.TheVariants.{DatetimeDuration, Datetimes, Durations}
 use Rattle.supertype_arms.specs.declared.plan.Plan.TheVariants.{DynNumber, DynBoolean, DynDecimal}
 use Rattle.supertype_arms.specs.Node.{value, same, fits}
-use Rattle.supertype_arms.specs.Supertype.{plan_of, max_dyn, smallest_fitting, dyn_number, pick, Call, run, or_else}
+use Rattle.supertype_arms.specs.Supertype.{plan_of, max_dyn, smallest_fitting, dyn_number, Call, run}
+use Rattle.std.specs.Option.{option_or}
 use Rattle.supertype_arms.specs.Supertype.{inner, supertype_with, known_supertype, supertype}
 use Rattle.supertype_arms.specs.Laws.{SupertypeLaws}
 use Rattle.supertype_arms.proofs.Areas.{alike, alike_eq, right_at}
@@ -96,20 +99,20 @@ module _ (f g : Call) (s : Bool) where
   quiet_inner : (l r : Node) → l.kind < Decimal → r.kind < Decimal → inner f true l r ≡ inner g s l r
   unfolding inner settled_early
   quiet_inner l r p q =
-      ap (pick (same l r) (Some l))
+      ap (cond (same l r) (Some l))
       (quiet_run f g l r (plan_of true l.kind r.kind)
       (and_left (quiet (plan_of true l.kind r.kind)) _ (below_decimal l.kind r.kind p q))
       ∙ ap (λ (plan : Plan). run g plan l r) (either_flag s l.kind r.kind p q))
 
   quiet_with : (l r : Node) → l.kind < Decimal → r.kind < Decimal → supertype_with f true l r ≡ supertype_with g s l r
   unfolding supertype_with
-  quiet_with l r p q = λ i. or_else (quiet_inner l r p q i) (quiet_inner r l q p i)
+  quiet_with l r p q = λ i. option_or (quiet_inner l r p q i) (quiet_inner r l q p i)
 
 -- so the inner call answers as the function does with any flag, over any inner call
 pub known_with : (call : Call) (s : Bool) (l r : Node) → l.kind < Decimal → r.kind < Decimal
     → known_supertype l r ≡ supertype_with call s l r
 unfolding known_supertype
-known_with call s l r p q = quiet_with (λ l r. Nothing) call s l r p q
+known_with call s l r p q = quiet_with (λ l r. None) call s l r p q
 
 -- what holds of some types holds of the first of them that holds v
 abbrev all : (ℕ → Bool) → List ℕ → Bool
@@ -201,12 +204,12 @@ module _ (call : Call)
   inner_alike : (s : Bool) (l r : Node) → l.kind ≤ UnknownIntNeg → r.kind ≤ UnknownIntNeg
       → inner known_supertype s l r ≡ inner call s l r
   unfolding inner
-  inner_alike s l r p q = ap (pick (same l r) (Some l)) (runs_alike s l r p q)
+  inner_alike s l r p q = ap (cond (same l r) (Some l)) (runs_alike s l r p q)
 
   pub over_call : (i s : Bool) (l r : Node) → l.kind ≤ UnknownIntNeg → r.kind ≤ UnknownIntNeg
       → supertype i s l r ≡ supertype_with call s l r
   unfolding supertype supertype_with
-  over_call i s l r p q = λ j. or_else (inner_alike s l r p q j) (inner_alike s r l q p j)
+  over_call i s l r p q = λ j. option_or (inner_alike s l r p q j) (inner_alike s r l q p j)
 
 implode : (i j s : Bool) (l r : Node) → supertype i s l r ≡ supertype j s l r
 unfolding supertype

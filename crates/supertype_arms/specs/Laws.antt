@@ -1,12 +1,13 @@
 -- What holds of the supertype of any two types that are not nested. Assumes nothing: these are statements, proved in
 -- proofs/Recursive.antt and proofs/Decimals.antt.
-use Rattle.std.specs.Prelude.{◌≡◌, Bool, true, cond, ℕ, ◌-◌, leb, ℤ, ◌≤ℤ◌}
+use Rattle.std.specs.Prelude.{◌≡◌, Bool, true, cond, ℕ, ◌-◌, leb, ℤ, ◌≤ℤ◌, Some}
 use Rattle.flat.specs.Kind.{Decimal}
 use Rattle.flat.specs.Argument.{dec128_max_prec}
 use Rattle.dtype.specs.Predicate.{is_unknown_int}
 use Rattle.supertype_numbers.specs.Range.{Listed}
 use Rattle.supertype_numbers.specs.Decimal.{digits_of}
-use Rattle.supertype_answer.specs.Join.{Node, Some, node}
+use Rattle.flat.specs.declared.Node.{Node}
+use Rattle.supertype_answer.specs.Join.{node}
 use Rattle.supertype_arms.specs.declared.plan.Plan.TheVariants.{DynNumber}
 use Rattle.supertype_arms.specs.Node.{precision, scale, decimal, same, fits}
 use Rattle.supertype_arms.specs.Supertype.{plan_of, max_dyn, supertype_with, supertype}

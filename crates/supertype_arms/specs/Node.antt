@@ -1,16 +1,16 @@
 -- The parts of a node's argument, and the types that have them. Assumes nothing: these are definitions.
-use Rattle.std.specs.Prelude.{Bool, not, [], ◌∷◌, ℕ, ◌+◌, ◌*◌, ◌/◌, ◌%◌, ℤ, pos, negsuc}
+use Rattle.std.specs.Prelude.{Bool, not, [], ◌∷◌, ℕ, ◌+◌, ◌*◌, ◌/◌, ◌%◌, ℤ, pos, negsuc, Result, Ok, Err}
 use Rattle.flat.specs.Kind
 use Rattle.flat.specs.Argument.{leaf_fits}
+use Rattle.flat.specs.declared.error.Error.{Error}
+use Rattle.flat.specs.declared.Node.{Node}
 use Rattle.dtype.specs.Match.{among}
 use Rattle.dtype.specs.TimeUnit.{unit_number, unit_of}
 use Rattle.dtype.specs.Equality.{equal_node}
 use Rattle.dtype.specs.declared.time_unit.TimeUnit.{TimeUnit}
 use Rattle.dtype.specs.declared.time_unit.TimeUnit.TheVariants.{Milliseconds}
-use Rattle.dtype.specs.declared.time_unit.Unit.{Unit}
-use Rattle.dtype.specs.declared.time_unit.Unit.TheVariants.{Of, Refused}
 use Rattle.supertype_numbers.specs.DynInt.{value_of}
-use Rattle.supertype_answer.specs.Join.{Node, node}
+use Rattle.supertype_answer.specs.Join.{node}
 
 -- Decimal(precision, scale): 256 × scale + precision
 abbrev pub precision : Node → ℕ
@@ -23,9 +23,9 @@ abbrev pub decimal : ℕ → ℕ → Node
 decimal p s = node Kind.Decimal (256 * s + p)
 
 -- the unit that was read: a type has one, and where there is none Milliseconds stands for it
-abbrev pub unit_in : Unit → TimeUnit
-unit_in (Of u) = u
-unit_in (Refused e) = Milliseconds
+abbrev pub unit_in : Result TimeUnit Error → TimeUnit
+unit_in (Ok u) = u
+unit_in (Err e) = Milliseconds
 
 -- Datetime(unit, zone): 4 × zone + unit, zone 0 for none; Duration(unit) has the unit alone
 abbrev pub unit : Node → TimeUnit

@@ -2,6 +2,8 @@
 -- and what it comes to for two types that are not nested, `or_else` the other way round included. For all types it is
 -- crates/supertype_nested/specs/Nested.antt. Assumes nothing: these are definitions.
 use Rattle.std.specs.Prelude.{Bool, true, false, cond, not, ◌&&◌, ◌||◌, List, [], ◌∷◌, ℕ, max, eqb, ℤ}
+use Rattle.std.specs.Prelude.{Option, None, Some}
+use Rattle.std.specs.Option.{option_or}
 use Rattle.std.specs.Int.Signed.{le_z, non_neg}
 use Rattle.flat.specs.Kind.{Null, Boolean, UInt8, UInt16, UInt32, UInt64, UInt128, Int8, Int16, Int32, Int64, Int128}
 use Rattle.flat.specs.Kind.{Float16, Float32, Float64, Decimal, String, Binary, Date, Datetime, Duration, Time}
@@ -15,7 +17,8 @@ use Rattle.supertype_numbers.specs.DynInt.{materialize_dyn_int, materialize_dyn_
 use Rattle.supertype_numbers.specs.Integer.{max_of}
 use Rattle.supertype_numbers.specs.Decimal.{fits_dec128}
 use Rattle.dtype.specs.TimeUnits.{get_time_units}
-use Rattle.supertype_answer.specs.Join.{Node, Supertype, Some, Nothing, node}
+use Rattle.flat.specs.declared.Node.{Node}
+use Rattle.supertype_answer.specs.Join.{node}
 use Rattle.supertype_arms.specs.Node.{precision, scale, decimal, unit, zone, datetime, duration}
 use Rattle.supertype_arms.specs.Node.{value, dyn_int, same}
 use Rattle.supertype_arms.specs.declared.plan.Plan.{Plan}
@@ -234,16 +237,12 @@ leaf_plan each_field = No
 unfoldable pub plan_of : Bool → ℕ → ℕ → Plan
 plan_of to_string a b = leaf_plan (choose (arms false to_string) a b)
 
-abbrev pub pick : Bool → Supertype → Supertype → Supertype
-pick true a b = a
-pick false a b = b
-
 abbrev pub max_dyn : ℤ → ℤ → ℤ
 max_dyn v w = elim (le_z v w) [ true ↦ w | false ↦ v ]
 
 -- a call of `get_supertype`
 abbrev pub Call : Type 0
-Call = Node → Node → Supertype
+Call = Node → Node → Option Node
 
 -- `UnknownKind::Int(v) if dt.is_primitive_numeric()`, where dt is no dyn int: the smallest fitting type
 unfoldable pub smallest_fitting : ℕ → ℤ → ℕ
@@ -251,9 +250,9 @@ smallest_fitting dt v =
     cond (is_unsigned_integer dt && non_neg v) (materialize_dyn_int_pos v) (materialize_smallest_dyn_int v)
 
 -- what the smallest fitting type is joined to
-unfoldable pub dyn_number : Call → Node → ℤ → Supertype
+unfoldable pub dyn_number : Call → Node → ℤ → Option Node
 dyn_number get_supertype dt v =
-    pick (is UInt64 dt.kind && is_signed_integer (smallest_fitting dt.kind v)) (Some (node Int64 0))
+    cond (is UInt64 dt.kind && is_signed_integer (smallest_fitting dt.kind v)) (Some (node Int64 0))
     (get_supertype dt (node (smallest_fitting dt.kind v) 0))
 
 -- `fits_orig_prec_scale`: whether the largest number of the integer type dt fits a Decimal l
@@ -269,8 +268,8 @@ abbrev pub same_zone : ℕ → ℕ → Bool
 same_zone l r = (eqb l 0 && eqb r 0) || (not (eqb l 0) && eqb l r)
 
 -- what a plan answers for two types
-unfoldable pub run : Call → Plan → Node → Node → Supertype
-run get_supertype No l r = Nothing
+unfoldable pub run : Call → Plan → Node → Node → Option Node
+run get_supertype No l r = None
 run get_supertype Left l r = Some l
 run get_supertype Right l r = Some r
 run get_supertype (Kind k) l r = Some (node k 0)
@@ -281,32 +280,28 @@ run get_supertype DecimalInteger l r =
 run get_supertype DatetimeDuration l r =
     Some (datetime (get_time_units (unit l) (unit r)) (cond (is Datetime l.kind) (zone l) (zone r)))
 run get_supertype Datetimes l r =
-    pick (same_zone (zone l) (zone r)) (Some (datetime (get_time_units (unit l) (unit r)) (zone r))) Nothing
+    cond (same_zone (zone l) (zone r)) (Some (datetime (get_time_units (unit l) (unit r)) (zone r))) None
 run get_supertype Durations l r = Some (duration (get_time_units (unit l) (unit r)))
 -- the maximum, were the left a dyn int too; but two dyn ints are equal
 run get_supertype DynNumber l r =
-    pick (is_unknown_int l.kind) (Some (dyn_int (max_dyn (value r) (value l)))) (dyn_number get_supertype l (value r))
+    cond (is_unknown_int l.kind) (Some (dyn_int (max_dyn (value r) (value l)))) (dyn_number get_supertype l (value r))
 run get_supertype DynBoolean l r = get_supertype l (node (materialize_dyn_int (value r)) 0)
 run get_supertype DynDecimal l r = Some (decimal dec128_max_prec (scale l))
 
 -- ---- the function, of two types that are not nested
 
-abbrev pub or_else : Supertype → Supertype → Supertype
-or_else (Some n) s = Some n
-or_else Nothing s = s
+unfoldable pub inner : Call → Bool → Node → Node → Option Node
+inner get_supertype to_string l r = cond (same l r) (Some l) (run get_supertype (plan_of to_string l.kind r.kind) l r)
 
-unfoldable pub inner : Call → Bool → Node → Node → Supertype
-inner get_supertype to_string l r = pick (same l r) (Some l) (run get_supertype (plan_of to_string l.kind r.kind) l r)
-
-unfoldable pub supertype_with : Call → Bool → Node → Node → Supertype
+unfoldable pub supertype_with : Call → Bool → Node → Node → Option Node
 supertype_with get_supertype to_string l r =
-    or_else (inner get_supertype to_string l r) (inner get_supertype to_string r l)
+    option_or (inner get_supertype to_string l r) (inner get_supertype to_string r l)
 
 -- `get_supertype`, its flags the default, of two types of which neither is Unknown, so that no arm calls it again
 unfoldable pub known_supertype : Call
-known_supertype = supertype_with (λ l r. Nothing) true
+known_supertype = supertype_with (λ l r. None) true
 
 -- `get_supertype_with_options`, its two flags explicit: the inner calls of the dyn arms meet known types only
 -- (proofs/Recursive.antt)
-unfoldable pub supertype : Bool → Bool → Node → Node → Supertype
+unfoldable pub supertype : Bool → Bool → Node → Node → Option Node
 supertype implode to_string = supertype_with known_supertype to_string

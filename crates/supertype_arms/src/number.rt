@@ -1,5 +1,5 @@
 // The rows of Boolean, the integers and the floats, 1 to 14.
-ghost use Rattle.std.specs.Prelude.{◌≡◌, ◌≤◌, max};
+ghost use Rattle.std.specs.Prelude.{◌≡◌, ◌≤◌};
 ghost use Rattle.flat.specs.Kind.{Boolean, UInt8, UInt128, Int8, Int128, Float16, Float64, Date, Time};
 ghost use Rattle.flat.specs.Kind.{UnknownFloat, UnknownIntNeg};
 ghost use Rattle.supertype_arms.specs.Rule.{rule_of, Apart, Settles};
@@ -8,26 +8,14 @@ use crate::plan::Plan;
 use crate::row::string_if;
 use flat::kind::Kind;
 
-fn larger(a: u8, b: u8) -> u8
-    ensures { result ≡ max a b }
-{
-    if a < b { b } else { a }
-}
-
 // An unsigned integer type with a signed one. Six above UInt8 to UInt32 stands the signed type of twice the width.
 fn mixed(a: u8, b: u8) -> u8
     requires { (UInt8 ≤ a) × (a ≤ UInt128) × (Int8 ≤ b) × (b ≤ Int128) }
     ensures { Settles a b (Plan.Kind result) }
 {
     match a {
-        Kind::UINT8..=Kind::UINT32 => larger(a + 6, b),
-        Kind::UINT64 => {
-            if b < Kind::INT128 {
-                Kind::FLOAT64
-            } else {
-                Kind::INT128
-            }
-        }
+        Kind::UINT8..=Kind::UINT32 => b.max(a + 6),
+        Kind::UINT64 if b < Kind::INT128 => Kind::FLOAT64,
         _ => Kind::INT128,
     }
 }
@@ -38,9 +26,10 @@ fn to_float(a: u8, b: u8) -> u8
     ensures { Settles a b (Plan.Kind result) }
 {
     match a {
-        Kind::UINT16 => larger(Kind::FLOAT32, b),
+        // not joined by `|`: the arms below such a pattern are proved without knowing that it didn't match
+        Kind::UINT16 => b.max(Kind::FLOAT32),
         Kind::UINT32..=Kind::UINT128 => Kind::FLOAT64,
-        Kind::INT16 => larger(Kind::FLOAT32, b),
+        Kind::INT16 => b.max(Kind::FLOAT32),
         Kind::INT32..=Kind::INT128 => Kind::FLOAT64,
         _ => b,
     }
@@ -51,17 +40,11 @@ pub fn numeric(a: u8, b: u8) -> u8
     requires { Apart a b × (Boolean ≤ a) × (b ≤ Float64) }
     ensures { Settles a b (Plan.Kind result) }
 {
-    if Kind::FLOAT16 <= b {
-        return to_float(a, b);
+    match (a, b) {
+        (_, Kind::FLOAT16..=Kind::FLOAT64) => to_float(a, b),
+        (Kind::UINT8..=Kind::UINT128, Kind::INT8..=Kind::INT128) => mixed(a, b),
+        (_, _) => b,
     }
-    if Kind::INT8 <= b {
-        if Kind::UINT8 <= a {
-            if a <= Kind::UINT128 {
-                return mixed(a, b);
-            }
-        }
-    }
-    b
 }
 
 // Boolean, an integer or a float with Date, Datetime, Duration or Time.
@@ -69,33 +52,13 @@ fn timed(a: u8, b: u8) -> Plan
     requires { (Boolean ≤ a) × (a ≤ Float64) × (Date ≤ b) × (b ≤ Time) }
     ensures { Settles a b result }
 {
-    match a {
-        Kind::NULL..=Kind::UINT16 => Plan::No,
-        Kind::UINT32..=Kind::UINT64 => {
-            if b < Kind::TIME {
-                Plan::Kind(Kind::INT64)
-            } else {
-                Plan::No
-            }
-        }
-        Kind::UINT128..=Kind::INT16 => Plan::No,
-        Kind::INT32 => {
-            if b == Kind::DATE {
-                Plan::Kind(Kind::INT32)
-            } else {
-                Plan::Kind(Kind::INT64)
-            }
-        }
-        Kind::INT64 => Plan::Kind(Kind::INT64),
-        Kind::INT128 => Plan::No,
-        Kind::FLOAT16..=Kind::FLOAT32 => {
-            if b == Kind::DATE {
-                Plan::Kind(Kind::FLOAT32)
-            } else {
-                Plan::Kind(Kind::FLOAT64)
-            }
-        }
-        _ => Plan::Kind(Kind::FLOAT64),
+    match (a, b) {
+        (Kind::UINT32..=Kind::UINT64, Kind::DATE..=Kind::DURATION) => Plan::Kind(Kind::INT64),
+        (Kind::INT32, Kind::DATE) => Plan::Kind(Kind::INT32),
+        (Kind::INT32..=Kind::INT64, _) => Plan::Kind(Kind::INT64),
+        (Kind::FLOAT16..=Kind::FLOAT32, Kind::DATE) => Plan::Kind(Kind::FLOAT32),
+        (Kind::FLOAT16..=Kind::FLOAT64, _) => Plan::Kind(Kind::FLOAT64),
+        _ => Plan::No,
     }
 }
 
@@ -104,22 +67,14 @@ fn dynamic(a: u8, b: u8) -> Plan
     requires { (Boolean ≤ a) × (a ≤ Float64) × (UnknownFloat ≤ b) × (b ≤ UnknownIntNeg) }
     ensures { Settles a b result }
 {
-    if Kind::FLOAT16 <= a {
-        return Plan::Left;
+    match (a, b) {
+        (Kind::FLOAT16..=Kind::FLOAT64, _) => Plan::Left,
+        (Kind::BOOLEAN, Kind::UNKNOWN_FLOAT) => Plan::Kind(Kind::UNKNOWN_ANY),
+        (_, Kind::UNKNOWN_FLOAT) => Plan::Kind(Kind::FLOAT64),
+        (Kind::BOOLEAN, _) => Plan::DynBoolean,
+        (Kind::INT128, _) => Plan::Kind(Kind::INT128),
+        _ => Plan::DynNumber,
     }
-    if b == Kind::UNKNOWN_FLOAT {
-        if a == Kind::BOOLEAN {
-            return Plan::Kind(Kind::UNKNOWN_ANY);
-        }
-        return Plan::Kind(Kind::FLOAT64);
-    }
-    if a == Kind::BOOLEAN {
-        return Plan::DynBoolean;
-    }
-    if a == Kind::INT128 {
-        return Plan::Kind(Kind::INT128);
-    }
-    Plan::DynNumber
 }
 
 // Boolean, an integer or a float with any kind that is not below it.

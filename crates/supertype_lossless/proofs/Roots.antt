@@ -2,7 +2,7 @@
 -- 0. Assumes nothing.
 use mathlib.Core.Path.{◌≡◌, refl, sym, ap, ap₂, subst, ◌∙◌}
 use mathlib.Core.Bool.{Bool, true, false, not, ◌&&◌, ◌||◌}
-use mathlib.Core.Option.{Option}
+use Rattle.std.specs.Prelude.{Option, Result, Ok}
 use Prim.Native.Nat.{ℕ, ◌≤◌}
 use native.Mathlib.Omega.{arith}
 use native.Mathlib.Decide.{dec_le}
@@ -13,7 +13,8 @@ use Rattle.flat.specs.Argument.{argument_rule}
 use Rattle.flat.specs.Tree.{DataType, leaf, list, array, struct, head_kind, head_arg}
 use Rattle.flat.specs.Reading.{Reading, refused, type, root_of, RootFits}
 use Rattle.flat.specs.Both.{both_of}
-use Rattle.flat.specs.declared.Root.{Root}
+use Rattle.flat.specs.declared.error.Error.{Error}
+use Rattle.flat.specs.declared.Node.{Node}
 use Rattle.flat.proofs.Rules.{in_run, and_left, and_right, is_zero}
 use Rattle.flat.proofs.Truths.{never}
 use Rattle.dtype.specs.Match.{among}
@@ -21,7 +22,7 @@ use Rattle.dtype.specs.Predicate.{is_float, is_unknown_int, is_signed_integer, i
 use Rattle.dtype.specs.Predicate.{is_unknown}
 use Rattle.dtype.specs.Equality.{equal, equal_node}
 use Rattle.dtype.proofs.Runs.{says, of_run}
-use Rattle.supertype_answer.specs.Join.{joining, joining_roots}
+use Rattle.supertype_answer.specs.Join.{root_node, joining, joining_roots}
 use Rattle.supertype_answer.proofs.Nodes.{no_argument}
 use Rattle.supertype_lossless.specs.Lossless.{upcast_where, upcast_of, lossless, found_upcast, root_upcast, lossless_of}
 use Rattle.supertype_lossless.proofs.Upcasts.{other, other_none}
@@ -36,7 +37,7 @@ other_or_plain k h = in_run (λ k. other k || plain k) Kind.Null 31 tt k (omega 
 
 -- equal types of such a kind are those of one kind
 equal_kinds : (k : ℕ) → k ≤ Kind.UnknownIntNeg → T (plain k) → (u : DataType)
-    → RootFits (Root.Node (head_kind u) (head_arg u))
+    → RootFits (Ok (root_node u))
     → equal (leaf k 0) u ≡ eqb k (head_kind u)
 unfolding equal equal_node head_kind head_arg
 equal_kinds k h t (leaf l b) v = go (is_unknown_int k) (and_right (is_zero (argument_rule k)) _ t) (eqb k l) refl
@@ -67,8 +68,8 @@ low k h e = go (dec_le k Kind.UnknownIntNeg)
     go (yes l) = l
     go (no n) = never (sym (nested k (omega arith) h ∙ e))
 
-by_kinds : (t u : DataType) → RootFits (Root.Node (head_kind t) (head_arg t))
-    → RootFits (Root.Node (head_kind u) (head_arg u))
+by_kinds : (t u : DataType) → RootFits (Ok (root_node t))
+    → RootFits (Ok (root_node u))
     → lossless t u ≡ upcast_of (head_kind t) (head_kind u)
 unfolding lossless upcast_of head_kind head_arg
 by_kinds (leaf k a) u p q = go (other k) refl (other_or_plain k p.0)
@@ -91,7 +92,7 @@ by_roots (refused e) right p q = refl
 by_roots (type t) (refused e) p q = refl
 by_roots (type t) (type u) p q = ap found_upcast (sym (by_kinds t u p q))
 
-pub joined : (left right : Reading) {found : Option Reading} {l r : Root} → (l ≡ root_of left) × RootFits l
+pub joined : (left right : Reading) {found : Option Reading} {l r : Result Node Error} → (l ≡ root_of left) × RootFits l
     → (r ≡ root_of right) × RootFits r
     → found ≡ joining_roots root_upcast l r → found ≡ joining lossless_of left right
 joined left right p q e =

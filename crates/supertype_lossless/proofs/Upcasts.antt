@@ -1,7 +1,8 @@
--- The upcast of two kinds: one computed test for all pairs of two classes, and Nothing wherever a side is in no class.
+-- The upcast of two kinds: one computed test for all pairs of two classes, and None wherever a side is in no class.
 -- Assumes nothing.
 use mathlib.Core.Path.{◌≡◌, refl, sym, ap}
 use mathlib.Core.Bool.{Bool, true, false, cond, not, ◌&&◌, ◌||◌, or-true}
+use Rattle.std.specs.Prelude.{Option, None, Some}
 use Prim.Native.Nat.{ℕ}
 use lib.Dec.{T, eqb, eqb→eq}
 use borrow.Author.Tests.{eq-eqb, ne_eqb}
@@ -11,30 +12,28 @@ use Rattle.dtype.specs.Match.{among}
 use Rattle.dtype.specs.Predicate.{is_float, is_unknown_int, is_signed_integer, is_unsigned_integer, is_integer}
 use Rattle.dtype.specs.Predicate.{is_nested, is_unknown}
 use Rattle.supertype_lossless.specs.Lossless.{upcast_by, floats, signed, unsigned, mixed, upcast_where, upcast_of}
-use Rattle.supertype_lossless.specs.declared.upcast.Upcast.{Upcast}
-use Rattle.supertype_lossless.specs.declared.upcast.Upcast.TheVariants.{To, Nothing}
 
 -- two answers are the same
-abbrev alike : Upcast → Upcast → Bool
-alike (To j) (To k) = eqb j k
-alike (To j) Nothing = false
-alike Nothing (To k) = false
-alike Nothing Nothing = true
+abbrev alike : Option ℕ → Option ℕ → Bool
+alike (Some j) (Some k) = eqb j k
+alike (Some j) None = false
+alike None (Some k) = false
+alike None None = true
 
-alike_eq : (a b : Upcast) → T (alike a b) → a ≡ b
-alike_eq (To j) (To k) t = ap To (eqb→eq j k t)
-alike_eq (To j) Nothing t = absurd t
-alike_eq Nothing (To k) t = absurd t
-alike_eq Nothing Nothing t = refl
+alike_eq : (a b : Option ℕ) → T (alike a b) → a ≡ b
+alike_eq (Some j) (Some k) t = ap Some (eqb→eq j k t)
+alike_eq (Some j) None t = absurd t
+alike_eq None (Some k) t = absurd t
+alike_eq None None t = refl
 
 -- f is the upcast of two kinds; unfolding `right` unfolds all that the upcast is computed by
-unfoldable pub right : (ℕ → ℕ → Upcast) → ℕ → ℕ → Bool
+unfoldable pub right : (ℕ → ℕ → Option ℕ) → ℕ → ℕ → Bool
 unfolding upcast_of upcast_where upcast_by floats signed unsigned mixed among is_float is_unknown_int is_signed_integer
     is_unsigned_integer is_integer is_nested is_unknown
 right f l r = alike (f l r) (upcast_of l r)
 
 -- f is the upcast all over an area
-pub rule : (f : ℕ → ℕ → Upcast) (i m j n : ℕ) → T (area (right f) i m j n) → (l r : ℕ) → In i m j n l r
+pub rule : (f : ℕ → ℕ → Option ℕ) (i m j n : ℕ) → T (area (right f) i m j n) → (l r : ℕ) → In i m j n l r
     → f l r ≡ upcast_of l r
 unfolding right
 rule f i m j n t l r h = alike_eq (f l r) (upcast_of l r) (in_area (right f) i m j n t l r h)
@@ -46,7 +45,7 @@ apart p l r = eqb l r || p l r
 pub of_apart : (p : ℕ → ℕ → Bool) (l r : ℕ) → (l ≡ r → ⊥) → T (apart p l r) → T (p l r)
 of_apart p l r d t = or_right (p l r) (ne_eqb l r d) t
 
-pub rule_apart : (f : ℕ → ℕ → Upcast) (i m j n : ℕ) → T (area (apart (right f)) i m j n) → (l r : ℕ) → In i m j n l r
+pub rule_apart : (f : ℕ → ℕ → Option ℕ) (i m j n : ℕ) → T (area (apart (right f)) i m j n) → (l r : ℕ) → In i m j n l r
     → (l ≡ r → ⊥) → f l r ≡ upcast_of l r
 unfolding right
 rule_apart f i m j n t l r h d =
@@ -54,7 +53,7 @@ rule_apart f i m j n t l r h d =
 
 -- ---- where there is none
 
-pub same_kind : (l r : ℕ) → l ≡ r → Nothing ≡ upcast_of l r
+pub same_kind : (l r : ℕ) → l ≡ r → None ≡ upcast_of l r
 unfolding upcast_of upcast_where
 same_kind l r e = rw (eq-eqb l r e, or-true (is_unknown l || is_unknown r || is_nested l || is_nested r))
 
@@ -62,22 +61,22 @@ same_kind l r e = rw (eq-eqb l r e, or-true (is_unknown l || is_unknown r || is_
 abbrev pub other : ℕ → Bool
 other k = is_unknown k || not (is_float k || is_integer k)
 
-pub other_none : (same : Bool) (l r : ℕ) → true ≡ other l → Nothing ≡ upcast_where same l r
+pub other_none : (same : Bool) (l r : ℕ) → true ≡ other l → None ≡ upcast_where same l r
 unfolding upcast_where is_integer
 other_none same l r e =
     go (is_unknown l) (is_float l) (is_signed_integer l) (is_unsigned_integer l) (is_unknown_int l) (to_T (sym e))
   where
-    none_either : (b : Bool) → Nothing ≡ cond b Nothing Nothing
+    none_either : (b : Bool) → ◌≡◌ {A = Option ℕ} None (cond b None None)
     none_either true = refl
     none_either false = refl
 
     go : (u f s w i : Bool) → T (u || not (f || (s || w || i)))
-        → Nothing ≡ cond (u || is_unknown r || is_nested l || is_nested r || same) Nothing
+        → None ≡ cond (u || is_unknown r || is_nested l || is_nested r || same) None
         (cond (f && is_float r) (upcast_by floats l r)
         (cond (s && is_signed_integer r) (upcast_by signed l r)
         (cond (w && is_unsigned_integer r) (upcast_by unsigned l r)
         (cond ((s || w || i) && is_integer r) (upcast_by mixed l r)
-        Nothing))))
+        None))))
     go true f s w i t = refl
     go false false false false false t = none_either (is_unknown r || is_nested l || is_nested r || same)
     go false false false false true t = absurd t
@@ -85,6 +84,6 @@ other_none same l r e =
     go false false true w i t = absurd t
     go false true s w i t = absurd t
 
-pub other_kind : (l r : ℕ) → true ≡ other l → Nothing ≡ upcast_of l r
+pub other_kind : (l r : ℕ) → true ≡ other l → None ≡ upcast_of l r
 unfolding upcast_of
 other_kind l r = other_none (eqb l r) l r

@@ -9,24 +9,21 @@ ghost use Rattle.flat.specs.Output.{fitting_found, WritesFound};
 ghost use Rattle.supertype_answer.specs.Join.{result_of, joining, joining_roots};
 ghost use Rattle.supertype_lossless.specs.Lossless.{root_upcast, lossless_of};
 
-use flat::{Flat, Optional, Root};
-use supertype_answer::{Found, put};
-use upcast::{Upcast, upcast_kinds};
+use flat::error::Error;
+use flat::{Flat, Node};
+use supertype_answer::put;
+use upcast::upcast_kinds;
 
 // What is found for the roots of two types: the refusal of the left, of the right, or the upcast by their kinds.
-pub fn upcast_roots(left: Root, right: Root) -> Found
+pub fn upcast_roots(
+    left: Result<Node, Error>,
+    right: Result<Node, Error>,
+) -> Result<Option<Node>, Error>
     ensures { result_of result ≡ joining_roots root_upcast left right }
 {
-    match left {
-        Root::Refused(e) => Found::Refused(e),
-        Root::Node(k, _) => match right {
-            Root::Refused(e) => Found::Refused(e),
-            Root::Node(l, _) => match upcast_kinds(k, l) {
-                Upcast::To(t) => Found::Some(t, 0),
-                Upcast::Nothing => Found::Nothing,
-            },
-        },
-    }
+    let l = left?;
+    let r = right?;
+    Ok(upcast_kinds(l.kind, r.kind).map(|kind| Node { kind, arg: 0 }))
 }
 
 // The smallest numeric type that keeps every number of both, where there is one and the two differ, to the front of
@@ -38,7 +35,7 @@ pub fn get_numeric_upcast_supertype_lossless(
     right_args: &[u64],
     out_kinds: &mut [u8],
     out_args: &mut [u64],
-) -> Optional
+) -> Result<Option<usize>, Error>
     ensures { let left = reading Flat.MAX_NODES Flat.MAX_DEPTH left_kinds.now left_args.now in
         let right = reading Flat.MAX_NODES Flat.MAX_DEPTH right_kinds.now right_args.now in
         let found = joining lossless_of left right in

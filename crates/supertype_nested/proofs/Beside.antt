@@ -1,7 +1,8 @@
 -- A nested type with a leaf, and a Struct with a List or an Array: what the two tries come to. Assumes nothing.
+use Rattle.std.specs.Option.{option_or}
 use mathlib.Core.Path.{◌≡◌, refl, sym, ap, ap₂, ◌∙◌}
 use mathlib.Core.Bool.{Bool, true, false, cond, ◌&&◌, ◌||◌}
-use mathlib.Core.Option.{Option, none, some}
+use Rattle.std.specs.Prelude.{Option, None, Some}
 use Prim.Native.Nat.{ℕ, ◌≤◌}
 use native.Mathlib.Omega.{arith}
 use lib.Dec.{eqb}
@@ -17,7 +18,7 @@ use Rattle.supertype_arms.specs.Supertype.{is, arms, choose, run}
 use Rattle.supertype_arms.specs.Supertype.{TreePlan, left_type, roots}
 use Rattle.supertype_arms.specs.Supertype.{lists, arrays, implode_left, implode_right, first_field, structs, each_field}
 use Rattle.supertype_arms.specs.declared.plan.Plan.TheVariants.{No, Kind}
-use Rattle.supertype_nested.specs.Nested.{SuperTypeOptions, TreeCall, run_tree, tree_plan, inner_tree, or_else_tree}
+use Rattle.supertype_nested.specs.Nested.{SuperTypeOptions, TreeCall, run_tree, tree_plan, inner_tree}
 use Rattle.supertype_nested.specs.Nested.{supertype_tree_with}
 use Rattle.supertype_nested.specs.Step.{Fair, beside_arms, plan_beside, plan_before}
 use Rattle.supertype_nested.proofs.Found.{no_some}
@@ -157,7 +158,7 @@ module _ (c : TreeCall) (o : SuperTypeOptions) (k a : ℕ) (h : k ≤ kind.Unkno
   before n = run_tree c (plan_before o.allow_implode_list (head_kind n)) (leaf k a) n
 
   -- None on the left is None on the right: only a List has a plan there, and it makes the same call
-  none_before : {n : DataType} → IsNested n → beside n ≡ none → before n ≡ none
+  none_before : {n : DataType} → IsNested n → beside n ≡ None → before n ≡ None
   unfolding head_kind run_tree inner_dtype run plan_beside beside_arms plan_before
   none_before (is_list {t}) e = go o.allow_implode_list (is kind.String k) (is kind.Null k) e
     where
@@ -166,8 +167,8 @@ module _ (c : TreeCall) (o : SuperTypeOptions) (k a : ℕ) (h : k ≤ kind.Unkno
           (takes x (roots (Kind kind.String)) (takes y left_type
           (takes (i && true) implode_left (takes (is_unknown k) (roots (Kind kind.UnknownAny)) (roots No)))))
           (list t) (leaf k a)
-          ≡ none
-          → run_tree c (cond i implode_right (roots No)) (leaf k a) (list t) ≡ none
+          ≡ None
+          → run_tree c (cond i implode_right (roots No)) (leaf k a) (list t) ≡ None
       go true true y e = no_some e
       go true false true e = no_some e
       go true false false e = e
@@ -184,13 +185,13 @@ module _ (c : TreeCall) (o : SuperTypeOptions) (k a : ℕ) (h : k ≤ kind.Unkno
       (λ e. never (sym (not_equal k a v).0 ∙ e)) (λ e. never (sym (not_equal k a v).1 ∙ e)) (none_before v)
 
   -- The nested type on the right: a List that takes the leaf in comes first.
-  pub leaf_nested : {n : DataType} → IsNested n → supertype_tree_with c o (leaf k a) n ≡ or_else_tree (before n) (beside n)
+  pub leaf_nested : {n : DataType} → IsNested n → supertype_tree_with c o (leaf k a) n ≡ option_or (before n) (beside n)
   unfolding supertype_tree_with inner_tree head_kind
   leaf_nested {n} v =
-      ap₂ or_else_tree
-      (ap₂ (λ (b : Bool) (p : TreePlan). cond b (some (leaf k a)) (run_tree c p (leaf k a) n)) (not_equal k a v).1
+      ap₂ option_or
+      (ap₂ (λ (b : Bool) (p : TreePlan). cond b (Some (leaf k a)) (run_tree c p (leaf k a) n)) (not_equal k a v).1
       (plan_before_lem k h o v))
-      (ap₂ (λ (b : Bool) (p : TreePlan). cond b (some n) (run_tree c p n (leaf k a))) (not_equal k a v).0
+      (ap₂ (λ (b : Bool) (p : TreePlan). cond b (Some n) (run_tree c p n (leaf k a))) (not_equal k a v).0
       (plan_beside_lem k h o v))
 
   -- Where no List takes the leaf in, the order does not count.
@@ -199,7 +200,7 @@ module _ (c : TreeCall) (o : SuperTypeOptions) (k a : ℕ) (h : k ≤ kind.Unkno
   unfolding plan_before run_tree run
   leaf_beside {n} v e =
       leaf_nested v
-      ∙ ap (λ (b : Bool). or_else_tree (run_tree c (cond b implode_right (roots No)) (leaf k a) n) (beside n)) e
+      ∙ ap (λ (b : Bool). option_or (run_tree c (cond b implode_right (roots No)) (leaf k a) n) (beside n)) e
 
   module _ (fair : Fair c) (on : o.allow_implode_list ≡ true) (t : DataType) where
     -- A List that takes in a leaf on its left which is no String: one call.
@@ -210,42 +211,42 @@ module _ (c : TreeCall) (o : SuperTypeOptions) (k a : ℕ) (h : k ≤ kind.Unkno
       where
         tries : Bool → Bool → Bool → Option DataType
         tries y x i =
-            or_else_tree (run_tree c (cond i implode_right (roots No)) (leaf k a) (list t))
+            option_or (run_tree c (cond i implode_right (roots No)) (leaf k a) (list t))
             (run_tree c
             (takes x (roots (Kind kind.String)) (takes y left_type
             (takes (i && true) implode_left (takes (is_unknown k) (roots (Kind kind.UnknownAny)) (roots No)))))
             (list t) (leaf k a))
 
         go : (y : Bool) → is kind.Null k ≡ y → (q : Option DataType) → c t (leaf k a) ≡ q
-            → or_else_tree (map_o list q) (run_tree c (takes y left_type implode_left) (list t) (leaf k a)) ≡ map_o list q
-        go y n (some u) e = refl
-        go true n none e =
+            → option_or (map_o list q) (run_tree c (takes y left_type implode_left) (list t) (leaf k a)) ≡ map_o list q
+        go y n (Some u) e = refl
+        go true n None e =
             no_some (sym (fair.null t a) ∙ ap (λ (k : ℕ). c t (leaf k a)) (sym (eqb-true k kind.Null n)) ∙ e)
-        go false n none e = ap (map_o list) e
+        go false n None e = ap (map_o list) e
 
 -- String on the left of a List that takes it in: of a leaf, the one case in which both tries count.
 pub string_list : (c : TreeCall) (o : SuperTypeOptions) (a : ℕ) → o.allow_implode_list ≡ true → (t : DataType)
     → supertype_tree_with c o (leaf kind.String a) (list t)
-    ≡ or_else_tree (map_o list (c t (leaf kind.String a))) (some (leaf kind.String 0))
+    ≡ option_or (map_o list (c t (leaf kind.String a))) (Some (leaf kind.String 0))
 unfolding head_kind run_tree inner_dtype run plan_beside beside_arms plan_before
 string_list c o a on t =
     leaf_nested c o kind.String a (omega arith) is_list
     ∙ ap
     (λ (i : Bool).
-    or_else_tree (run_tree c (cond i implode_right (roots No)) (leaf kind.String a) (list t))
-    (some (leaf kind.String 0)))
+    option_or (run_tree c (cond i implode_right (roots No)) (leaf kind.String a) (list t))
+    (Some (leaf kind.String 0)))
     on
 
 -- Null on the left of a nested type: that type.
 pub null_nested : (c : TreeCall) → Fair c → (o : SuperTypeOptions) (a : ℕ) {n : DataType} → IsNested n
-    → supertype_tree_with c o (leaf kind.Null a) n ≡ some n
+    → supertype_tree_with c o (leaf kind.Null a) n ≡ Some n
 unfolding head_kind run_tree inner_dtype run plan_beside beside_arms plan_before
 null_nested c fair o a {n} v = leaf_nested c o kind.Null a (omega arith) v ∙ go o.allow_implode_list v
   where
     go : (i : Bool) {n : DataType} → IsNested n
-        → or_else_tree (run_tree c (plan_before i (head_kind n)) (leaf kind.Null a) n) (some n) ≡ some n
+        → option_or (run_tree c (plan_before i (head_kind n)) (leaf kind.Null a) n) (Some n) ≡ Some n
     go true (is_list {t}) =
-        ap (λ (q : Option DataType). or_else_tree (map_o list q) (some (list t))) (fair.null t a)
+        ap (λ (q : Option DataType). option_or (map_o list q) (Some (list t))) (fair.null t a)
     go false is_list = refl
     go i is_array = refl
     go i is_struct = refl
@@ -255,7 +256,7 @@ null_nested c fair o a {n} v = leaf_nested c o kind.Null a (omega arith) v ∙ g
 module _ (c : TreeCall) (o : SuperTypeOptions) where
   -- what a List comes to that takes in another type, where Lists do
   abbrev pub taken_in : Bool → DataType → DataType → Option DataType
-  taken_in i t u = cond i (map_o list (c t u)) none
+  taken_in i t u = cond i (map_o list (c t u)) None
 
   left_in : (i : Bool) (t u : DataType) → run_tree c (takes i implode_left (roots No)) (list t) u ≡ taken_in i t u
   unfolding run_tree inner_dtype run
@@ -302,13 +303,13 @@ module _ (c : TreeCall) (o : SuperTypeOptions) where
       ∙ right_in o.allow_implode_list t (struct fs)
 
   -- An Array and a Struct have nothing in common.
-  pub array_with_struct : (w : ℕ) (t : DataType) (fs : Fields) → supertype_tree_with c o (array w t) (struct fs) ≡ none
+  pub array_with_struct : (w : ℕ) (t : DataType) (fs : Fields) → supertype_tree_with c o (array w t) (struct fs) ≡ None
   unfolding head_kind equal run_tree run
   array_with_struct w t fs =
       settle c o (array w t) (struct fs) (roots No) (roots No) array_struct struct_array (λ e. never e) (λ e. never e)
       (λ e. e)
 
-  pub struct_with_array : (w : ℕ) (t : DataType) (fs : Fields) → supertype_tree_with c o (struct fs) (array w t) ≡ none
+  pub struct_with_array : (w : ℕ) (t : DataType) (fs : Fields) → supertype_tree_with c o (struct fs) (array w t) ≡ None
   unfolding head_kind equal run_tree run
   struct_with_array w t fs =
       settle c o (struct fs) (array w t) (roots No) (roots No) struct_array array_struct (λ e. never e) (λ e. never e)

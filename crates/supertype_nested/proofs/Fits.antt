@@ -6,6 +6,7 @@ use native.Mathlib.Omega.{arith}
 use lib.Dec.{T, ltb}
 use lib.IntN.{ℤ, pos, negsuc}
 use borrow.Author.Tests.{le-leb, lt-ltb, eq-eqb, ltb-true}
+use Rattle.std.specs.Prelude.{Option, None, Some}
 use Rattle.flat.specs.Kind as kind
 use Rattle.flat.specs.Argument.{time_units, dec128_max_prec, argument_fits, argument_rule, datetime_fits, leaf_fits}
 use Rattle.flat.proofs.Truths.{is_true, both_true}
@@ -14,10 +15,11 @@ use Rattle.dtype.specs.TimeUnit.{unit_number}
 use Rattle.dtype.specs.TimeUnits.{get_time_units}
 use Rattle.dtype.specs.declared.time_unit.TimeUnit.{TimeUnit}
 use Rattle.dtype.specs.declared.time_unit.TimeUnit.TheVariants.{Nanoseconds, Microseconds, Milliseconds}
-use Rattle.supertype_answer.specs.Join.{Node, node, Supertype, Some, Nothing}
+use Rattle.flat.specs.declared.Node.{Node}
+use Rattle.supertype_answer.specs.Join.{node}
 use Rattle.supertype_arms.specs.Node.{precision, scale, decimal, unit, zone, datetime, duration}
 use Rattle.supertype_arms.specs.Node.{value, dyn_int, fits}
-use Rattle.supertype_arms.specs.Supertype.{is, Call, pick, max_dyn, smallest_fitting, dyn_number, same_zone, run}
+use Rattle.supertype_arms.specs.Supertype.{is, Call, max_dyn, smallest_fitting, dyn_number, same_zone, run}
 use Rattle.supertype_arms.specs.Supertype.{fits_orig_prec_scale, beside_integer}
 use Rattle.supertype_arms.specs.declared.plan.Plan.{Plan}
 use Rattle.supertype_arms.specs.declared.plan.Plan.TheVariants.{No, Left, Right, Kind, Decimals, DecimalInteger}
@@ -67,9 +69,9 @@ dyn_fits (negsuc v) = refl
 -- ---- what a plan answers
 
 -- what was found fits, if something was
-abbrev pub Fitting : Supertype → Type 0
+abbrev pub Fitting : Option Node → Type 0
 Fitting (Some n) = fits n ≡ true
-Fitting Nothing = Unit {0}
+Fitting None = Unit {0}
 
 -- what is asked of two types for that
 abbrev pub Suits : Node → Node → Plan → Type 0
@@ -86,7 +88,7 @@ Suits l r DynNumber = fits l ≡ true
 Suits l r DynBoolean = fits l ≡ true
 Suits l r DynDecimal = IsDecimal l
 
-picked : (b : Bool) (p q : Supertype) → Fitting p → Fitting q → Fitting (pick b p q)
+picked : (b : Bool) (p q : Option Node) → Fitting p → Fitting q → Fitting (cond b p q)
 picked true p q h g = h
 picked false p q h g = g
 
@@ -121,7 +123,7 @@ module _ (call : Call) (s : (l r : Node) → fits l ≡ true → fits r ≡ true
   run_fits DecimalInteger h = rw (eq-eqb l.kind kind.Decimal h.kind) (beside_fits l h r.kind)
   run_fits DatetimeDuration h = datetime_fits_lem (get_time_units (unit l) (unit r)) _ h
   run_fits Datetimes h =
-      picked (same_zone (zone l) (zone r)) (Some (datetime (get_time_units (unit l) (unit r)) (zone r))) Nothing
+      picked (same_zone (zone l) (zone r)) (Some (datetime (get_time_units (unit l) (unit r)) (zone r))) None
       (datetime_fits_lem (get_time_units (unit l) (unit r)) (zone r) h) tt
   run_fits Durations h = duration_fits (get_time_units (unit l) (unit r))
   run_fits DynNumber h =

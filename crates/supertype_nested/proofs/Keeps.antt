@@ -1,7 +1,7 @@
 -- An answer's leaves and names keep what those of both types have. Assumes nothing.
 use mathlib.Core.Path.{◌≡◌, refl}
 use mathlib.Core.Bool.{Bool, true, false, cond}
-use mathlib.Core.Option.{Option, none, some}
+use Rattle.std.specs.Prelude.{Option, None, Some}
 use Prim.Native.Nat.{ℕ, zero, suc, ◌+◌}
 use lib.Dec.{leb, eqb}
 use Rattle.flat.specs.Tree.{DataType, leaf, list, array, struct, Fields, empty, field, count, size, head_kind, head_arg}
@@ -56,7 +56,7 @@ module _ (P : ℕ → ℕ → Type 0) (Q : ℕ → Type 0) where
   module _ (call : TreeCall) (s : Keeps call) where
     -- ---- the union of fields
     held_keeps : (t u : DataType) → One t → One u → If One (join_held call t u)
-    held_keeps t u h g = if_cond One (equal t u) (some u) (call t u) g (s t u h g)
+    held_keeps t u h g = if_cond One (equal t u) (Some u) (call t u) g (s t u h g)
 
     enter_keeps : (name : ℕ) (t : DataType) (map : Fields) → Q name → One t → All map → If All (enter call name t map)
     unfolding Each enter
@@ -96,10 +96,10 @@ module _ (P : ℕ → ℕ → Type 0) (Q : ℕ → Type 0) where
 
     zip_on_lem : (name : ℕ) (p : Option DataType) (z : Zip) → Q name → If One p → ZipKeeps z → ZipKeeps (zip_on name p z)
     unfolding Each
-    zip_on_lem name none z q h g = tt
-    zip_on_lem name (some t) names_differ q h g = tt
-    zip_on_lem name (some t) no_join q h g = tt
-    zip_on_lem name (some t) (joined fs) q h g = (q, h, g)
+    zip_on_lem name None z q h g = tt
+    zip_on_lem name (Some t) names_differ q h g = tt
+    zip_on_lem name (Some t) no_join q h g = tt
+    zip_on_lem name (Some t) (joined fs) q h g = (q, h, g)
 
     zip_keeps : (fs gs : Fields) → All fs → All gs → ZipKeeps (zip_fields call fs gs)
     unfolding zip_fields Each
@@ -195,7 +195,7 @@ module _ (P : ℕ → ℕ → Type 0) (Q : ℕ → Type 0) where
       one_order : (l r : DataType) → One l → One r → If One (inner_tree call o l r)
       unfolding inner_tree
       one_order l r h g =
-          if_cond One (equal l r) (some l) (run_tree call (tree_plan o (head_kind l) (head_kind r)) l r) h
+          if_cond One (equal l r) (Some l) (run_tree call (tree_plan o (head_kind l) (head_kind r)) l r) h
           (run_keeps l r h g (tree_plan o (head_kind l) (head_kind r)) (roots_keep call s o l r h g))
 
       with_keeps : Keeps (supertype_tree_with call o)

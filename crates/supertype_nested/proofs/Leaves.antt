@@ -1,8 +1,9 @@
 -- Of two types that are not nested it is the supertype of the non-nested call. Assumes nothing.
+use Rattle.std.specs.Option.{option_or}
 use mathlib.Core.Path.{◌≡◌, refl, sym, ap, ap₂, ◌∙◌}
 use mathlib.Core.Bool.{Bool, true, false, not, cond, ◌&&◌, ◌||◌}
 use mathlib.Core.List.{List, [], ◌∷◌}
-use mathlib.Core.Option.{some}
+use Rattle.std.specs.Prelude.{Option, None, Some}
 use Prim.Native.Nat.{ℕ, ◌≤◌, ◌<◌}
 use native.Mathlib.Omega.{arith}
 use lib.Dec.{T}
@@ -12,14 +13,15 @@ use Rattle.flat.specs.Tree.{leaf, size, head_kind, head_arg}
 use Rattle.flat.proofs.Rules.{and_left, and_right}
 use Rattle.dtype.specs.Equality.{equal_node, equal}
 use Rattle.dtype_inner.specs.Inner.{inner_dtype}
-use Rattle.supertype_answer.specs.Join.{Node, node, Supertype, Some, Nothing}
-use Rattle.supertype_arms.specs.Supertype.{Arm, is, arms, unknown_arms, choose, plan_of, pick, or_else, run, inner}
+use Rattle.flat.specs.declared.Node.{Node}
+use Rattle.supertype_answer.specs.Join.{node}
+use Rattle.supertype_arms.specs.Supertype.{Arm, is, arms, unknown_arms, choose, plan_of, run, inner}
 use Rattle.supertype_arms.specs.Supertype.{supertype_with, leaf_plan, known_supertype, supertype, TreePlan, left_type}
 use Rattle.supertype_arms.specs.Supertype.{right_type, roots, lists, arrays, implode_left, implode_right, first_field}
 use Rattle.supertype_arms.specs.Supertype.{structs, each_field}
 use Rattle.supertype_arms.proofs.Recursive.{known_with, over_call}
 use Rattle.supertype_nested.specs.Nested.{SuperTypeOptions, TreeCall, tree_of, root_found, at_roots, run_tree}
-use Rattle.supertype_nested.specs.Nested.{tree_plan, inner_tree, or_else_tree, supertype_tree_with, get_supertype_in}
+use Rattle.supertype_nested.specs.Nested.{tree_plan, inner_tree, supertype_tree_with, get_supertype_in}
 use Rattle.supertype_nested.specs.Nested.{supertype_tree}
 use Rattle.supertype_nested.proofs.Chosen.{all_arms}
 
@@ -91,13 +93,13 @@ leaf_run c first_field k a m b = refl
 leaf_run c structs k a m b = refl
 leaf_run c each_field k a m b = refl
 
-tree_pick : (b : Bool) (p q : Supertype) → cond b (tree_of p) (tree_of q) ≡ tree_of (pick b p q)
-tree_pick true p q = refl
-tree_pick false p q = refl
+tree_cond : (b : Bool) (p q : Option Node) → cond b (tree_of p) (tree_of q) ≡ tree_of (cond b p q)
+tree_cond true p q = refl
+tree_cond false p q = refl
 
-tree_or : (p q : Supertype) → or_else_tree (tree_of p) (tree_of q) ≡ tree_of (or_else p q)
+tree_or : (p q : Option Node) → option_or (tree_of p) (tree_of q) ≡ tree_of (option_or p q)
 tree_or (Some n) q = refl
-tree_or Nothing q = refl
+tree_or None q = refl
 
 module _ (c : TreeCall) (o : SuperTypeOptions) where
   leaf_inner : (k a m b : ℕ) → k ≤ kind.UnknownIntNeg → m ≤ kind.UnknownIntNeg
@@ -105,11 +107,11 @@ module _ (c : TreeCall) (o : SuperTypeOptions) where
       ≡ tree_of (inner (at_roots c) o.allow_primitive_to_string (node k a) (node m b))
   unfolding inner_tree inner equal head_kind tree_plan plan_of
   leaf_inner k a m b h g =
-      ap (λ (p : TreePlan). cond (equal_node k a m b) (some (leaf k a)) (run_tree c p (leaf k a) (leaf m b)))
+      ap (λ (p : TreePlan). cond (equal_node k a m b) (Some (leaf k a)) (run_tree c p (leaf k a) (leaf m b)))
       (no_implode k m h g o.allow_implode_list o.allow_primitive_to_string)
-      ∙ ap (cond (equal_node k a m b) (some (leaf k a)))
+      ∙ ap (cond (equal_node k a m b) (Some (leaf k a)))
       (leaf_run c (choose (arms false o.allow_primitive_to_string) k m) k a m b)
-      ∙ tree_pick (equal_node k a m b) (Some (node k a))
+      ∙ tree_cond (equal_node k a m b) (Some (node k a))
       (run (at_roots c) (plan_of o.allow_primitive_to_string k m) (node k a) (node m b))
 
   pub leaf_with : (k a m b : ℕ) → k ≤ kind.UnknownIntNeg → m ≤ kind.UnknownIntNeg
@@ -117,16 +119,16 @@ module _ (c : TreeCall) (o : SuperTypeOptions) where
       ≡ tree_of (supertype_with (at_roots c) o.allow_primitive_to_string (node k a) (node m b))
   unfolding supertype_tree_with supertype_with
   leaf_with k a m b h g =
-      ap₂ or_else_tree (leaf_inner k a m b h g) (leaf_inner m b k a g h)
+      ap₂ option_or (leaf_inner k a m b h g) (leaf_inner m b k a g h)
       ∙ tree_or (inner (at_roots c) o.allow_primitive_to_string (node k a) (node m b))
       (inner (at_roots c) o.allow_primitive_to_string (node m b) (node k a))
 
 -- ---- the inner calls
 
-root_back : (q : Supertype) → q ≡ root_found (tree_of q)
+root_back : (q : Option Node) → q ≡ root_found (tree_of q)
 unfolding head_kind head_arg
 root_back (Some n) = refl
-root_back Nothing = refl
+root_back None = refl
 
 -- with any flags, and over any calls of its own, one answers as those of the non-nested call do
 pub known_roots : (c : TreeCall) (i : SuperTypeOptions) (l r : Node) → l.kind < kind.Decimal → r.kind < kind.Decimal

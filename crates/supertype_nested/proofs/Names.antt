@@ -2,7 +2,7 @@
 use mathlib.Core.Path.{◌≡◌, refl, sym, ap, ap₂, ◌∙◌}
 use mathlib.Core.Bool.{Bool, true, false, cond, ◌||◌}
 use mathlib.Core.List.{List, [], ◌∷◌}
-use mathlib.Core.Option.{Option, none, some}
+use Rattle.std.specs.Prelude.{Option, None, Some}
 use Prim.Native.Nat.{ℕ, ◌≤◌, ◌<◌}
 use lib.Dec.{eqb}
 use borrow.Author.Tests.{eqb-true, le-leb, lt-leb}
@@ -53,9 +53,9 @@ from_first name t map (field other u fs) =
     go false h g = g
 
 module _ (c : TreeCall) where
-  pub nothing_after : {A B : Type 0} (q : Option A) → bind_o {A = A} {B = B} q (λ a. none) ≡ none
-  nothing_after none = refl
-  nothing_after (some a) = refl
+  pub nothing_after : {A B : Type 0} (q : Option A) → bind_o {A = A} {B = B} q (λ a. None) ≡ None
+  nothing_after None = refl
+  nothing_after (Some a) = refl
 
   -- the loop over the shortest, by the map's first name and the others
   abbrev Split : ℕ → DataType → Fields → Fields → Type 0
@@ -72,14 +72,14 @@ module _ (c : TreeCall) where
       on_held : (q : Option DataType) → ((v : DataType) → Split name v map fs)
           → bind_o (map_o (λ st. field name st map) q) (λ m. enter_all c m fs)
           ≡ bind_o (bind_o q (λ st. join_named c name st fs)) (λ v. map_o (field name v) (enter_all c map (without name fs)))
-      on_held none h = refl
-      on_held (some v) h = h v
+      on_held None h = refl
+      on_held (Some v) h = h v
 
       on_other : (q : Option Fields) → ((m : Fields) → Split name u m fs)
           → bind_o (map_o (field name u) q) (λ m. enter_all c m fs)
           ≡ bind_o (join_named c name u fs) (λ v. map_o (field name v) (bind_o q (λ m. enter_all c m (without name fs))))
-      on_other none g = sym (nothing_after (join_named c name u fs))
-      on_other (some m) g = g m
+      on_other None g = sym (nothing_after (join_named c name u fs))
+      on_other (Some m) g = g m
 
       go : (b : Bool) → ((v : DataType) → Split name v map fs) → ((m : Fields) → Split name u m fs)
           → bind_o (cond b (map_o (λ st. field name st map) (join_held c t u)) (map_o (field name u) (enter c other t map)))
@@ -174,8 +174,8 @@ module _ (c : TreeCall) where
 
       on_held : (q : Option DataType) → ((v : DataType) → join_named c n v (outside ns fs) ≡ join_named c n v fs)
           → bind_o q (λ st. join_named c n st (outside ns fs)) ≡ bind_o q (λ st. join_named c n st fs)
-      on_held none h = refl
-      on_held (some v) h = h v
+      on_held None h = refl
+      on_held (Some v) h = h v
 
       go : (a b : Bool) → eqb n m ≡ a → seen ns m ≡ b
           → ((v : DataType) → join_named c n v (outside ns fs) ≡ join_named c n v fs)
@@ -209,17 +209,17 @@ module _ (c : TreeCall) where
   abbrev followed : Option Fields → Option Fields → Option Fields
   followed p q = bind_o p (λ old. map_o (append old) q)
 
-  after_none : (q : Option Fields) → q ≡ followed (some empty) q
+  after_none : (q : Option Fields) → q ≡ followed (Some empty) q
   unfolding append
-  after_none none = refl
-  after_none (some fs) = refl
+  after_none None = refl
+  after_none (Some fs) = refl
 
   push_in : (n : ℕ) (p : Option DataType) (o q : Option Fields) → before n p (followed o q) ≡ followed (before n p o) q
   unfolding append
-  push_in n none o q = refl
-  push_in n (some v) none q = refl
-  push_in n (some v) (some d) none = refl
-  push_in n (some v) (some d) (some e) = refl
+  push_in n None o q = refl
+  push_in n (Some v) None q = refl
+  push_in n (Some v) (Some d) None = refl
+  push_in n (Some v) (Some d) (Some e) = refl
 
   -- the loop over what is left of both
   abbrev loop : Fields → Fields → Option Fields

@@ -1,9 +1,10 @@
 -- Two Structs of which neither repeats a name: their union is None in one order where it is in the other, and where the
 -- loop over both comes to None. Assumes nothing.
+use Rattle.std.specs.Option.{option_or}
 use mathlib.Core.Path.{◌≡◌, refl, sym, ap, ap₂, ◌∙◌, subst}
 use mathlib.Core.Bool.{Bool, true, false, cond, ◌&&◌, ◌||◌}
 use mathlib.Core.List.{List, [], ◌∷◌}
-use mathlib.Core.Option.{Option, none, some}
+use Rattle.std.specs.Prelude.{Option, None, Some}
 use Prim.Native.Nat.{ℕ}
 use lib.Dec.{eqb}
 use borrow.Author.Tests.{eqb-true, eq-eqb}
@@ -14,7 +15,7 @@ use Rattle.dtype.specs.Equality.{equal}
 use Rattle.supertype_nested.specs.Nested.{SuperTypeOptions, TreeCall, from_iter, join_held, enter_all, union_fields}
 use Rattle.supertype_nested.specs.Nested.{Zip, names_differ, no_join, joined, zip_on, zip_fields, supertype_tree_with}
 use Rattle.supertype_nested.specs.Union.{last_or, join_named, seen}
-use Rattle.supertype_nested.specs.Step.{Fair, or_else_fields, zip_either, in_place, repeats}
+use Rattle.supertype_nested.specs.Step.{Fair, zip_either, in_place, repeats}
 use Rattle.supertype_nested.proofs.Found.{no_some, map_none}
 use Rattle.supertype_nested.proofs.Union.{turned_false}
 use Rattle.supertype_nested.proofs.Names.{without, nothing_after, old_name, new_name, one_seen}
@@ -136,21 +137,21 @@ had n m t (field other u fs) h = go (eqb m other) h (had n m t fs)
 module _ (c : TreeCall) (fair : Fair c) where
   -- ---- one name
 
-  held_none : (t u : DataType) → join_held c t u ≡ none → c t u ≡ none
+  held_none : (t u : DataType) → join_held c t u ≡ None → c t u ≡ None
   held_none t u = go (equal t u)
     where
-      go : (b : Bool) → cond b (some u) (c t u) ≡ none → c t u ≡ none
+      go : (b : Bool) → cond b (Some u) (c t u) ≡ None → c t u ≡ None
       go true e = no_some e
       go false e = e
 
-  none_held : (t u : DataType) → c t u ≡ none → join_held c t u ≡ none
+  none_held : (t u : DataType) → c t u ≡ None → join_held c t u ≡ None
   none_held t u e = go (equal t u) refl
     where
-      go : (b : Bool) → equal t u ≡ b → cond b (some u) (c t u) ≡ none
+      go : (b : Bool) → equal t u ≡ b → cond b (Some u) (c t u) ≡ None
       go true q = no_some (sym (fair.same t u q) ∙ e)
       go false q = e
 
-  named_missing : (n : ℕ) (u : DataType) (fs : Fields) → Missing n fs → join_named c n u fs ≡ some u
+  named_missing : (n : ℕ) (u : DataType) (fs : Fields) → Missing n fs → join_named c n u fs ≡ Some u
   unfolding join_named
   named_missing n u empty d = refl
   named_missing n u (field other t fs) d =
@@ -158,8 +159,8 @@ module _ (c : TreeCall) (fair : Fair c) where
       ∙ named_missing n u fs d.1
 
   -- a held type has no join with the one field of its name
-  named_has : (n : ℕ) (u t : DataType) (fs : Fields) → Distinct fs → Has n t fs → c t u ≡ none
-      → join_named c n u fs ≡ none
+  named_has : (n : ℕ) (u t : DataType) (fs : Fields) → Distinct fs → Has n t fs → c t u ≡ None
+      → join_named c n u fs ≡ None
   unfolding join_named
   named_has n u t empty d h e = elim h [ ]
   named_has n u t (field other v fs) d here e =
@@ -172,22 +173,22 @@ module _ (c : TreeCall) (fair : Fair c) where
       ∙ named_has n u t fs d.1 h e
 
   -- and where it has none, there is such a field
-  named_clash : (n : ℕ) (u : DataType) (fs : Fields) → Distinct fs → join_named c n u fs ≡ none
-      → (t : DataType) × Has n t fs × (c t u ≡ none)
+  named_clash : (n : ℕ) (u : DataType) (fs : Fields) → Distinct fs → join_named c n u fs ≡ None
+      → (t : DataType) × Has n t fs × (c t u ≡ None)
   unfolding join_named
   named_clash n u empty d e = no_some e
   named_clash n u (field other t fs) d e = go (eqb n other) refl e (named_clash n u fs d.1)
     where
-      one : (q : Option DataType) → join_held c t u ≡ q → n ≡ other → bind_o q (λ st. join_named c n st fs) ≡ none
-          → (v : DataType) × Has n v (field other t fs) × (c v u ≡ none)
-      one none h b e = (t, subst (λ (m : ℕ). Has m t (field other t fs)) (sym b) here, held_none t u h)
-      one (some v) h b e =
+      one : (q : Option DataType) → join_held c t u ≡ q → n ≡ other → bind_o q (λ st. join_named c n st fs) ≡ None
+          → (v : DataType) × Has n v (field other t fs) × (c v u ≡ None)
+      one None h b e = (t, subst (λ (m : ℕ). Has m t (field other t fs)) (sym b) here, held_none t u h)
+      one (Some v) h b e =
           no_some (sym (named_missing n v fs (subst (λ (m : ℕ). Missing m fs) (sym b) d.0)) ∙ e)
 
       go : (b : Bool) → eqb n other ≡ b
-          → cond b (bind_o (join_held c t u) (λ st. join_named c n st fs)) (join_named c n u fs) ≡ none
-          → (join_named c n u fs ≡ none → (v : DataType) × Has n v fs × (c v u ≡ none))
-          → (v : DataType) × Has n v (field other t fs) × (c v u ≡ none)
+          → cond b (bind_o (join_held c t u) (λ st. join_named c n st fs)) (join_named c n u fs) ≡ None
+          → (join_named c n u fs ≡ None → (v : DataType) × Has n v fs × (c v u ≡ None))
+          → (v : DataType) × Has n v (field other t fs) × (c v u ≡ None)
       go true b e h = one (join_held c t u) refl (eqb-true n other b) e
       go false b e h = let r = h e in (r.0, there r.1, r.2)
 
@@ -207,13 +208,13 @@ module _ (c : TreeCall) (fair : Fair c) where
 
   -- two Structs clash: a name of both whose types have no supertype
   abbrev Clash : Fields → Fields → Type 0
-  Clash fs gs = (n : ℕ) × (t : DataType) × (u : DataType) × Has n t fs × Has n u gs × (c u t ≡ none)
+  Clash fs gs = (n : ℕ) × (t : DataType) × (u : DataType) × Has n t fs × Has n u gs × (c u t ≡ None)
 
   clash_turn : (fs gs : Fields) → Clash fs gs → Clash gs fs
   clash_turn fs gs k = (k.0, k.2, k.1, k.4, k.3, fair.turn k.2 k.1 k.5)
 
   -- then the union is None
-  clash_none : (fs gs : Fields) → Distinct fs → Distinct gs → Clash fs gs → union_fields c fs gs ≡ none
+  clash_none : (fs gs : Fields) → Distinct fs → Distinct gs → Clash fs gs → union_fields c fs gs ≡ None
   clash_none empty gs d e k = let h = k.3 in elim h [ ]
   clash_none (field m v fs) gs d e (n, t, u, here, g, q) =
       first_name n t fs gs d.0
@@ -227,7 +228,7 @@ module _ (c : TreeCall) (fair : Fair c) where
       ∙ nothing_after c (join_named c m v gs)
 
   -- new names have no clash
-  new_some : (gs : Fields) → Distinct gs → union_fields c empty gs ≡ some gs
+  new_some : (gs : Fields) → Distinct gs → union_fields c empty gs ≡ Some gs
   unfolding union_fields from_iter enter_all
   new_some empty d = refl
   new_some (field n t gs) d =
@@ -237,23 +238,23 @@ module _ (c : TreeCall) (fair : Fair c) where
       (ap (λ (z : Fields). enter_all c empty z) (without_missing n gs d.0) ∙ new_some gs d.1)
 
   -- and it is None for no other reason
-  none_clash : (fs gs : Fields) → Distinct fs → Distinct gs → union_fields c fs gs ≡ none → Clash fs gs
+  none_clash : (fs gs : Fields) → Distinct fs → Distinct gs → union_fields c fs gs ≡ None → Clash fs gs
   none_clash empty gs d e q = no_some (sym (new_some gs e) ∙ q)
   none_clash (field n t fs) gs d e q =
       go (join_named c n t gs) refl (sym (first_name n t fs gs d.0) ∙ q)
       (none_clash fs (without n gs) d.1 (distinct_without n gs e))
     where
       go : (p : Option DataType) → join_named c n t gs ≡ p
-          → bind_o p (λ v. map_o (field n v) (union_fields c fs (without n gs))) ≡ none
-          → (union_fields c fs (without n gs) ≡ none → Clash fs (without n gs)) → Clash (field n t fs) gs
-      go none h q r = let s = named_clash n t gs e h in (n, t, s.0, here, s.1, s.2)
-      go (some v) h q r =
+          → bind_o p (λ v. map_o (field n v) (union_fields c fs (without n gs))) ≡ None
+          → (union_fields c fs (without n gs) ≡ None → Clash fs (without n gs)) → Clash (field n t fs) gs
+      go None h q r = let s = named_clash n t gs e h in (n, t, s.0, here, s.1, s.2)
+      go (Some v) h q r =
           let s = r (map_none (field n v) (union_fields c fs (without n gs)) q) in
           (s.0, s.1, s.2, there s.3, had s.0 n s.2 gs s.4, s.5)
 
   -- The order of two Structs without repeated names does not count for None.
-  pub union_turn : (fs gs : Fields) → Distinct fs → Distinct gs → union_fields c fs gs ≡ none
-      → union_fields c gs fs ≡ none
+  pub union_turn : (fs gs : Fields) → Distinct fs → Distinct gs → union_fields c fs gs ≡ None
+      → union_fields c gs fs ≡ None
   union_turn fs gs d e q = clash_none gs fs e d (clash_turn fs gs (none_clash fs gs d e q))
 
   -- ---- the loop over both
@@ -266,11 +267,11 @@ module _ (c : TreeCall) (fair : Fair c) where
     where
       on : (q : Option DataType) (z : Zip) → c t u ≡ q → zip_fields c fs gs ≡ z → n ≡ m → zip_on n q z ≡ no_join
           → (zip_fields c fs gs ≡ no_join → Clash fs gs) → Clash (field n t fs) (field m u gs)
-      on none z h k b e r =
+      on None z h k b e r =
           (n, t, u, here, subst (λ (j : ℕ). Has j u (field m u gs)) (sym b) here, fair.turn t u h)
-      on (some v) names_differ h k b e r = impossible cc
-      on (some v) no_join h k b e r = let s = r k in (s.0, s.1, s.2, there s.3, there s.4, s.5)
-      on (some v) (joined hs) h k b e r = impossible cc
+      on (Some v) names_differ h k b e r = impossible cc
+      on (Some v) no_join h k b e r = let s = r k in (s.0, s.1, s.2, there s.3, there s.4, s.5)
+      on (Some v) (joined hs) h k b e r = impossible cc
 
       go : (b : Bool) → eqb n m ≡ b → cond b (zip_on n (c t u) (zip_fields c fs gs)) names_differ ≡ no_join
           → (zip_fields c fs gs ≡ no_join → Clash fs gs) → Clash (field n t fs) (field m u gs)
@@ -278,7 +279,7 @@ module _ (c : TreeCall) (fair : Fair c) where
       go false b e r = impossible cc
 
   -- Where it comes to None, so does the union, without repeated names.
-  pub zip_union : (fs gs : Fields) → Distinct fs → Distinct gs → zip_fields c fs gs ≡ no_join → union_fields c fs gs ≡ none
+  pub zip_union : (fs gs : Fields) → Distinct fs → Distinct gs → zip_fields c fs gs ≡ no_join → union_fields c fs gs ≡ None
   zip_union fs gs d e q = clash_none fs gs d e (zip_clash fs gs q)
 
   -- Where a name is out of place it does not come to all the joins.
@@ -290,10 +291,10 @@ module _ (c : TreeCall) (fair : Fair c) where
     where
       on : (q : Option DataType) (z : Zip) → zip_fields c fs gs ≡ z → zip_on n q z ≡ joined hs
           → ((hs : Fields) → zip_fields c fs gs ≡ joined hs → ⊥) → ⊥
-      on none z h e r = impossible cc
-      on (some v) names_differ h e r = impossible cc
-      on (some v) no_join h e r = impossible cc
-      on (some v) (joined js) h e r = r js h
+      on None z h e r = impossible cc
+      on (Some v) names_differ h e r = impossible cc
+      on (Some v) no_join h e r = impossible cc
+      on (Some v) (joined js) h e r = r js h
 
       go : (b : Bool) → (b && in_place fs gs) ≡ false
           → cond b (zip_on n (c t u) (zip_fields c fs gs)) names_differ ≡ joined hs
@@ -310,10 +311,10 @@ module _ (c : TreeCall) (fair : Fair c) where
     where
       on : (q : Option DataType) (z : Zip) → zip_fields c fs gs ≡ z → zip_on n q z ≡ names_differ
           → (zip_fields c fs gs ≡ names_differ → ⊥) → ⊥
-      on none z h e r = impossible cc
-      on (some v) names_differ h e r = r h
-      on (some v) no_join h e r = impossible cc
-      on (some v) (joined js) h e r = impossible cc
+      on None z h e r = impossible cc
+      on (Some v) names_differ h e r = r h
+      on (Some v) no_join h e r = impossible cc
+      on (Some v) (joined js) h e r = impossible cc
 
       go : (b : Bool) → (b && in_place fs gs) ≡ true
           → cond b (zip_on n (c t u) (zip_fields c fs gs)) names_differ ≡ names_differ
@@ -327,9 +328,9 @@ module _ (c : TreeCall) (fair : Fair c) where
       → zip_either (union_fields c fs gs) (union_fields c gs fs) (zip_fields c fs gs) ≡ union_fields c fs gs
   plain_union fs gs d e p = go (zip_fields c fs gs) refl
     where
-      or : (q : Option Fields) → (q ≡ none → union_fields c gs fs ≡ none) → or_else_fields q (union_fields c gs fs) ≡ q
-      or none h = h refl
-      or (some hs) h = refl
+      or : (q : Option Fields) → (q ≡ None → union_fields c gs fs ≡ None) → option_or q (union_fields c gs fs) ≡ q
+      or None h = h refl
+      or (Some hs) h = refl
 
       go : (z : Zip) → zip_fields c fs gs ≡ z
           → zip_either (union_fields c fs gs) (union_fields c gs fs) z ≡ union_fields c fs gs

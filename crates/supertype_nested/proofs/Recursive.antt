@@ -1,7 +1,8 @@
 -- The bound on how deep the calls go does not matter: the definition is the source's own recursion. Assumes nothing.
+use Rattle.std.specs.Option.{option_or}
 use mathlib.Core.Path.{◌≡◌, refl, sym, ap, ap₂, ◌∙◌}
 use mathlib.Core.Bool.{Bool, true, false, not, cond, ◌||◌}
-use mathlib.Core.Option.{Option, none, some}
+use Rattle.std.specs.Prelude.{Option, None, Some}
 use Prim.Native.Nat.{ℕ, zero, suc, ◌+◌, ◌≤◌, ◌<◌}
 use native.Mathlib.Omega.{arith}
 use lib.Dec.{T, leb, eqb}
@@ -16,7 +17,8 @@ use Rattle.dtype.specs.Predicate.{is_unknown_int}
 use Rattle.dtype.specs.Equality.{equal}
 use Rattle.dtype.proofs.Runs.{says, of_run}
 use Rattle.dtype_inner.specs.Inner.{inner_dtype}
-use Rattle.supertype_answer.specs.Join.{Node, root_node}
+use Rattle.flat.specs.declared.Node.{Node}
+use Rattle.supertype_answer.specs.Join.{root_node}
 use Rattle.supertype_arms.specs.Supertype.{run, TreePlan, left_type, right_type, roots, lists, arrays, implode_left}
 use Rattle.supertype_arms.specs.Supertype.{implode_right, first_field, structs, each_field}
 use Rattle.supertype_arms.specs.declared.plan.Plan.{Plan}
@@ -26,7 +28,7 @@ use Rattle.supertype_arms.proofs.Recursive.{quiet, quiet_run, dyn_run, runs_same
 use Rattle.supertype_nested.specs.Nested.{SuperTypeOptions, TreeCall, from_iter, enter, enter_all, union_fields}
 use Rattle.supertype_nested.specs.Nested.{union_struct_fields, zip_on, zip_fields, zip_end, super_type_structs}
 use Rattle.supertype_nested.specs.Nested.{join_each, of_widths, tree_of, root_found, at_roots, run_tree, tree_plan}
-use Rattle.supertype_nested.specs.Nested.{inner_tree, or_else_tree, supertype_tree_with, get_supertype_in}
+use Rattle.supertype_nested.specs.Nested.{inner_tree, supertype_tree_with, get_supertype_in}
 use Rattle.supertype_nested.specs.Nested.{supertype_tree}
 use Rattle.supertype_nested.proofs.Found.{if_weaken, bind_same, cond_same}
 use Rattle.supertype_nested.proofs.Smaller.{Below, AtMost, Smaller, from_sizes, enter_sizes, inner_size, in_smaller}
@@ -52,12 +54,12 @@ module _ (c d : TreeCall) (k a m b : ℕ) where
   leaves_inner : (o : SuperTypeOptions) → is_unknown_int m ≡ false
       → inner_tree c o (leaf k a) (leaf m b) ≡ inner_tree d o (leaf k a) (leaf m b)
   unfolding inner_tree head_kind
-  leaves_inner o e = ap (cond (equal (leaf k a) (leaf m b)) (some (leaf k a))) (leaves_run (tree_plan o k m) (no_call o k m e))
+  leaves_inner o e = ap (cond (equal (leaf k a) (leaf m b)) (Some (leaf k a))) (leaves_run (tree_plan o k m) (no_call o k m e))
 
 leaves_same : (c d : TreeCall) (o : SuperTypeOptions) (k a m b : ℕ) → is_unknown_int k ≡ false → is_unknown_int m ≡ false
     → supertype_tree_with c o (leaf k a) (leaf m b) ≡ supertype_tree_with d o (leaf k a) (leaf m b)
 unfolding supertype_tree_with
-leaves_same c d o k a m b e f = ap₂ or_else_tree (leaves_inner c d k a m b o f) (leaves_inner c d m b k a o e)
+leaves_same c d o k a m b e f = ap₂ option_or (leaves_inner c d k a m b o f) (leaves_inner c d m b k a o e)
 
 -- ---- two calls that agree
 
@@ -77,7 +79,7 @@ module _ (c d : TreeCall) (s : Smaller c) (n : ℕ) (g : Agree n c d) where
   enter_same name t empty h = refl
   enter_same name t (field other u map) h =
       cond_same (eqb other name)
-      (ap (map_o (λ st. field other st map)) (ap (cond (equal t u) (some u)) (g.fewer t u (omega arith))))
+      (ap (map_o (λ st. field other st map)) (ap (cond (equal t u) (Some u)) (g.fewer t u (omega arith))))
       (ap (map_o (field other u)) (enter_same name t map (omega arith)))
 
   all_same : (map fs : Fields) → sizes map + sizes fs < n → enter_all c map fs ≡ enter_all d map fs
@@ -126,7 +128,7 @@ module _ (c d : TreeCall) (s : Smaller c) (n : ℕ) (g : Agree n c d) where
       (if_weaken (Below (size l)) (λ t. f t ≡ f' t) h (inner_dtype l) (inner_size l))
 
   first_same : (l r : DataType) → size l + size r ≤ n
-      → if_struct none (if_field none (λ name t fs. c t r)) l ≡ if_struct none (if_field none (λ name t fs. d t r)) l
+      → if_struct None (if_field None (λ name t fs. c t r)) l ≡ if_struct None (if_field None (λ name t fs. d t r)) l
   unfolding size
   first_same (leaf k a) r h = refl
   first_same (list t) r h = refl
@@ -135,8 +137,8 @@ module _ (c d : TreeCall) (s : Smaller c) (n : ℕ) (g : Agree n c d) where
   first_same (struct (field name t fs)) r h = g.fewer t r (omega arith)
 
   both_same : (l r : DataType) → size l + size r ≤ n
-      → if_struct none (λ fs. if_struct none (super_type_structs c fs) r) l
-      ≡ if_struct none (λ fs. if_struct none (super_type_structs d fs) r) l
+      → if_struct None (λ fs. if_struct None (super_type_structs c fs) r) l
+      ≡ if_struct None (λ fs. if_struct None (super_type_structs d fs) r) l
   unfolding size
   both_same (leaf k a) r h = refl
   both_same (list t) r h = refl
@@ -147,8 +149,8 @@ module _ (c d : TreeCall) (s : Smaller c) (n : ℕ) (g : Agree n c d) where
   both_same (struct fs) (struct gs) h = structs_same fs gs (omega arith)
 
   with_leaf_same : (l r : DataType) → size l + size r ≤ n
-      → if_struct none (λ fs. if_leaf none (λ k a. map_o struct (join_each c fs (leaf k a))) r) l
-      ≡ if_struct none (λ fs. if_leaf none (λ k a. map_o struct (join_each d fs (leaf k a))) r) l
+      → if_struct None (λ fs. if_leaf None (λ k a. map_o struct (join_each c fs (leaf k a))) r) l
+      ≡ if_struct None (λ fs. if_leaf None (λ k a. map_o struct (join_each d fs (leaf k a))) r) l
   unfolding size
   with_leaf_same (leaf k a) r h = refl
   with_leaf_same (list t) r h = refl
@@ -190,13 +192,13 @@ module _ (c d : TreeCall) (s : Smaller c) (n : ℕ) (g : Agree n c d) where
   inner_same : (o : SuperTypeOptions) (l r : DataType) → size l + size r ≤ n → inner_tree c o l r ≡ inner_tree d o l r
   unfolding inner_tree
   inner_same o l r h =
-      ap (cond (equal l r) (some l))
+      ap (cond (equal l r) (Some l))
       (run_same l r h (tree_plan o (head_kind l) (head_kind r)) (dyn_discards o (head_kind l) (head_kind r)))
 
   with_same : (o : SuperTypeOptions) (l r : DataType) → size l + size r ≤ n
       → supertype_tree_with c o l r ≡ supertype_tree_with d o l r
   unfolding supertype_tree_with
-  with_same o l r h = ap₂ or_else_tree (inner_same o l r h) (inner_same o r l (omega arith))
+  with_same o l r h = ap₂ option_or (inner_same o l r h) (inner_same o r l (omega arith))
 
 -- ---- the bound
 
@@ -241,14 +243,14 @@ recursive o i l r =
     o l r (omega arith)
 
 -- ---- None does not depend on the order
-pub none_symmetric : (o i : SuperTypeOptions) (l r : DataType) → supertype_tree o i l r ≡ none
-    → supertype_tree o i r l ≡ none
+pub none_symmetric : (o i : SuperTypeOptions) (l r : DataType) → supertype_tree o i l r ≡ None
+    → supertype_tree o i r l ≡ None
 none_symmetric o i l r e = recursive o i r l ∙ turned (supertype_tree i i) (sym (recursive o i l r) ∙ e)
   where
-    both : (p q : Option DataType) → or_else_tree p q ≡ none → or_else_tree q p ≡ none
-    both none none h = refl
-    both none (some t) h = h
-    both (some t) q h = impossible cc
+    both : (p q : Option DataType) → option_or p q ≡ None → option_or q p ≡ None
+    both None None h = refl
+    both None (Some t) h = h
+    both (Some t) q h = impossible cc
 
-    turned : (c : TreeCall) → supertype_tree_with c o l r ≡ none → supertype_tree_with c o r l ≡ none
+    turned : (c : TreeCall) → supertype_tree_with c o l r ≡ None → supertype_tree_with c o r l ≡ None
     turned c h = unfold supertype_tree_with in both (inner_tree c o l r) (inner_tree c o r l) h

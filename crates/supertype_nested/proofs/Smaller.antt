@@ -1,6 +1,6 @@
 -- An answer has fewer nodes than both types together. Assumes nothing.
 use mathlib.Core.Bool.{Bool, true, false, cond}
-use mathlib.Core.Option.{Option, none, some}
+use Rattle.std.specs.Prelude.{Option, None, Some}
 use Prim.Native.Nat.{ℕ, zero, suc, ◌+◌, ◌≤◌, ◌<◌}
 use native.Mathlib.Omega.{arith}
 use lib.Dec.{leb, eqb}
@@ -11,7 +11,8 @@ use Rattle.flat.proofs.Sizes.{size_pos}
 use Rattle.dtype.specs.Match.{if_leaf, if_struct, if_field}
 use Rattle.dtype.specs.Equality.{equal}
 use Rattle.dtype_inner.specs.Inner.{inner_dtype}
-use Rattle.supertype_answer.specs.Join.{Supertype, Some, Nothing, root_node}
+use Rattle.flat.specs.declared.Node.{Node}
+use Rattle.supertype_answer.specs.Join.{root_node}
 use Rattle.supertype_arms.specs.Supertype.{run, TreePlan, left_type, right_type, roots, lists, arrays, implode_left}
 use Rattle.supertype_arms.specs.Supertype.{implode_right, first_field, structs, each_field}
 use Rattle.supertype_nested.specs.Nested.{SuperTypeOptions, TreeCall, insert, from_iter, join_held, enter, enter_all}
@@ -60,7 +61,7 @@ module _ (call : TreeCall) (s : Smaller call) where
   -- ---- the union of fields
   pub held_sizes : (t u : DataType) → If (Below (size t + size u)) (join_held call t u)
   held_sizes t u =
-      if_cond (Below (size t + size u)) (equal t u) (some u) (call t u) (let p = size_pos t in omega arith) (s t u)
+      if_cond (Below (size t + size u)) (equal t u) (Some u) (call t u) (let p = size_pos t in omega arith) (s t u)
 
   pub enter_sizes :
       (name : ℕ) (t : DataType) (map : Fields) → If (AtMost (suc (size t + sizes map))) (enter call name t map)
@@ -114,10 +115,10 @@ module _ (call : TreeCall) (s : Smaller call) where
   zip_on_lem : (n m name : ℕ) (q : Option DataType) (z : Zip) → If (Below n) q → ZipAtMost m z
       → ZipAtMost (n + m) (zip_on name q z)
   unfolding size
-  zip_on_lem n m name none z h g = tt
-  zip_on_lem n m name (some t) names_differ h g = tt
-  zip_on_lem n m name (some t) no_join h g = tt
-  zip_on_lem n m name (some t) (joined fs) h g = omega arith
+  zip_on_lem n m name None z h g = tt
+  zip_on_lem n m name (Some t) names_differ h g = tt
+  zip_on_lem n m name (Some t) no_join h g = tt
+  zip_on_lem n m name (Some t) (joined fs) h g = omega arith
 
   zip_cond : (n m : ℕ) (b : Bool) (z : Zip) → n ≤ m → ZipAtMost n z → ZipAtMost m (cond b z names_differ)
   zip_cond n m true names_differ h g = tt
@@ -159,10 +160,10 @@ module _ (call : TreeCall) (s : Smaller call) where
       (call t (leaf k a)) (s t (leaf k a))
 
   -- ---- the arms
-  roots_sizes : (n : ℕ) (q : Supertype) → 2 ≤ n → If (Below n) (tree_of q)
+  roots_sizes : (n : ℕ) (q : Option Node) → 2 ≤ n → If (Below n) (tree_of q)
   unfolding size
   roots_sizes n (Some x) h = omega arith
-  roots_sizes n Nothing h = tt
+  roots_sizes n None h = tt
 
   -- through the inner type of l
   under : (n : ℕ) (l : DataType) (f : DataType → Option DataType)
@@ -181,7 +182,7 @@ module _ (call : TreeCall) (s : Smaller call) where
       go t true e = omega arith
       go t false e = omega arith
 
-  first_sizes : (l r : DataType) → If (Below (size l + size r)) (if_struct none (if_field none (λ name t fs. call t r)) l)
+  first_sizes : (l r : DataType) → If (Below (size l + size r)) (if_struct None (if_field None (λ name t fs. call t r)) l)
   unfolding size
   first_sizes (leaf k a) r = tt
   first_sizes (list t) r = tt
@@ -192,7 +193,7 @@ module _ (call : TreeCall) (s : Smaller call) where
       (call t r) (s t r)
 
   both_sizes : (l r : DataType)
-      → If (Below (size l + size r)) (if_struct none (λ fs. if_struct none (super_type_structs call fs) r) l)
+      → If (Below (size l + size r)) (if_struct None (λ fs. if_struct None (super_type_structs call fs) r) l)
   unfolding size
   both_sizes (leaf k a) r = tt
   both_sizes (list t) r = tt
@@ -206,7 +207,7 @@ module _ (call : TreeCall) (s : Smaller call) where
 
   with_leaf_sizes : (l r : DataType)
       → If (Below (size l + size r))
-      (if_struct none (λ fs. if_leaf none (λ k a. map_o struct (join_each call fs (leaf k a))) r) l)
+      (if_struct None (λ fs. if_leaf None (λ k a. map_o struct (join_each call fs (leaf k a))) r) l)
   unfolding size
   with_leaf_sizes (leaf k a) r = tt
   with_leaf_sizes (list t) r = tt
@@ -246,7 +247,7 @@ module _ (call : TreeCall) (s : Smaller call) where
   inner_sizes : (o : SuperTypeOptions) (l r : DataType) → If (Below (size l + size r)) (inner_tree call o l r)
   unfolding inner_tree
   inner_sizes o l r =
-      if_cond (Below (size l + size r)) (equal l r) (some l) (run_tree call (tree_plan o (head_kind l) (head_kind r)) l r)
+      if_cond (Below (size l + size r)) (equal l r) (Some l) (run_tree call (tree_plan o (head_kind l) (head_kind r)) l r)
       (let h = size_pos r in omega arith) (run_sizes l r (tree_plan o (head_kind l) (head_kind r)))
 
   with_sizes : (o : SuperTypeOptions) → Smaller (supertype_tree_with call o)

@@ -1,8 +1,9 @@
 -- What the two tries come to for two nested types, in the calls on their parts: where the second try is needless, and
 -- where it is not. Assumes nothing.
+use Rattle.std.specs.Option.{option_or}
 use mathlib.Core.Path.{◌≡◌, refl, sym, ap, ap₂, ◌∙◌}
 use mathlib.Core.Bool.{Bool, true, false, cond, ◌&&◌}
-use mathlib.Core.Option.{Option, none, some}
+use Rattle.std.specs.Prelude.{Option, None, Some}
 use Prim.Native.Nat.{ℕ, suc, ◌<◌}
 use native.Mathlib.Omega.{arith}
 use lib.Dec.{eqb}
@@ -17,9 +18,9 @@ use Rattle.supertype_answer.specs.Join.{type_of}
 use Rattle.supertype_arms.specs.Supertype.{TreePlan, left_type, lists, arrays, structs}
 use Rattle.supertype_nested.specs.Nested.{SuperTypeOptions, TreeCall, union_fields, Zip, names_differ, no_join, joined}
 use Rattle.supertype_nested.specs.Nested.{zip_on, zip_fields, zip_end, super_type_structs, of_widths, root_found}
-use Rattle.supertype_nested.specs.Nested.{run_tree, tree_plan, inner_tree, or_else_tree, supertype_tree_with}
+use Rattle.supertype_nested.specs.Nested.{run_tree, tree_plan, inner_tree, supertype_tree_with}
 use Rattle.supertype_nested.specs.Nested.{supertype_tree}
-use Rattle.supertype_nested.specs.Step.{Fair, or_else_fields, zip_either}
+use Rattle.supertype_nested.specs.Step.{Fair, zip_either}
 use Rattle.supertype_nested.proofs.Found.{no_some, map_none}
 use Rattle.supertype_nested.proofs.Chosen.{plan_at, at_plan}
 use Rattle.supertype_nested.proofs.Recursive.{recursive, none_symmetric}
@@ -31,12 +32,12 @@ use Rattle.supertype_nested.proofs.Leaves.{known_roots}
 
 -- equal types: the left one
 with_equal : (c : TreeCall) (o : SuperTypeOptions) (l r : DataType) → equal l r ≡ true
-    → supertype_tree_with c o l r ≡ some l
+    → supertype_tree_with c o l r ≡ Some l
 unfolding supertype_tree_with inner_tree
 with_equal c o l r e =
     ap
     (λ (b : Bool).
-    or_else_tree (cond b (some l) (run_tree c (tree_plan o (head_kind l) (head_kind r)) l r)) (inner_tree c o r l)) e
+    option_or (cond b (Some l) (run_tree c (tree_plan o (head_kind l) (head_kind r)) l r)) (inner_tree c o r l)) e
 
 -- only one arm takes Null on the right
 plan_null : (o : SuperTypeOptions) (k : ℕ) → tree_plan o k kind.Null ≡ left_type
@@ -45,17 +46,17 @@ plan_null o k = at_plan o k kind.Null
 
 -- Null on the right: the left type, whatever the inner calls answer.
 pub with_null : (c : TreeCall) (o : SuperTypeOptions) (t : DataType) (a : ℕ)
-    → supertype_tree_with c o t (leaf kind.Null a) ≡ some t
+    → supertype_tree_with c o t (leaf kind.Null a) ≡ Some t
 unfolding supertype_tree_with inner_tree head_kind run_tree
 with_null c o t a =
     ap
     (λ (p : TreePlan).
-    or_else_tree (cond (equal t (leaf kind.Null a)) (some t) (run_tree c p t (leaf kind.Null a)))
+    option_or (cond (equal t (leaf kind.Null a)) (Some t) (run_tree c p t (leaf kind.Null a)))
     (inner_tree c o (leaf kind.Null a) t))
     (plan_null o (head_kind t))
     ∙ go (equal t (leaf kind.Null a))
   where
-    go : (b : Bool) → or_else_tree (cond b (some t) (some t)) (inner_tree c o (leaf kind.Null a) t) ≡ some t
+    go : (b : Bool) → option_or (cond b (Some t) (Some t)) (inner_tree c o (leaf kind.Null a) t) ≡ Some t
     go true = refl
     go false = refl
 
@@ -77,26 +78,26 @@ tree_fair o i =
 -- such test.
 pub settle : (c : TreeCall) (o : SuperTypeOptions) (l r : DataType) (p q : TreePlan)
     → tree_plan o (head_kind l) (head_kind r) ≡ p → tree_plan o (head_kind r) (head_kind l) ≡ q
-    → (equal l r ≡ true → run_tree c p l r ≡ some l) → (equal r l ≡ true → run_tree c q r l ≡ some r)
-    → (run_tree c p l r ≡ none → run_tree c q r l ≡ none) → supertype_tree_with c o l r ≡ run_tree c p l r
+    → (equal l r ≡ true → run_tree c p l r ≡ Some l) → (equal r l ≡ true → run_tree c q r l ≡ Some r)
+    → (run_tree c p l r ≡ None → run_tree c q r l ≡ None) → supertype_tree_with c o l r ≡ run_tree c p l r
 unfolding supertype_tree_with inner_tree
 settle c o l r p q h g a b n =
     ap₂
     (λ (x y : TreePlan).
-    or_else_tree (cond (equal l r) (some l) (run_tree c x l r)) (cond (equal r l) (some r) (run_tree c y r l))) h g
+    option_or (cond (equal l r) (Some l) (run_tree c x l r)) (cond (equal r l) (Some r) (run_tree c y r l))) h g
     ∙ first (equal l r) (equal r l) (run_tree c p l r) a b n
   where
-    second : (y : Bool) → (y ≡ true → run_tree c q r l ≡ some r) → run_tree c q r l ≡ none
-        → cond y (some r) (run_tree c q r l) ≡ none
+    second : (y : Bool) → (y ≡ true → run_tree c q r l ≡ Some r) → run_tree c q r l ≡ None
+        → cond y (Some r) (run_tree c q r l) ≡ None
     second true b e = no_some (sym (b refl) ∙ e)
     second false b e = e
 
-    first : (x y : Bool) (t : Option DataType) → (x ≡ true → t ≡ some l) → (y ≡ true → run_tree c q r l ≡ some r)
-        → (t ≡ none → run_tree c q r l ≡ none)
-        → or_else_tree (cond x (some l) t) (cond y (some r) (run_tree c q r l)) ≡ t
+    first : (x y : Bool) (t : Option DataType) → (x ≡ true → t ≡ Some l) → (y ≡ true → run_tree c q r l ≡ Some r)
+        → (t ≡ None → run_tree c q r l ≡ None)
+        → option_or (cond x (Some l) t) (cond y (Some r) (run_tree c q r l)) ≡ t
     first true y t a b n = sym (a refl)
-    first false y (some v) a b n = refl
-    first false y none a b n = second y b (n refl)
+    first false y (Some v) a b n = refl
+    first false y None a b n = second y b (n refl)
 
 -- ---- the plans of two nested kinds
 
@@ -125,7 +126,7 @@ module _ (c : TreeCall) (fair : Fair c) (o : SuperTypeOptions) where
   -- ---- Lists and Arrays: one call on the inner types
 
   -- the call the other way round is None where this one is
-  turned : (f g : DataType → DataType) (t u : DataType) → map_o f (c t u) ≡ none → map_o g (c u t) ≡ none
+  turned : (f g : DataType → DataType) (t u : DataType) → map_o f (c t u) ≡ None → map_o g (c u t) ≡ None
   turned f g t u e = ap (map_o g) (fair.turn t u (map_none f (c t u) e))
 
   -- a List of what the inner types come to
@@ -149,11 +150,11 @@ module _ (c : TreeCall) (fair : Fair c) (o : SuperTypeOptions) where
 
   -- equal Arrays have one width
   width_same : (w v : ℕ) (t u : DataType) → equal (array w t) (array v u) ≡ true
-      → map_o (of_widths w v) (c t u) ≡ some (array w t)
+      → map_o (of_widths w v) (c t u) ≡ Some (array w t)
   unfolding equal
   width_same w v t u e = go (eqb w v) e
     where
-      go : (b : Bool) → (b && equal t u) ≡ true → map_o (λ z. cond b (array w z) (list z)) (c t u) ≡ some (array w t)
+      go : (b : Bool) → (b && equal t u) ≡ true → map_o (λ z. cond b (array w z) (list z)) (c t u) ≡ Some (array w t)
       go true e = ap (map_o (array w)) (fair.same t u e)
       go false e = never e
 
@@ -174,17 +175,17 @@ module _ (c : TreeCall) (fair : Fair c) (o : SuperTypeOptions) where
   came (joined fs) = 2
 
   -- a join that was found leaves it what it is
-  on_some : (n : ℕ) (t : DataType) (z : Zip) → came (zip_on n (some t) z) ≡ came z
+  on_some : (n : ℕ) (t : DataType) (z : Zip) → came (zip_on n (Some t) z) ≡ came z
   on_some n t names_differ = refl
   on_some n t no_join = refl
   on_some n t (joined fs) = refl
 
-  zip_on_turned : (n m : ℕ) (p q : Option DataType) (x y : Zip) → (p ≡ none → q ≡ none) → (q ≡ none → p ≡ none)
+  zip_on_turned : (n m : ℕ) (p q : Option DataType) (x y : Zip) → (p ≡ None → q ≡ None) → (q ≡ None → p ≡ None)
       → came x ≡ came y → came (zip_on n p x) ≡ came (zip_on m q y)
-  zip_on_turned n m none none x y h g e = refl
-  zip_on_turned n m none (some u) x y h g e = no_some (h refl)
-  zip_on_turned n m (some t) none x y h g e = no_some (g refl)
-  zip_on_turned n m (some t) (some u) x y h g e = on_some n t x ∙ e ∙ sym (on_some m u y)
+  zip_on_turned n m None None x y h g e = refl
+  zip_on_turned n m None (Some u) x y h g e = no_some (h refl)
+  zip_on_turned n m (Some t) None x y h g e = no_some (g refl)
+  zip_on_turned n m (Some t) (Some u) x y h g e = on_some n t x ∙ e ∙ sym (on_some m u y)
 
   -- it comes to the same in either order, but for the types
   zip_turned : (fs gs : Fields) → came (zip_fields c fs gs) ≡ came (zip_fields c gs fs)
@@ -230,15 +231,15 @@ module _ (c : TreeCall) (fair : Fair c) (o : SuperTypeOptions) where
   equal_counts (field n t fs) (field m u gs) e = ap suc (equal_counts fs gs (both_true (eqb n m && equal t u) _ e).1)
 
   -- the unions of either order, as types
-  struct_or : (p q : Option Fields) → or_else_tree (map_o struct p) (map_o struct q) ≡ map_o struct (or_else_fields p q)
-  struct_or none q = refl
-  struct_or (some fs) q = refl
+  struct_or : (p q : Option Fields) → option_or (map_o struct p) (map_o struct q) ≡ map_o struct (option_or p q)
+  struct_or None q = refl
+  struct_or (Some fs) q = refl
 
   -- both tries, by what the loop comes to in each
   two_zips : (fs gs : Fields) (p q : Option Fields) (x y : Bool) (z w : Zip) → came z ≡ came w
       → (x ≡ true → z ≡ joined fs) → (y ≡ true → w ≡ joined gs)
-      → or_else_tree (cond x (some (struct fs)) (zip_end (map_o struct p) z))
-      (cond y (some (struct gs)) (zip_end (map_o struct q) w))
+      → option_or (cond x (Some (struct fs)) (zip_end (map_o struct p) z))
+      (cond y (Some (struct gs)) (zip_end (map_o struct q) w))
       ≡ map_o struct (zip_either p q z)
   two_zips fs gs p q true y z w e h g = ap (λ (z : Zip). map_o struct (zip_either p q z)) (sym (h refl))
   two_zips fs gs p q false y (joined hs) w e h g = refl
@@ -259,7 +260,7 @@ module _ (c : TreeCall) (fair : Fair c) (o : SuperTypeOptions) where
   same_count fs gs e =
       ap₂
       (λ (x y : Option DataType).
-      or_else_tree (cond (equal_fields fs gs) (some (struct fs)) x) (cond (equal_fields gs fs) (some (struct gs)) y))
+      option_or (cond (equal_fields fs gs) (Some (struct fs)) x) (cond (equal_fields gs fs) (Some (struct gs)) y))
       (one fs gs e) (one gs fs (sym e))
       ∙ two_zips fs gs (union_fields c fs gs) (union_fields c gs fs) (equal_fields fs gs) (equal_fields gs fs)
       (zip_fields c fs gs) (zip_fields c gs fs) (zip_turned fs gs) (zip_equal fs gs) (zip_equal gs fs)

@@ -1,7 +1,7 @@
 -- The union of fields, name by name: what stands under a name rests on the fields of that name alone. Assumes nothing.
 use mathlib.Core.Path.{◌≡◌, refl, sym, ap, ◌∙◌, subst}
 use mathlib.Core.Bool.{Bool, true, false, cond}
-use mathlib.Core.Option.{Option, none, some}
+use Rattle.std.specs.Prelude.{Option, None, Some}
 use Prim.Native.Nat.{ℕ}
 use lib.Dec.{eqb}
 use borrow.Author.Tests.{eqb-true, eqb-false, eq-eqb, ne_eqb}
@@ -69,12 +69,12 @@ module _ (c : TreeCall) (n : ℕ) where
     where
       held : eqb n other ≡ true → (q : Option DataType)
           → map_o (named n) (map_o (λ st. field other st map) q) ≡ map_o (λ st. field other st (named n map)) q
-      held e none = refl
-      held e (some v) = rw e refl
+      held e None = refl
+      held e (Some v) = rw e refl
 
       skipped : eqb n other ≡ false → (q : Option Fields) → map_o (named n) (map_o (field other u) q) ≡ map_o (named n) q
-      skipped e none = refl
-      skipped e (some fs) = rw e refl
+      skipped e None = refl
+      skipped e (Some fs) = rw e refl
 
       go : (b : Bool) → eqb n other ≡ b → map_o (named n) (enter c n t map) ≡ enter c n t (named n map)
           → map_o (named n)
@@ -92,13 +92,13 @@ module _ (c : TreeCall) (n : ℕ) where
     where
       held : eqb other m ≡ true → (q : Option DataType)
           → If (λ to. named n to ≡ named n (field other u map)) (map_o (λ st. field other st map) q)
-      held e none = tt
-      held e (some v) = rw (ap (eqb n) (eqb-true other m e) ∙ h) refl
+      held e None = tt
+      held e (Some v) = rw (ap (eqb n) (eqb-true other m e) ∙ h) refl
 
       skipped : (q : Option Fields) → If (λ to. named n to ≡ named n map) q
           → If (λ to. named n to ≡ named n (field other u map)) (map_o (field other u) q)
-      skipped none g = tt
-      skipped (some fs) g = ap (λ (fs : Fields). cond (eqb n other) (field other u fs) fs) g
+      skipped None g = tt
+      skipped (Some fs) g = ap (λ (fs : Fields). cond (eqb n other) (field other u fs) fs) g
 
       go : (b : Bool) → eqb other m ≡ b → If (λ to. named n to ≡ named n map) (enter c m t map)
           → If (λ to. named n to ≡ named n (field other u map))
@@ -108,7 +108,7 @@ module _ (c : TreeCall) (n : ℕ) where
 
   -- the loop over fs goes over its fields of the name as if there were no others
   abbrev Parted : Fields → Fields → Type 0
-  Parted fs map = If (λ to. enter_all c (named n map) (named n fs) ≡ some (named n to)) (enter_all c map fs)
+  Parted fs map = If (λ to. enter_all c (named n map) (named n fs) ≡ Some (named n to)) (enter_all c map fs)
 
   all_named : (fs map : Fields) → Parted fs map
   unfolding named enter_all
@@ -116,38 +116,38 @@ module _ (c : TreeCall) (n : ℕ) where
   all_named (field m t fs) map = go (eqb n m) refl (all_named fs)
     where
       one : (q : Option Fields) → ((map : Fields) → Parted fs map)
-          → If (λ to. bind_o (map_o (named n) q) (λ map. enter_all c map (named n fs)) ≡ some (named n to))
+          → If (λ to. bind_o (map_o (named n) q) (λ map. enter_all c map (named n fs)) ≡ Some (named n to))
           (bind_o q (λ map. enter_all c map fs))
-      one none h = tt
-      one (some map) h = h map
+      one None h = tt
+      one (Some map) h = h map
 
       other : (q : Option Fields) → ((map : Fields) → Parted fs map) → If (λ to. named n to ≡ named n map) q
-          → If (λ to. enter_all c (named n map) (named n fs) ≡ some (named n to)) (bind_o q (λ map. enter_all c map fs))
-      other none h g = tt
-      other (some to) h g =
-          subst (λ (from : Fields). If (λ to. enter_all c from (named n fs) ≡ some (named n to)) (enter_all c to fs)) g
+          → If (λ to. enter_all c (named n map) (named n fs) ≡ Some (named n to)) (bind_o q (λ map. enter_all c map fs))
+      other None h g = tt
+      other (Some to) h g =
+          subst (λ (from : Fields). If (λ to. enter_all c from (named n fs) ≡ Some (named n to)) (enter_all c to fs)) g
           (h to)
 
       go : (b : Bool) → eqb n m ≡ b → ((map : Fields) → Parted fs map)
-          → If (λ to. enter_all c (named n map) (cond b (field m t (named n fs)) (named n fs)) ≡ some (named n to))
+          → If (λ to. enter_all c (named n map) (cond b (field m t (named n fs)) (named n fs)) ≡ Some (named n to))
           (bind_o (enter c m t map) (λ map. enter_all c map fs))
       go true e h =
           subst
           (λ (k : ℕ).
-          If (λ to. bind_o (enter c k t (named n map)) (λ map. enter_all c map (named n fs)) ≡ some (named n to))
+          If (λ to. bind_o (enter c k t (named n map)) (λ map. enter_all c map (named n fs)) ≡ Some (named n to))
           (bind_o (enter c k t map) (λ map. enter_all c map fs)))
           (eqb-true n m e)
           (subst
           (λ (q : Option Fields).
-          If (λ to. bind_o q (λ map. enter_all c map (named n fs)) ≡ some (named n to))
+          If (λ to. bind_o q (λ map. enter_all c map (named n fs)) ≡ Some (named n to))
           (bind_o (enter c n t map) (λ map. enter_all c map fs)))
           (enter_one t map) (one (enter c n t map) h))
       go false e h = other (enter c m t map) h (enter_other m t map e)
 
-pub alone : (c : TreeCall) (longest shortest union : Fields) → union_fields c longest shortest ≡ some union
-    → (name : ℕ) → union_fields c (named name longest) (named name shortest) ≡ some (named name union)
+pub alone : (c : TreeCall) (longest shortest union : Fields) → union_fields c longest shortest ≡ Some union
+    → (name : ℕ) → union_fields c (named name longest) (named name shortest) ≡ Some (named name union)
 unfolding union_fields named
 alone c longest shortest union e n =
     ap (λ (map : Fields). enter_all c map (named n shortest)) (sym (from_named n empty longest))
-    ∙ if_told (λ to. enter_all c (named n (from_iter empty longest)) (named n shortest) ≡ some (named n to))
+    ∙ if_told (λ to. enter_all c (named n (from_iter empty longest)) (named n shortest) ≡ Some (named n to))
     (enter_all c (from_iter empty longest) shortest) union e (all_named c n shortest (from_iter empty longest))

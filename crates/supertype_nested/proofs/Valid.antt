@@ -2,7 +2,7 @@
 use mathlib.Core.Path.{◌≡◌, refl, sym, subst, ◌∙◌}
 use mathlib.Core.Bool.{Bool, true, false, not, cond, ◌&&◌, ◌||◌}
 use mathlib.Core.List.{List, [], ◌∷◌}
-use mathlib.Core.Option.{Option, none, some}
+use Rattle.std.specs.Prelude.{Option, None, Some}
 use Prim.Native.Nat.{ℕ, ◌+◌, ◌*◌, ◌^◌, ◌≤◌, ◌<◌}
 use native.Mathlib.Omega.{arith}
 use lib.Dec.{T, leb}
@@ -18,7 +18,8 @@ use Rattle.flat.proofs.Truths.{never, is_true, both_true}
 use Rattle.dtype.specs.Match.{among}
 use Rattle.dtype.specs.Predicate.{is_float, is_unknown_int, is_signed_integer, is_unsigned_integer, is_integer}
 use Rattle.dtype.specs.Predicate.{is_primitive_numeric}
-use Rattle.supertype_answer.specs.Join.{Node, Supertype, Some, Nothing, root_node, type_of}
+use Rattle.flat.specs.declared.Node.{Node}
+use Rattle.supertype_answer.specs.Join.{root_node, type_of}
 use Rattle.supertype_arms.specs.Node.{zone, fits}
 use Rattle.supertype_arms.specs.Supertype.{is, arms, unknown_arms, choose, run, TreePlan}
 use Rattle.supertype_arms.specs.declared.plan.Plan.{Plan}
@@ -199,18 +200,18 @@ of_node : (n : Node) → fits n ≡ true → LeavesFit (type_of n)
 unfolding fits Each
 of_node n h = h
 
-as_tree : (q : Supertype) → Fitting q → If LeavesFit (tree_of q)
+as_tree : (q : Option Node) → Fitting q → If LeavesFit (tree_of q)
 unfolding fits Each
 as_tree (Some n) h = h
-as_tree Nothing h = tt
+as_tree None h = tt
 
 as_root : (q : Option DataType) → If LeavesFit q → Fitting (root_found q)
 unfolding fits Each
-as_root none h = tt
-as_root (some (leaf k a)) h = h
-as_root (some (list t)) h = tt
-as_root (some (array w t)) h = tt
-as_root (some (struct fs)) h = tt
+as_root None h = tt
+as_root (Some (leaf k a)) h = h
+as_root (Some (list t)) h = tt
+as_root (Some (array w t)) h = tt
+as_root (Some (struct fs)) h = tt
 
 roots_keep : RootsKeep LeafFits NameFits
 roots_keep call s o l r h g p e =
@@ -221,7 +222,7 @@ roots_keep call s o l r h g p e =
     (roots_suit l r h g p
     (subst (λ (q : TreePlan). T (on_roots (suits (head_kind l) (head_kind r)) q)) e (arms_suit o (head_kind l) (head_kind r)))))
 
-pub leaves_fit : (o i : SuperTypeOptions) (l r t : DataType) → LeavesFit l → LeavesFit r → supertype_tree o i l r ≡ some t
+pub leaves_fit : (o i : SuperTypeOptions) (l r t : DataType) → LeavesFit l → LeavesFit r → supertype_tree o i l r ≡ Some t
     → LeavesFit t
 leaves_fit o i l r t h g e =
     if_told LeavesFit (supertype_tree o i l r) t e (tree_keeps LeafFits NameFits roots_keep o i l r h g)

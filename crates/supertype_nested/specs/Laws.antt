@@ -1,6 +1,6 @@
 -- What holds of the supertype of any two types. Assumes nothing: these are statements, proved in proofs/.
 use Rattle.std.specs.Prelude.{◌≡◌, true, ℕ, ◌+◌, ◌*◌, ◌≤◌, ◌<◌}
-use Rattle.std.proofs.Math.Option.{none, some}
+use Rattle.std.specs.Prelude.{None, Some}
 use Rattle.flat.specs.Kind.{UnknownIntNeg, Struct, Field}
 use Rattle.flat.specs.Argument.{argument_fits, leaf_fits}
 use Rattle.flat.specs.Tree.{DataType, leaf, list, array, struct, Fields, empty, field, count, size, depth}
@@ -35,7 +35,7 @@ FieldsFit = Eachs (λ k a. leaf_fits k a ≡ true) (λ name. argument_fits Field
 -- an answer to valid types that is within the limits is a valid type
 abbrev pub AnswersValid : (nodes deep : ℕ) → Type 0
 AnswersValid nodes deep =
-    (o i : SuperTypeOptions) (l r t : DataType) → Ruled l → Ruled r → supertype_tree o i l r ≡ some t
+    (o i : SuperTypeOptions) (l r t : DataType) → Ruled l → Ruled r → supertype_tree o i l r ≡ Some t
     → size t ≤ nodes → depth t ≤ deep → IsType nodes deep t
 
 -- the union of fields, whatever the inner calls answer
@@ -49,8 +49,8 @@ pub record UnionLaws : Type 0 where
   pub by_names_lem : (c : TreeCall) (longest shortest : Fields)
       → union_fields c longest shortest ≡ by_names c longest shortest
   -- what stands under a name rests on the fields of that name alone
-  pub alone : (c : TreeCall) (longest shortest union : Fields) → union_fields c longest shortest ≡ some union
-      → (name : ℕ) → union_fields c (named name longest) (named name shortest) ≡ some (named name union)
+  pub alone : (c : TreeCall) (longest shortest union : Fields) → union_fields c longest shortest ≡ Some union
+      → (name : ℕ) → union_fields c (named name longest) (named name shortest) ≡ Some (named name union)
 
 pub record NestedLaws : Type 0 where
   -- the source's own recursion: the calls that its arms make are calls of the function itself, with the flags of inner
@@ -58,17 +58,17 @@ pub record NestedLaws : Type 0 where
   pub recursive : (o i : SuperTypeOptions) (l r : DataType)
       → supertype_tree o i l r ≡ supertype_tree_with (supertype_tree i i) o l r
   -- an answer has fewer nodes than both types together
-  pub smaller : (o i : SuperTypeOptions) (l r t : DataType) → supertype_tree o i l r ≡ some t
+  pub smaller : (o i : SuperTypeOptions) (l r t : DataType) → supertype_tree o i l r ≡ Some t
       → size t < size l + size r
   -- None does not depend on the order
-  pub none_symmetric : (o i : SuperTypeOptions) (l r : DataType) → supertype_tree o i l r ≡ none
-      → supertype_tree o i r l ≡ none
+  pub none_symmetric : (o i : SuperTypeOptions) (l r : DataType) → supertype_tree o i l r ≡ None
+      → supertype_tree o i r l ≡ None
   -- of two types that are not nested it is the supertype of the non-nested call, whatever the flags of inner calls
   pub leaves : (o i : SuperTypeOptions) (k a m b : ℕ) → k ≤ UnknownIntNeg → m ≤ UnknownIntNeg
       → supertype_tree o i (leaf k a) (leaf m b)
       ≡ tree_of (supertype o.allow_implode_list o.allow_primitive_to_string (node k a) (node m b))
   -- the leaves and the names of an answer follow their rules where those of both types do
-  pub fits : (o i : SuperTypeOptions) (l r t : DataType) → LeavesFit l → LeavesFit r → supertype_tree o i l r ≡ some t
+  pub fits : (o i : SuperTypeOptions) (l r t : DataType) → LeavesFit l → LeavesFit r → supertype_tree o i l r ≡ Some t
       → LeavesFit t
   -- so an answer within the limits is a valid type, where the limit of nodes lets no Struct have more fields than its
   -- rule does; the code's does not (src/limits.rt)

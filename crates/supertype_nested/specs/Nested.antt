@@ -1,14 +1,16 @@
 -- `get_supertype_with_options` of supertype.rs for all types: what each arm of its `inner` answers, then `or_else` the
 -- other way round. The arms stand in the source's order in crates/supertype_arms/specs/Supertype.antt. Assumes nothing:
 -- these are definitions.
+use Rattle.std.specs.Option.{option_or}
 use Rattle.std.specs.Prelude.{Bool, cond, ℕ, zero, suc, ◌+◌, leb, eqb}
-use Rattle.std.proofs.Math.Option.{Option, none, some}
+use Rattle.std.specs.Prelude.{Option, None, Some}
 use Rattle.flat.specs.Tree.{DataType, leaf, list, array, struct, Fields, empty, field, count, size, head_kind, head_arg}
 use Rattle.flat.specs.Reader.{map_o, bind_o}
 use Rattle.dtype.specs.Match.{if_leaf, if_struct, if_field}
 use Rattle.dtype.specs.Equality.{equal}
 use Rattle.dtype_inner.specs.Inner.{inner_dtype}
-use Rattle.supertype_answer.specs.Join.{Supertype, Some, Nothing, node, root_node, type_of}
+use Rattle.flat.specs.declared.Node.{Node}
+use Rattle.supertype_answer.specs.Join.{node, root_node, type_of}
 use Rattle.supertype_arms.specs.Supertype.{arms, choose, Call, run}
 use Rattle.supertype_arms.specs.Supertype.{TreePlan, left_type, right_type, roots}
 use Rattle.supertype_arms.specs.Supertype.{lists, arrays, implode_left, implode_right, first_field, structs, each_field}
@@ -39,19 +41,19 @@ from_iter map (field name t fs) = from_iter (insert name t map) fs
 
 -- `if &field.dtype != dtype_longest { *dtype_longest = get_supertype(&field.dtype, dtype_longest)? }`
 abbrev pub join_held : TreeCall → DataType → DataType → Option DataType
-join_held get_supertype t held = cond (equal t held) (some held) (get_supertype t held)
+join_held get_supertype t held = cond (equal t held) (Some held) (get_supertype t held)
 
 -- one turn of the loop over the shortest: `entry(&field.name).or_insert_with(..)`, where a new name's type is held as
 -- it is, then the join with what was held
 unfoldable pub enter : TreeCall → ℕ → DataType → Fields → Option Fields
-enter get_supertype name t empty = some (field name t empty)
+enter get_supertype name t empty = Some (field name t empty)
 enter get_supertype name t (field other u map) =
     cond (eqb other name) (map_o (λ st. field other st map) (join_held get_supertype t u))
     (map_o (field other u) (enter get_supertype name t map))
 
 -- `for field in shortest`
 unfoldable pub enter_all : TreeCall → Fields → Fields → Option Fields
-enter_all get_supertype map empty = some map
+enter_all get_supertype map empty = Some map
 enter_all get_supertype map (field name t fs) =
     bind_o (enter get_supertype name t map) (λ map. enter_all get_supertype map fs)
 
@@ -74,10 +76,10 @@ pub data Zip : Type 0 where
 
 -- the join of two fields of one name, then what the loop comes to behind them
 abbrev pub zip_on : ℕ → Option DataType → Zip → Zip
-zip_on name none rest = no_join
-zip_on name (some st) names_differ = names_differ
-zip_on name (some st) no_join = no_join
-zip_on name (some st) (joined fs) = joined (field name st fs)
+zip_on name None rest = no_join
+zip_on name (Some st) names_differ = names_differ
+zip_on name (Some st) no_join = no_join
+zip_on name (Some st) (joined fs) = joined (field name st fs)
 
 -- `for (a, b) in fields_a.iter().zip(fields_b)`
 unfoldable pub zip_fields : TreeCall → Fields → Fields → Zip
@@ -89,8 +91,8 @@ zip_fields get_supertype (field name t fs) (field other u gs) =
 -- the loop's answer, the union where names differ
 abbrev pub zip_end : Option DataType → Zip → Option DataType
 zip_end union names_differ = union
-zip_end union no_join = none
-zip_end union (joined fs) = some (struct fs)
+zip_end union no_join = None
+zip_end union (joined fs) = Some (struct fs)
 
 -- `super_type_structs`
 unfoldable pub super_type_structs : TreeCall → Fields → Fields → Option DataType
@@ -103,7 +105,7 @@ super_type_structs get_supertype fs gs =
 
 -- `for a in fields_a`: each field's join with the one type r
 unfoldable pub join_each : TreeCall → Fields → DataType → Option Fields
-join_each get_supertype empty r = some empty
+join_each get_supertype empty r = Some empty
 join_each get_supertype (field name t fs) r =
     bind_o (get_supertype t r) (λ st. map_o (field name st) (join_each get_supertype fs r))
 
@@ -112,14 +114,12 @@ abbrev pub of_widths : ℕ → ℕ → DataType → DataType
 of_widths w v t = cond (eqb w v) (array w t) (list t)
 
 -- what was found of two roots, as a type
-abbrev pub tree_of : Supertype → Option DataType
-tree_of (Some n) = some (type_of n)
-tree_of Nothing = none
+abbrev pub tree_of : Option Node → Option DataType
+tree_of = map_o type_of
 
 -- what was found, as a root: two types that are not nested have no nested one in common
-abbrev pub root_found : Option DataType → Supertype
-root_found (some t) = if_leaf Nothing (λ k a. Some (node k a)) t
-root_found none = Nothing
+abbrev pub root_found : Option DataType → Option Node
+root_found found = bind_o found (if_leaf None (λ k a. Some (node k a)))
 
 -- a call with two roots: the dyn arms make one with the left type and an integer type
 abbrev pub at_roots : TreeCall → Call
@@ -127,8 +127,8 @@ at_roots get_supertype l r = root_found (get_supertype (type_of l) (type_of r))
 
 -- what a plan answers for two types
 unfoldable pub run_tree : TreeCall → TreePlan → DataType → DataType → Option DataType
-run_tree get_supertype left_type l r = some l
-run_tree get_supertype right_type l r = some r
+run_tree get_supertype left_type l r = Some l
+run_tree get_supertype right_type l r = Some r
 run_tree get_supertype (roots p) l r = tree_of (run (at_roots get_supertype) p (root_node l) (root_node r))
 run_tree get_supertype lists l r =
     bind_o (inner_dtype l) (λ t. bind_o (inner_dtype r) (λ u. map_o list (get_supertype t u)))
@@ -137,10 +137,10 @@ run_tree get_supertype arrays l r =
     map_o (of_widths (head_arg l) (head_arg r)) (get_supertype t u)))
 run_tree get_supertype implode_left l r = bind_o (inner_dtype l) (λ t. map_o list (get_supertype t r))
 run_tree get_supertype implode_right l r = bind_o (inner_dtype r) (λ u. map_o list (get_supertype u l))
-run_tree get_supertype first_field l r = if_struct none (if_field none (λ name t fs. get_supertype t r)) l
-run_tree get_supertype structs l r = if_struct none (λ fs. if_struct none (super_type_structs get_supertype fs) r) l
+run_tree get_supertype first_field l r = if_struct None (if_field None (λ name t fs. get_supertype t r)) l
+run_tree get_supertype structs l r = if_struct None (λ fs. if_struct None (super_type_structs get_supertype fs) r) l
 run_tree get_supertype each_field l r =
-    if_struct none (λ fs. if_leaf none (λ k a. map_o struct (join_each get_supertype fs (leaf k a))) r) l
+    if_struct None (λ fs. if_leaf None (λ k a. map_o struct (join_each get_supertype fs (leaf k a))) r) l
 
 -- ---- the function
 
@@ -151,20 +151,15 @@ tree_plan o a b = choose (arms o.allow_implode_list o.allow_primitive_to_string)
 -- `inner`
 unfoldable pub inner_tree : TreeCall → SuperTypeOptions → DataType → DataType → Option DataType
 inner_tree get_supertype o l r =
-    cond (equal l r) (some l) (run_tree get_supertype (tree_plan o (head_kind l) (head_kind r)) l r)
-
--- `or_else`
-abbrev pub or_else_tree : Option DataType → Option DataType → Option DataType
-or_else_tree (some t) other = some t
-or_else_tree none other = other
+    cond (equal l r) (Some l) (run_tree get_supertype (tree_plan o (head_kind l) (head_kind r)) l r)
 
 unfoldable pub supertype_tree_with : TreeCall → SuperTypeOptions → TreeCall
-supertype_tree_with get_supertype o l r = or_else_tree (inner_tree get_supertype o l r) (inner_tree get_supertype o r l)
+supertype_tree_with get_supertype o l r = option_or (inner_tree get_supertype o l r) (inner_tree get_supertype o r l)
 
 -- `get_supertype`, with the flags i of inner calls and a bound n on how deep the calls go, which only serves to define
 -- it by recursion: the law `recursive` (specs/Laws.antt) is the function without it
 unfoldable pub get_supertype_in : ℕ → SuperTypeOptions → TreeCall
-get_supertype_in zero i l r = none
+get_supertype_in zero i l r = None
 get_supertype_in (suc n) i l r = supertype_tree_with (get_supertype_in n i) i l r
 
 -- `get_supertype_with_options`, with its own flags o and those of its inner calls i

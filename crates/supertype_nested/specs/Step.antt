@@ -1,12 +1,13 @@
 -- What the two tries of the source come to together: of a nested type with a leaf, and of two Structs with as many
 -- fields, over inner calls of which little is known. Assumes nothing: these are definitions.
+use Rattle.std.specs.Option.{option_or}
 use Rattle.std.specs.Prelude.{◌≡◌, Bool, true, false, cond, ◌&&◌, ◌||◌, List, [], ◌∷◌, ℕ, ◌<◌, eqb}
-use Rattle.std.proofs.Math.Option.{Option, none, some}
+use Rattle.std.specs.Prelude.{Option, None, Some}
 use Rattle.flat.specs.Kind as kind
 use Rattle.flat.specs.Tree.{DataType, leaf, Fields, empty, field}
 use Rattle.dtype.specs.Predicate.{is_unknown_int, is_primitive_numeric, is_unknown}
 use Rattle.dtype.specs.Equality.{equal}
-use Rattle.supertype_answer.specs.Join.{Node}
+use Rattle.flat.specs.declared.Node.{Node}
 use Rattle.supertype_arms.specs.Supertype.{Arm, arm, is, every, choose, TreePlan, left_type, roots, known_supertype}
 use Rattle.supertype_arms.specs.Supertype.{implode_left, implode_right, first_field, each_field}
 use Rattle.supertype_arms.specs.declared.plan.Plan.TheVariants.{No, Kind}
@@ -18,11 +19,11 @@ use Rattle.supertype_nested.specs.Union.{seen}
 -- What the laws ask of them, which holds of the function itself.
 pub record Fair (c : TreeCall) : Type 0 where
   -- of equal types it is the left one
-  pub same : (l r : DataType) → equal l r ≡ true → c l r ≡ some l
+  pub same : (l r : DataType) → equal l r ≡ true → c l r ≡ Some l
   -- None does not depend on the order
-  pub turn : (l r : DataType) → c l r ≡ none → c r l ≡ none
+  pub turn : (l r : DataType) → c l r ≡ None → c r l ≡ None
   -- of a type with Null on the right it is the type
-  pub null : (t : DataType) (a : ℕ) → c t (leaf kind.Null a) ≡ some t
+  pub null : (t : DataType) (a : ℕ) → c t (leaf kind.Null a) ≡ Some t
   -- of two types as the arms of dyn ints hand on it is the supertype of the non-nested call
   pub known : (l r : Node) → l.kind < kind.Decimal → r.kind < kind.Decimal → known_supertype l r ≡ at_roots c l r
 
@@ -49,16 +50,11 @@ plan_before implode n = cond (is kind.List n && implode) implode_right (roots No
 
 -- ---- two Structs with as many fields
 
--- the fields of one order, else those of the other
-abbrev pub or_else_fields : Option Fields → Option Fields → Option Fields
-or_else_fields (some fs) other = some fs
-or_else_fields none other = other
-
 -- what the loop over the fields of both comes to in both tries, by the unions of either order
 abbrev pub zip_either : Option Fields → Option Fields → Zip → Option Fields
-zip_either p q names_differ = or_else_fields p q
-zip_either p q no_join = none
-zip_either p q (joined fs) = some fs
+zip_either p q names_differ = option_or p q
+zip_either p q no_join = None
+zip_either p q (joined fs) = Some fs
 
 -- the names of both are the same at each place
 unfoldable pub in_place : Fields → Fields → Bool

@@ -1,6 +1,6 @@
 -- The union of fields name by name: what `union_fields` comes to. Assumes nothing: these are definitions.
 use Rattle.std.specs.Prelude.{Bool, false, cond, ◌||◌, List, [], ◌∷◌, ℕ, eqb}
-use Rattle.std.proofs.Math.Option.{Option, some}
+use Rattle.std.specs.Prelude.{Option, Some}
 use Rattle.flat.specs.Tree.{DataType, Fields, empty, field, append}
 use Rattle.flat.specs.Reader.{map_o, bind_o}
 use Rattle.supertype_nested.specs.Nested.{TreeCall, join_held}
@@ -17,7 +17,7 @@ last_or name t (field other u fs) = cond (eqb name other) (last_or name u fs) (l
 
 -- a held type with the fields of its name, one after the other: each result is held for the next
 unfoldable pub join_named : TreeCall → ℕ → DataType → Fields → Option DataType
-join_named get_supertype name held empty = some held
+join_named get_supertype name held empty = Some held
 join_named get_supertype name held (field other t fs) =
     cond (eqb name other) (bind_o (join_held get_supertype t held) (λ st. join_named get_supertype name st fs))
     (join_named get_supertype name held fs)
@@ -40,7 +40,7 @@ outside ns (field name t fs) = cond (seen ns name) (outside ns fs) (field name t
 -- of the longest: each name at its first place with its last type, joined with the shortest's fields of that name; ns
 -- are the names before
 unfoldable pub old_names : TreeCall → Fields → List ℕ → Fields → Option Fields
-old_names get_supertype shortest ns empty = some empty
+old_names get_supertype shortest ns empty = Some empty
 old_names get_supertype shortest ns (field name t fs) =
     cond (seen ns name) (old_names get_supertype shortest (name ∷ ns) fs)
     (bind_o (join_named get_supertype name (last_or name t fs) shortest)
@@ -49,7 +49,7 @@ old_names get_supertype shortest ns (field name t fs) =
 -- of the shortest: each new name at its first place with its first type, joined with its later fields of that name; ns
 -- are the names before, those of the longest among them
 unfoldable pub new_names : TreeCall → List ℕ → Fields → Option Fields
-new_names get_supertype ns empty = some empty
+new_names get_supertype ns empty = Some empty
 new_names get_supertype ns (field name t gs) =
     cond (seen ns name) (new_names get_supertype (name ∷ ns) gs)
     (bind_o (join_named get_supertype name t gs) (λ st. map_o (field name st) (new_names get_supertype (name ∷ ns) gs)))

@@ -1,6 +1,6 @@
 -- The fixed table of the integer types: the row of each, and what comparing two of them tells. Assumes nothing.
-use mathlib.Core.Path.{◌≡◌, sym, ap, ap₂, ◌∙◌}
-use mathlib.Core.Bool.{Bool, true, false, cond}
+use mathlib.Core.Path.{◌≡◌, refl, sym, ap, ap₂, ◌∙◌}
+use mathlib.Core.Bool.{Bool, true, false, not, ◌&&◌, ◌||◌}
 use mathlib.Core.Logic.{◌↔◌}
 use mathlib.Core.List.{List, [], ◌∷◌}
 use Prim.Native.Nat.{ℕ, zero, suc, ◌+◌, ◌-◌, ◌≤◌, ◌<◌}
@@ -11,13 +11,11 @@ use lib.ListN.{get_or}
 use Rattle.flat.specs.Kind
 use Rattle.flat.proofs.Truths.{is_true, to_T}
 use Rattle.dtype.specs.Match.{among}
-use Rattle.dtype.specs.Predicate.{is_signed_integer}
-use Rattle.dtype.proofs.Runs.{same, are_same}
 use Rattle.supertype_numbers.specs.declared.integer.IntegerType.{IntegerType}
 use Rattle.supertype_numbers.specs.Integer.{width_of, bits, bits_of}
 use Rattle.supertype_numbers.specs.Range.{Listed, Includes}
 use Rattle.supertype_numbers.specs.Table.{row_of}
-use Rattle.supertype_numbers.proofs.Tests.{at, at_pair}
+use Rattle.supertype_numbers.proofs.Tests.{at}
 use Rattle.supertype_numbers.proofs.Ranges.{inside, includes}
 
 -- the rows of the n kinds from lo on
@@ -36,16 +34,16 @@ row_from lo (suc n) k d l h = go (dec_eq k lo) (λ m. row_from (suc lo) n k d m 
 pub row_at : (k : ℕ) → Listed k → get_or (rows_from Kind.UInt8 10) (k - Kind.UInt8) (record { width = 0; signed = false }) ≡ row_of k
 row_at k l = row_from Kind.UInt8 10 k _ l.0 (omega arith)
 
--- what the code compares: the signs of two rows, then their widths
-abbrev pub compared : IntegerType → IntegerType → Bool
-compared a b =
-    cond a.signed
-    (cond b.signed (leb b.width a.width) (ltb b.width a.width))
-    (cond b.signed false (leb b.width a.width))
+-- what the code compares: the signs of two rows, then the bits beside them
+abbrev pub signs : IntegerType → IntegerType → Bool
+signs a b = a.signed || not b.signed
 
-compared_inside : (t k : ℕ) → Listed t → Listed k → compared (row_of t) (row_of k) ≡ inside t k
-unfolding row_of is_signed_integer among
-compared_inside t k p q = are_same _ _ (at_pair (λ t k. same (compared (row_of t) (row_of k)) (inside t k)) tt t k p q)
+abbrev pub compared : IntegerType → IntegerType → Bool
+compared a b = signs a b && leb (bits b.signed b.width) (bits a.signed a.width)
+
+compared_inside : (t k : ℕ) → compared (row_of t) (row_of k) ≡ inside t k
+unfolding row_of
+compared_inside t k = refl
 
 -- two listed kinds, and their rows
 pub record TwoRows : Type 0 where
@@ -61,8 +59,17 @@ pub record TwoRows : Type 0 where
 pub told : (p : TwoRows) {r : Bool} → r ≡ compared p.a p.b → (r ≡ true) ↔ Includes p.t p.k
 told p {r} e =
     let i = includes p.t p.k p.listed.0 p.listed.1 in
-    let h : r ≡ inside p.t p.k = e ∙ ap₂ compared p.left p.right ∙ compared_inside p.t p.k p.listed.0 p.listed.1 in
+    let h : r ≡ inside p.t p.k = e ∙ ap₂ compared p.left p.right ∙ compared_inside p.t p.k in
     ((λ y. i.1 (to_T (sym h ∙ y))), (λ n. h ∙ is_true (inside p.t p.k) (i.0 n)))
+
+-- by the signs alone, where they don't fit, else by the bits
+module _ (p : TwoRows) {s : Bool} (is : s ≡ signs p.a p.b) where
+  pub signs_told : s ≡ false → (s ≡ true) ↔ Includes p.t p.k
+  signs_told e = told p (e ∙ ap (λ (x : Bool). x && leb (bits p.b.signed p.b.width) (bits p.a.signed p.a.width)) (sym e ∙ is))
+
+  pub bits_told : s ≡ true → {m n : ℕ} → m ≡ bits p.b.signed p.b.width → n ≡ bits p.a.signed p.a.width
+      → (leb m n ≡ true) ↔ Includes p.t p.k
+  bits_told e {m} {n} f g = told p (ap₂ leb f g ∙ ap (λ (x : Bool). x && leb (bits p.b.signed p.b.width) (bits p.a.signed p.a.width)) (sym e ∙ is))
 
 -- ---- the bits beside the sign
 
@@ -71,6 +78,6 @@ module _ {k : ℕ} {row : IntegerType} (l : Listed k) (e : row ≡ row_of k) whe
   unfolding row_of among
   not_zero = rw e (ltb→lt 0 (width_of k) (at (λ n. ltb 0 (width_of n)) tt k l))
 
-  pub bits_of_lem : {s : Bool} → row.signed ≡ s → bits s row.width ≡ bits_of k
+  pub bits_of_lem : bits row.signed row.width ≡ bits_of k
   unfolding row_of
-  bits_of_lem {s} h = ap₂ bits (sym h ∙ ap (λ (r : IntegerType). r.signed) e) (ap (λ (r : IntegerType). r.width) e)
+  bits_of_lem = ap (λ (r : IntegerType). bits r.signed r.width) e

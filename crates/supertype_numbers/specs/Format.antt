@@ -1,6 +1,6 @@
 -- The float formats of IEEE 754-2019 and the numbers that each has. Assumes nothing: these are definitions.
 use Rattle.std.specs.Prelude.{◌≡◌, cond, ℕ, suc, ◌+◌, ◌-◌, ◌*◌, ◌^◌, ◌≤◌, ◌<◌, eqb, ℤ, pos, negsuc, neg_ℤ, ◌≤ℤ◌}
-use Rattle.std.proofs.Math.Option.{Option, none, some}
+use Rattle.std.specs.Prelude.{Option, None, Some}
 use Rattle.flat.specs.Kind
 
 -- a binary format: the bits of its significand, and its largest exponent
@@ -24,10 +24,10 @@ binary64 = format 53 1023
 -- the format of a float type
 unfoldable pub format_of : ℕ → Option Format
 format_of k =
-    cond (eqb k Kind.Float16) (some binary16)
-    (cond (eqb k Kind.Float32) (some binary32)
-    (cond (eqb k Kind.Float64) (some binary64)
-    none))
+    cond (eqb k Kind.Float16) (Some binary16)
+    (cond (eqb k Kind.Float32) (Some binary32)
+    (cond (eqb k Kind.Float64) (Some binary64)
+    None))
 
 -- m × 2 ^ q, with either sign, is a finite number of the format (section 3.3): q runs from emin − (p − 1) to
 -- emax − (p − 1), where emin is 1 − emax
@@ -57,7 +57,7 @@ pub record WholeIn (f : Format) (z : ℤ) : Type 0 where
 -- significand, whose first bit is not stored; the largest exponent is that of w bits
 pub record Interchange (kind k w : ℕ) : Type 0 where
   pub its : Format
-  pub is : format_of kind ≡ some its
+  pub is : format_of kind ≡ Some its
   pub bits : k ≡ 1 + w + (its.precision - 1)
   pub most : its.emax ≡ 2 ^ (w - 1) - 1
 

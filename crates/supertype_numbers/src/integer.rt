@@ -1,7 +1,7 @@
 // The ten integer types, document 01's listed ones: their widths and signs in one fixed table, and whether one holds
 // all numbers of another.
-ghost use Rattle.std.specs.Prelude.{◌≡◌, true, ◌↔◌};
-ghost use Rattle.supertype_numbers.specs.Integer.{bits_of};
+ghost use Rattle.std.specs.Prelude.{◌≡◌, true, ◌↔◌, ◌<◌};
+ghost use Rattle.supertype_numbers.specs.Integer.{bits};
 ghost use Rattle.supertype_numbers.specs.Range.{Listed, is_listed, Includes};
 ghost use Rattle.supertype_numbers.specs.Table.{row_of};
 ghost use Rattle.supertype_numbers.specs.Decimal.{digits_of};
@@ -9,13 +9,13 @@ ghost use Rattle.supertype_numbers.specs.Decimal.{digits_of};
 use flat::kind::Kind;
 
 // A row of the table: the width in bits, and whether the type has a sign.
-#[derive(Clone, Copy)]
+#[derive(Clone, Copy, Debug, PartialEq, Eq)]
 pub struct IntegerType {
     pub width: u8,
     pub signed: bool,
 }
 
-// The rows from UInt8 on, in the order of the kinds.
+// The rows from UInt8 on, in the order of the kinds: document 01 asks for one fixed table.
 const INTEGERS: [IntegerType; 10] = [
     IntegerType {
         width: 8, // UInt8
@@ -60,13 +60,11 @@ const INTEGERS: [IntegerType; 10] = [
 ];
 
 // Whether a kind is a listed integer type.
+#[tactic(auto, unfolding(crate::specs::Range::is_listed))]
 pub fn is_listed(kind: u8) -> bool
     ensures { result ≡ is_listed kind }
 {
-    match kind {
-        Kind::UINT8..=Kind::INT128 => true,
-        _ => false,
-    }
+    matches!(kind, Kind::UINT8..=Kind::INT128)
 }
 
 // The row of a listed kind.
@@ -74,20 +72,16 @@ pub fn integer(k: u8) -> IntegerType
     requires { Listed k }
     ensures { result ≡ row_of k }
 {
-    let at = (k - Kind::UINT8) as usize;
-    INTEGERS[at]
+    INTEGERS[(k - Kind::UINT8) as usize]
 }
 
-// The bits of a listed kind's numbers beside their sign.
-fn bits(k: u8) -> u64
-    requires { Listed k }
-    ensures { result ≡ bits_of k }
-{
-    let t = integer(k);
-    if t.signed {
-        t.width as u64 - 1
-    } else {
-        t.width as u64
+impl IntegerType {
+    // The bits of its numbers beside their sign.
+    fn bits(self) -> u64
+        requires { 0 < self.width }
+        ensures { result ≡ bits self.signed self.width }
+    {
+        self.width as u64 - self.signed as u64
     }
 }
 
@@ -96,7 +90,7 @@ pub fn digits(k: u8) -> u64
     requires { Listed k }
     ensures { result ≡ digits_of k }
 {
-    3 * bits(k) / 10 + 1
+    3 * integer(k).bits() / 10 + 1
 }
 
 // Whether every number of the kind k is one of the kind t.
@@ -106,14 +100,5 @@ pub fn includes(t: u8, k: u8) -> bool
 {
     let a = integer(t);
     let b = integer(k);
-    if a.signed {
-        if b.signed {
-            return b.width <= a.width;
-        }
-        return b.width < a.width;
-    }
-    if b.signed {
-        return false;
-    }
-    b.width <= a.width
+    (a.signed || !b.signed) && b.bits() <= a.bits()
 }

@@ -1,7 +1,7 @@
 -- The first fields of a run and the rest: what a loop over a run has behind it and before it. Assumes nothing.
 use mathlib.Core.Path.{◌≡◌, refl, sym, ap, ap₂, ◌∙◌, subst}
 use mathlib.Core.List.{List}
-use mathlib.Core.Option.{some}
+use Rattle.std.specs.Prelude.{Some}
 use Prim.Native.Nat.{ℕ, ◌+◌, ◌-◌, ◌≤◌}
 use native.Mathlib.Omega.{arith}
 use lib.ListN.{length, get_or, drop}
@@ -64,7 +64,7 @@ no_fields at {ks} {xs} e h g =
 -- j fields and k fields behind them
 module _ {j k at : ℕ} {ks xs : List ℕ} (v : RunIn j at ks xs) (w : RunIn k (at + sizes (run_in j at ks xs)) ks xs) where
   both_read : fields_at (j + k) (from at ks) (from at xs)
-      ≡ some (append (run_in j at ks xs) (run_in k (at + sizes (run_in j at ks xs)) ks xs))
+      ≡ Some (append (run_in j at ks xs) (run_in k (at + sizes (run_in j at ks xs)) ks xs))
   unfolding run_in
   both_read =
       joined_run j k (from at ks) (from at xs) _ _ v.valid.read
@@ -103,9 +103,9 @@ module _ {m at : ℕ} {ks xs : List ℕ} (v : RunIn m at ks xs) (p : m ≡ 0 →
   abbrev alone : Fields
   alone = field (get_or xs at 0) (type_in (at + 1) ks xs) empty
 
-  first_read : fields_at 1 (from at ks) (from at xs) ≡ some alone
+  first_read : fields_at 1 (from at ks) (from at xs) ≡ Some alone
   unfolding run_in
-  first_read = one_read m (from at ks) (from at xs) _ _ _ (v.valid.read ∙ ap some (run_is_field v p))
+  first_read = one_read m (from at ks) (from at xs) _ _ _ (v.valid.read ∙ ap Some (run_is_field v p))
 
   pub first_field_lem : run_in 1 at ks xs ≡ alone
   unfolding run_in
@@ -140,6 +140,11 @@ pub record Along (m at : ℕ) (ks xs : List ℕ) (here left : ℕ) : Type 0 wher
   pub others : RunIn left here ks xs
   pub place : here ≡ at + sizes (run_in (m - left) at ks xs)
   pub parts : run_in m at ks xs ≡ append (run_in (m - left) at ks xs) (run_in left here ks xs)
+
+-- the fields before, by their number
+pub along_done : {m at : ℕ} {ks xs : List ℕ} {here left done : ℕ} → Along m at ks xs here left → done ≡ m - left
+    → RunIn done at ks xs
+along_done {at = at} {ks = ks} {xs = xs} a e = subst (λ (i : ℕ). RunIn i at ks xs) (sym e) a.done
 
 -- all fields are to go
 pub along_start : {m at : ℕ} {ks xs : List ℕ} → RunIn m at ks xs → Along m at ks xs at m

@@ -2,16 +2,15 @@
 use mathlib.Core.Path.{◌≡◌, refl, sym, ap, ap₂, ◌∙◌, subst}
 use mathlib.Core.Bool.{Bool}
 use mathlib.Core.List.{List, [], ◌∷◌, ◌++◌}
-use mathlib.Core.Option.{Option, some}
+use Rattle.std.specs.Prelude.{Option, None, Some}
 use Prim.Native.Nat.{ℕ, suc, ◌+◌, ◌-◌, ◌≤◌, ◌<◌}
 use native.Mathlib.Omega.{arith}
-use lib.ListN.{length, get_or, take, drop, set}
+use lib.ListN.{length, get_or, take, drop}
 use lib.Seq.{take_at}
 use Rattle.flat.specs.Kind as kind
 use Rattle.flat.specs.Tree.{DataType, leaf, empty, field, count, size, sizes, kinds_of, args_of}
 use Rattle.flat.specs.Walk.{Valid, type_at, run_at}
 use Rattle.flat.specs.Span.{span_within}
-use Rattle.flat.specs.declared.span.Span.TheVariants.{Ends, TooDeep}
 use Rattle.flat.proofs.Sizes.{length_kinds, length_args, depth_lt}
 use Rattle.flat.proofs.ReadBack.{Good, Sound, sound, count_is}
 use Rattle.flat.proofs.Positions.{rest}
@@ -22,10 +21,8 @@ use Rattle.dtype.specs.Equality.{equal}
 use Rattle.dtype_eq.specs.Nodes.{starts_with}
 use Rattle.dtype_eq.proofs.Scans.{starts_type}
 use Rattle.supertype_nested.specs.Laws.{Each, LeavesFit, FieldsFit}
-use Rattle.supertype_place.specs.declared.node.Joined.{Joined}
-use Rattle.supertype_place.specs.declared.node.Filled.{Filled}
 use Rattle.supertype_place.specs.Place.{from, type_in, run_in, most_nodes, TypeIn, RunIn}
-use Rattle.supertype_place.specs.Written.{Wrote, type_nodes, Joins, ClosedOf, FitsAfter}
+use Rattle.supertype_place.specs.Written.{Wrote, type_nodes, Joins}
 
 -- ---- a type
 
@@ -49,7 +46,7 @@ type_of_lem at ks xs e m v f =
     }
 
 -- what was read at the front of two arrays stands there
-pub front : (ks xs : List ℕ) → Valid ks xs → Sound ks xs (some (type_at ks xs))
+pub front : (ks xs : List ℕ) → Valid ks xs → Sound ks xs (Some (type_at ks xs))
 front ks xs v = subst (λ (q : Option DataType). Sound ks xs q) v.read (sound ks xs)
 
 module _ {at : ℕ} {ks xs : List ℕ} (v : TypeIn at ks xs) where
@@ -85,26 +82,29 @@ module _ {at : ℕ} {ks xs : List ℕ} (v : TypeIn at ks xs) where
   unfolding type_in size
   leaf_one h = ap size (type_leaf (from at ks) (from at xs) v.valid (rw (from_first at ks) h))
 
-  -- what the walk over its nodes answers
-  pub span_nodes : {n : ℕ} → Ends n ≡ span_within (length ks) (type_at (from at ks) (from at xs))
-      → n ≡ size (type_in at ks xs)
+  -- what the walk over its nodes answers: it is no deeper than the nodes are many
+  pub span_is : span_within (length ks) (type_at (from at ks) (from at xs)) ≡ Some (size (type_in at ks xs))
   unfolding type_in
-  span_nodes {n} e = (type_ended (length ks) (type_at (from at ks) (from at xs)) n e).0
+  span_is = go _ refl
+    where
+      t : DataType
+      t = type_at (from at ks) (from at xs)
 
-  -- it is no deeper than the nodes are many
-  pub span_ends : TooDeep ≡ span_within (length ks) (type_at (from at ks) (from at xs)) → ⊥
-  unfolding type_in
-  span_ends e =
-      let t : DataType = type_at (from at ks) (from at xs) in
-      omega (arith, type_deeper (length ks) t e, depth_lt t, v.kinds)
+      go : (r : Option ℕ) → r ≡ span_within (length ks) t → span_within (length ks) t ≡ Some (size t)
+      go None e = absurd (omega (arith, type_deeper (length ks) t e, depth_lt t, v.kinds))
+      go (Some n) e = sym e ∙ ap Some (type_ended (length ks) t n e).0
+
+  pub span_nodes : {r : Option ℕ} {n : ℕ} → r ≡ span_within (length ks) (type_at (from at ks) (from at xs)) → r ≡ Some n
+      → n ≡ size (type_in at ks xs)
+  span_nodes e h = let k = sym h ∙ e ∙ span_is in cc
 
   -- copied whole
   pub copied : (n to : ℕ) (K A K' A' : List ℕ) → n ≡ size (type_in at ks xs)
       → Wrote to n (take n (drop at ks)) (take n (drop at xs)) K A K' A'
-      → Joins type_nodes (some (type_in at ks xs)) to K A K' A' (Joined.Nodes n)
+      → Joins type_nodes (Some (type_in at ks xs)) to K A K' A' (Some n)
   copied n to K A K' A' e w =
       record {
-        answers = ap Joined.Nodes e;
+        answers = ap Some e;
         wrote = record {
           kinds = ap (λ (i : ℕ). take (to + i) K') (sym e) ∙ w.kinds
               ∙ ap (λ (l : List ℕ). take to K ++ l) (ap (λ (i : ℕ). take i (drop at ks)) e ∙ kinds_at);
@@ -129,7 +129,7 @@ same_types {at} {by} {ks} {xs} {ls} {ys} v w end e h =
 
 -- a leaf, written
 pub leaf_joins : {to k a : ℕ} {K A K' A' : List ℕ} → Wrote to 1 (k ∷ []) (a ∷ []) K A K' A'
-    → Joins type_nodes (some (leaf k a)) to K A K' A' (Joined.Nodes 1)
+    → Joins type_nodes (Some (leaf k a)) to K A K' A' (Some 1)
 unfolding size kinds_of args_of
 leaf_joins w = record { answers = refl; wrote = w }
 
@@ -193,27 +193,3 @@ pub run_count : {m at : ℕ} {ks xs : List ℕ} → RunIn m at ks xs → count (
 unfolding run_in
 run_count {m} {at} {ks} {xs} v =
     count_is m (from at ks) (from at xs) (run_at m (from at ks) (from at xs)) v.valid.read
-
--- ---- a Struct's node before its fields
-
--- where the fields are written
-pub closed_fields : (f : Filled) (n s to : ℕ) (K A : List ℕ) → f ≡ Filled.Fields n s
-    → ClosedOf f to K A (set K to kind.Struct) (set A to n) (Joined.Nodes (s + 1))
-closed_fields f n s to K A e =
-    subst (λ (g : Filled). ClosedOf g to K A (set K to kind.Struct) (set A to n) (Joined.Nodes (s + 1))) (sym e)
-    (refl, refl, refl)
-
--- where there are none
-pub closed_apart : (f : Filled) (to : ℕ) (K A : List ℕ) → f ≡ Filled.Apart → ClosedOf f to K A K A Joined.Nothing
-closed_apart f to K A e =
-    subst (λ (g : Filled). ClosedOf g to K A K A Joined.Nothing) (sym e) (refl, refl, refl)
-
-pub closed_nothing : (f : Filled) (to : ℕ) (K A : List ℕ) → f ≡ Filled.Nothing
-    → ClosedOf f to K A K A Joined.Nothing
-closed_nothing f to K A e =
-    subst (λ (g : Filled). ClosedOf g to K A K A Joined.Nothing) (sym e) (refl, refl, refl)
-
--- there is room for the node
-pub fits_after : (f : Filled) (n s to : ℕ) (K : List ℕ) → f ≡ Filled.Fields n s → FitsAfter f to K
-    → to + s < length K
-fits_after f n s to K e h = subst (λ (g : Filled). FitsAfter g to K) e h

@@ -3,6 +3,7 @@
 use mathlib.Core.Path.{◌≡◌, refl, sym, ap, ◌∙◌}
 use mathlib.Core.Bool.{Bool, true, false, cond, ◌||◌, or-false}
 use mathlib.Core.List.{List, [], ◌∷◌}
+use Rattle.std.specs.Prelude.{Option, None, Some, is_some, OnSome}
 use Prim.Native.Nat.{ℕ}
 use lib.Dec.{eqb}
 use Rattle.flat.specs.Tree.{DataType, Fields, empty, field, append}
@@ -12,6 +13,11 @@ use Rattle.supertype_nested.specs.Union.{named, last_or, seen, with_names}
 use Rattle.supertype_nested.proofs.Plain.{Missing, Distinct, none_of, distinct}
 use Rattle.supertype_place.specs.Names.{Once}
 use Rattle.supertype_place.proofs.Seeks.{has_yes, has_no}
+
+-- what holds where there is something, which there is
+pub if_given : {T P : Type 0} (o : Option T) → true ≡ is_some o → OnSome o P → P
+if_given None e h = never (sym e)
+if_given (Some x) e h = h
 
 -- ---- of fields and others behind them
 

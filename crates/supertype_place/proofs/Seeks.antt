@@ -2,6 +2,7 @@
 use mathlib.Core.Path.{◌≡◌, refl, sym, ap, ap₂, ◌∙◌, subst}
 use mathlib.Core.Bool.{Bool, true, false, cond, ◌||◌}
 use mathlib.Core.List.{List, [], ◌∷◌}
+use Rattle.std.specs.Prelude.{Option, None, Some, is_some}
 use Prim.Native.Nat.{ℕ, ◌+◌, ◌-◌}
 use lib.Dec.{eqb}
 use lib.ListN.{get_or}
@@ -11,7 +12,6 @@ use Rattle.supertype_nested.specs.Step.{in_place}
 use Rattle.supertype_nested.specs.Union.{named, last_or, seen, with_names}
 use Rattle.supertype_nested.proofs.Union.{turned_true, turned_false}
 use Rattle.supertype_place.specs.declared.run.Located.{Located}
-use Rattle.supertype_place.specs.declared.run.Located.TheVariants.{At, Missing}
 use Rattle.supertype_place.specs.Place.{TypeIn, type_in, RunIn, run_in}
 use Rattle.supertype_place.specs.Names.{FoundIn, LocatedIn}
 use Rattle.supertype_place.proofs.Places.{field_in, others_in, run_is_field, run_none}
@@ -77,18 +77,18 @@ seen_more name (field other t fs) ns e = seen_more name fs (other ∷ ns) (go (e
     go false = e
 
 -- some fields
-abbrev Some : Fields → Type 0
-Some empty = ⊥
-Some (field name t fs) = Unit {0}
+abbrev Any : Fields → Type 0
+Any empty = ⊥
+Any (field name t fs) = Unit {0}
 
 -- a name that a field has is seen
-pub has_yes : (name : ℕ) (fs : Fields) (ns : List ℕ) → Some (named name fs) → seen (with_names fs ns) name ≡ true
+pub has_yes : (name : ℕ) (fs : Fields) (ns : List ℕ) → Any (named name fs) → seen (with_names fs ns) name ≡ true
 unfolding named seen with_names
 has_yes name empty ns e = absurd e
 has_yes name (field other t fs) ns e = go (eqb name other) refl e (λ h. has_yes name fs (other ∷ ns) h)
   where
-    go : (b : Bool) → eqb name other ≡ b → Some (cond b (field other t (named name fs)) (named name fs))
-        → (Some (named name fs) → seen (with_names fs (other ∷ ns)) name ≡ true)
+    go : (b : Bool) → eqb name other ≡ b → Any (cond b (field other t (named name fs)) (named name fs))
+        → (Any (named name fs) → seen (with_names fs (other ∷ ns)) name ≡ true)
         → seen (with_names fs (other ∷ ns)) name ≡ true
     go true p h r =
         seen_more name fs (other ∷ ns) (ap (λ (b : Bool). b || seen ns name) (turned_true name other p))
@@ -104,19 +104,15 @@ has_no name (field other t fs) ns e = go (eqb name other) refl e (has_no name fs
     go : (b : Bool) → eqb name other ≡ b → cond b (field other t (named name fs)) (named name fs) ≡ empty
         → (named name fs ≡ empty → seen (with_names fs (other ∷ ns)) name ≡ (eqb other name || seen ns name))
         → seen (with_names fs (other ∷ ns)) name ≡ seen ns name
-    go true p h r = absurd (subst Some h tt)
+    go true p h r = absurd (subst Any h tt)
     go false p h r = r h ∙ ap (λ (b : Bool). b || seen ns name) (turned_false name other p)
 
 -- what the search for a name says of the names
-pub found_seen : (name : ℕ) (fs : Fields) (ks xs : List ℕ) (r : Located) (p left : ℕ) → LocatedIn name fs ks xs r
-    → r ≡ At p left → true ≡ seen (with_names fs []) name
-found_seen name fs ks xs r p left h e =
-    sym (has_yes name fs [] (subst Some (sym (subst (LocatedIn name fs ks xs) e h).found) tt))
-
-pub missing_seen : (name : ℕ) (fs : Fields) (ks xs : List ℕ) (r : Located) → LocatedIn name fs ks xs r → r ≡ Missing
-    → false ≡ seen (with_names fs []) name
+pub located_seen : (name : ℕ) (fs : Fields) (ks xs : List ℕ) (r : Option Located) → LocatedIn name fs ks xs r
+    → is_some r ≡ seen (with_names fs []) name
 unfolding seen
-missing_seen name fs ks xs r h e = sym (has_no name fs [] (subst (LocatedIn name fs ks xs) e h))
+located_seen name fs ks xs None h = sym (has_no name fs [] h)
+located_seen name fs ks xs (Some l) h = sym (has_yes name fs [] (subst Any (sym h.found) tt))
 
 -- ---- the last type of a name
 

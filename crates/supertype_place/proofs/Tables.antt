@@ -2,6 +2,7 @@
 use mathlib.Core.Path.{◌≡◌, refl, sym, ap, ap₂, ◌∙◌, subst}
 use mathlib.Core.Bool.{Bool, true, false, not, ◌||◌}
 use mathlib.Core.List.{List, []}
+use Rattle.std.specs.Prelude.{Option, None, Some, option_map, OnSome}
 use mathlib.Core.Logic.{◌⊎◌, inl, inr}
 use Prim.Native.Nat.{ℕ, zero, suc, ◌+◌, ◌-◌, ◌%◌}
 use native.Mathlib.Omega.{arith}
@@ -151,15 +152,16 @@ enter_start {m} {at} {ks} {xs} v e =
     }
 
 module _ {m at : ℕ} {ks xs table : List ℕ} {here left : ℕ} (g : Entering m at ks xs table here left) where
-  -- it keeps its length
-  pub enter_length : (l : List ℕ) → l ≡ replicate slots 0 → length table ≡ length l
-  enter_length l e = g.entered.size ∙ sym (ap length e ∙ length-replicate {A = ℕ} slots 0)
-
   -- no name was repeated
-  pub enter_end : left ≡ 0 → (true ≡ not (repeats [] (run_in m at ks xs))) × TableOf true (run_in m at ks xs) ks xs table
+  pub enter_end : left ≡ 0 → (true ≡ not (repeats [] (run_in m at ks xs))) × Table (run_in m at ks xs) ks xs table
   enter_end z =
       let T = subst (λ (fs : Fields). Table fs ks xs table) (along_end g.along z) g.entered in
-      (ap not (sym T.distinct), λ e. T)
+      (ap not (sym T.distinct), T)
+
+  -- the names before, by their number
+  before_as : {done : ℕ} → done ≡ m - left → (name : ℕ)
+      → seen (with_names (run_in done at ks xs) []) name ≡ seen (with_names (run_in (m - left) at ks xs) []) name
+  before_as d name = ap (λ (i : ℕ). seen (with_names (run_in i at ks xs) []) name) d
 
   module _ (p : left ≡ 0 → ⊥) where
     -- the type of the next field
@@ -167,13 +169,16 @@ module _ {m at : ℕ} {ks xs table : List ℕ} {here left : ℕ} (g : Entering m
     enter_field = field_in g.along.others p
 
     -- a field before has the name
-    pub enter_again : {r : Bool} → r ≡ seen (with_names (run_in (m - left) at ks xs) []) (get_or xs here 0) → r ≡ true
-        → (false ≡ not (repeats [] (run_in m at ks xs))) × TableOf false (run_in m at ks xs) ks xs table
-    enter_again e h = (go (repeats [] (run_in m at ks xs)) refl, λ q. never q)
+    pub enter_again : {done : ℕ} → done ≡ m - left → {r : Bool}
+        → r ≡ seen (with_names (run_in done at ks xs) []) (get_or xs here 0) → r ≡ true
+        → false ≡ not (repeats [] (run_in m at ks xs))
+    enter_again d e h = go (repeats [] (run_in m at ks xs)) refl
       where
         go : (b : Bool) → repeats [] (run_in m at ks xs) ≡ b → false ≡ not b
         go true q = refl
-        go false q = never (sym (sym h ∙ e ∙ once_new _ _ _ _ (ap (repeats []) (sym (along_parts g.along p)) ∙ q)))
+        go false q =
+            never (sym (sym h ∙ e ∙ before_as d (get_or xs here 0)
+            ∙ once_new _ _ _ _ (ap (repeats []) (sym (along_parts g.along p)) ∙ q)))
 
     module _ (past : ℕ) (q : past ≡ here + 1 + tree.size (type_in (here + 1) ks xs)) where
       -- the next field is entered
@@ -193,12 +198,19 @@ module _ {m at : ℕ} {ks xs table : List ℕ} {here left : ℕ} (g : Entering m
 
       -- it is taken, and no field before has the name
       pub enter_taken : {l : List ℕ} {r : Bool} → (get_or table (get_or xs here 0 % slots) 0 ≡ 0 → ⊥)
-          → r ≡ seen (with_names (run_in (m - left) at ks xs) []) (get_or xs here 0) → r ≡ false → l ≡ table
-          → Entering m at ks xs l past (left - 1)
-      enter_taken h s n e =
-          entered_on e (table_kept g.entered here enter_field (not_seen (get_or xs here 0) _ [] (sym s ∙ n)) h)
+          → {done : ℕ} → done ≡ m - left → r ≡ seen (with_names (run_in done at ks xs) []) (get_or xs here 0)
+          → r ≡ false → l ≡ table → Entering m at ks xs l past (left - 1)
+      enter_taken h d s n e =
+          entered_on e (table_kept g.entered here enter_field
+          (not_seen (get_or xs here 0) _ [] (sym (before_as d (get_or xs here 0)) ∙ sym s ∙ n)) h)
 
 -- ---- what it tells
+
+-- where there is a table, no name is repeated
+pub table_distinct : {T : Type 0} (f : T → List ℕ) (o : Option T) (fs : Fields) (ks xs : List ℕ)
+    → TableOf (option_map f o) fs ks xs → OnSome o (repeats [] fs ≡ false)
+table_distinct f None fs ks xs h = tt
+table_distinct f (Some x) fs ks xs h = h.distinct
 
 -- a field of the name, at the place in its slot
 pub table_found : {fs : Fields} {ks xs table : List ℕ} → Table fs ks xs table → (name s : ℕ)

@@ -1,12 +1,11 @@
 -- Nodes written one after the other. Of lists alone. Assumes nothing.
 use mathlib.Core.Path.{◌≡◌, sym, ap, ◌∙◌}
-use mathlib.Core.List.{List, [], ◌∷◌, ◌++◌, append_assoc, append-nil}
-use Prim.Native.Nat.{ℕ, ◌+◌, ◌≤◌, ◌<◌}
+use mathlib.Core.List.{List, [], ◌++◌, append_assoc, append-nil}
+use Prim.Native.Nat.{ℕ, ◌+◌, ◌≤◌}
 use native.Mathlib.Omega.{arith}
 use native.Mathlib.Nat.{add-zero}
-use native.Mathlib.Numerals.{add-one}
-use lib.ListN.{length, get_or, take, drop, set, length-drop}
-use lib.Seq.{take_at, drop_at, take-take, take-suc, take-suc-set, take-add, length-take-le, get_or-drop}
+use lib.ListN.{length, take, drop}
+use lib.Seq.{take_at, drop_at, take-take, take-add, length-take-le}
 use Rattle.supertype_place.specs.Written.{Wrote}
 
 -- a sum of three
@@ -54,34 +53,6 @@ pub still : {to n : ℕ} {ys zs K A K' A' : List ℕ} → to ≤ length K → to
     → Wrote to 0 [] [] K A K' A'
 still {to} {n} {ys} {zs} {K} {A} {K'} {A'} h g w =
     record { kinds = none_of to n ys K K' h w.kinds; args = none_of to n zs A A' g w.args }
-
--- one node
-pub put_one : (to k a : ℕ) (K A : List ℕ) → to < length K → to < length A
-    → Wrote to 1 (k ∷ []) (a ∷ []) K A (set K to k) (set A to a)
-put_one to k a K A h g =
-    record { kinds = rw add-one (take-suc-set K to k h); args = rw add-one (take-suc-set A to a g) }
-
--- one element more of a copy
-one_more : (s : List ℕ) (at i : ℕ) → at + i < length s
-    → take i (drop at s) ++ (get_or s (at + i) 0 ∷ []) ≡ take (i + 1) (drop at s)
-one_more s at i h =
-    sym
-    (ap (λ (j : ℕ). take j (drop at s)) (add-one i)
-    ∙ take-suc (drop at s) i 0 (omega (arith, length-drop at s))
-    ∙ ap (λ (v : ℕ). take i (drop at s) ++ (v ∷ [])) (get_or-drop at s i 0))
-
--- a copy goes on by one node
-pub copy_next : (to at i : ℕ) (s d K A K' A' : List ℕ)
-    → Wrote to i (take i (drop at s)) (take i (drop at d)) K A K' A'
-    → at + i < length s → at + i < length d → to + i < length K' → to + i < length A'
-    → Wrote to (i + 1) (take (i + 1) (drop at s)) (take (i + 1) (drop at d)) K A
-    (set K' (to + i) (get_or s (at + i) 0)) (set A' (to + i) (get_or d (at + i) 0))
-copy_next to at i s d K A K' A' w a b g h =
-    let v = and_then w (put_one (to + i) (get_or s (at + i) 0) (get_or d (at + i) 0) K' A' g h) in
-    record {
-      kinds = v.kinds ∙ ap (λ (l : List ℕ). take to K ++ l) (one_more s at i a);
-      args = v.args ∙ ap (λ (l : List ℕ). take to A ++ l) (one_more d at i b);
-    }
 
 -- what was written can be read there
 read_at : (to n : ℕ) (ys K K' : List ℕ) → to ≤ length K → take (to + n) K' ≡ take to K ++ ys

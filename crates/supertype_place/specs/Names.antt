@@ -1,13 +1,11 @@
 -- Fields found by their name, in a run and by a table. Assumes nothing: these are definitions.
-use Rattle.std.specs.Prelude.{◌≡◌, Bool, true, false, List, [], ℕ, ◌+◌, ◌-◌, ◌%◌, length, get_or}
+use Rattle.std.specs.Prelude.{◌≡◌, true, false, Option, None, Some, List, [], ℕ, ◌+◌, ◌-◌, ◌%◌, length, get_or}
 use Rattle.flat.specs.Tree.{DataType, Fields, empty, field}
 use Rattle.flat.specs.Tree as tree
 use Rattle.supertype_nested.specs.Step.{repeats}
 use Rattle.supertype_nested.specs.Union.{named, last_or, seen, with_names}
 use Rattle.supertype_place.specs.Place.{TypeIn, type_in, RunIn, run_in}
 use Rattle.supertype_place.specs.declared.run.Located.{Located}
-use Rattle.supertype_place.specs.declared.run.Located.TheVariants.{At, Missing}
-use Rattle.supertype_place.specs.declared.names.LastType.{LastType}
 
 -- The first field of the name: its type stands at p, and the `left` fields after it have the others of that name.
 pub record FoundIn (name : ℕ) (fs : Fields) (ks xs : List ℕ) (p left : ℕ) : Type 0 where
@@ -17,9 +15,9 @@ pub record FoundIn (name : ℕ) (fs : Fields) (ks xs : List ℕ) (p left : ℕ) 
       ≡ field name (type_in p ks xs) (named name (run_in left (p + tree.size (type_in p ks xs)) ks xs))
 
 -- where the first field of the name stands, if there is one
-abbrev pub LocatedIn : ℕ → Fields → (ks xs : List ℕ) → Located → Type 0
-LocatedIn name fs ks xs (At p left) = FoundIn name fs ks xs p left
-LocatedIn name fs ks xs Missing = named name fs ≡ empty
+abbrev pub LocatedIn : ℕ → Fields → (ks xs : List ℕ) → Option Located → Type 0
+LocatedIn name fs ks xs (Some l) = FoundIn name fs ks xs l.at l.left
+LocatedIn name fs ks xs None = named name fs ≡ empty
 
 -- ---- a table
 
@@ -38,8 +36,9 @@ pub record Table (fs : Fields) (ks xs table : List ℕ) : Type 0 where
       ≡ field (get_or xs (get_or table s 0 - 1) 0) (type_in (get_or table s 0) ks xs) empty
 
 -- a table, where there is one
-abbrev pub TableOf : Bool → Fields → (ks xs table : List ℕ) → Type 0
-TableOf b fs ks xs table = b ≡ true → Table fs ks xs table
+abbrev pub TableOf : Option (List ℕ) → Fields → (ks xs : List ℕ) → Type 0
+TableOf (Some table) fs ks xs = Table fs ks xs table
+TableOf None fs ks xs = Unit {0}
 
 -- ---- the names of the longest
 
@@ -51,10 +50,10 @@ pub record LastIn (name : ℕ) (before : Fields) (t : DataType) (behind : Fields
   pub last : type_in p ks xs ≡ last_or name t behind
 
 -- the same, or that a field before it has the name
-abbrev pub LastTypeIn : (name : ℕ) (before : Fields) (t : DataType) (behind : Fields) (ks xs : List ℕ) → LastType
+abbrev pub LastTypeIn : (name : ℕ) (before : Fields) (t : DataType) (behind : Fields) (ks xs : List ℕ) → Option ℕ
     → Type 0
-LastTypeIn name before t behind ks xs (LastType.At p) = LastIn name before t behind ks xs p
-LastTypeIn name before t behind ks xs LastType.Seen = seen (with_names before []) name ≡ true
+LastTypeIn name before t behind ks xs (Some p) = LastIn name before t behind ks xs p
+LastTypeIn name before t behind ks xs None = seen (with_names before []) name ≡ true
 
 -- What a Struct that repeats no name has before and behind a field of the name.
 pub record Once (name : ℕ) (before behind : Fields) : Type 0 where

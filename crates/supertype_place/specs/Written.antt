@@ -1,11 +1,10 @@
 -- What a join leaves in the two lent arrays from a place on. Assumes nothing: these are definitions.
 use Rattle.std.specs.Prelude.{◌≡◌, List, [], ◌∷◌, ◌++◌, ℕ, suc, ◌+◌, ◌≤◌, ◌<◌, length, take, set}
-use Rattle.std.proofs.Math.Option.{Option, none, some}
+use Rattle.std.specs.Prelude.{Option, None, Some}
 use Rattle.flat.specs.Kind as kind
 use Rattle.flat.specs.Tree.{DataType, Fields, count, size, sizes, kinds_of, kinds_ofs, args_of, args_ofs}
 use Rattle.flat.specs.Reader.{map_o}
-use Rattle.supertype_nested.specs.Nested.{Zip, names_differ, no_join, joined}
-use Rattle.supertype_place.specs.declared.node.Joined.{Joined}
+use Rattle.flat.specs.declared.Node.{Node}
 use Rattle.supertype_place.specs.declared.node.Filled.{Filled}
 
 -- both arrays have n nodes
@@ -33,55 +32,37 @@ abbrev pub field_nodes : Fields → Nodes
 field_nodes fs = record { number = sizes fs; kinds = kinds_ofs fs; args = args_ofs fs }
 
 -- one node before those of a type
-abbrev pub headed : ℕ → ℕ → DataType → Nodes
-headed k a t = record { number = suc (size t); kinds = k ∷ kinds_of t; args = a ∷ args_of t }
+abbrev pub headed : Node → DataType → Nodes
+headed n t = record { number = suc (size t); kinds = n.kind ∷ kinds_of t; args = n.arg ∷ args_of t }
 
 -- the nodes stand from `to` on, where there are some
 abbrev pub WroteNodes : ℕ → Option Nodes → (K A K' A' : List ℕ) → Type 0
-WroteNodes to none K A K' A' = Wrote to 0 [] [] K A K' A'
-WroteNodes to (some x) K A K' A' = Wrote to x.number x.kinds x.args K A K' A'
+WroteNodes to None K A K' A' = Wrote to 0 [] [] K A K' A'
+WroteNodes to (Some x) K A K' A' = Wrote to x.number x.kinds x.args K A K' A'
 
--- how many they are
-abbrev pub joined_of : Option Nodes → Joined
-joined_of none = Joined.Nothing
-joined_of (some x) = Joined.Nodes x.number
-
--- What a join comes to: its answer, and the nodes that f makes of its type.
-pub record Joins (f : DataType → Nodes) (q : Option DataType) (to : ℕ) (K A K' A' : List ℕ) (r : Joined) : Type 0 where
-  pub answers : r ≡ joined_of (map_o f q)
+-- What a join comes to: its answer, which is the number of the nodes that f makes of its type, and these nodes.
+pub record Joins (f : DataType → Nodes) (q : Option DataType) (to : ℕ) (K A K' A' : List ℕ) (r : Option ℕ)
+    : Type 0 where
+  pub answers : r ≡ map_o (λ t. (f t).number) q
   pub wrote : WroteNodes to (map_o f q) K A K' A'
 
--- what a loop over fields answers
-abbrev pub filled_of : Zip → Filled
-filled_of names_differ = Filled.Apart
-filled_of no_join = Filled.Nothing
-filled_of (joined fs) = Filled.Fields (count fs) (sizes fs)
+-- how many fields there are, and their nodes
+abbrev pub filled : Fields → Filled
+filled fs = record { names = count fs; nodes = sizes fs }
 
--- and the nodes that it writes
-abbrev pub nodes_z : Zip → Option Nodes
-nodes_z names_differ = none
-nodes_z no_join = none
-nodes_z (joined fs) = some (field_nodes fs)
+-- What a loop over fields comes to: fields, or None.
+pub record Fills (q : Option Fields) (to : ℕ) (K A K' A' : List ℕ) (r : Option Filled) : Type 0 where
+  pub answers : r ≡ map_o filled q
+  pub wrote : WroteNodes to (map_o field_nodes q) K A K' A'
 
--- What a loop over fields comes to.
-pub record Fills (z : Zip) (to : ℕ) (K A K' A' : List ℕ) (r : Filled) : Type 0 where
-  pub answers : r ≡ filled_of z
-  pub wrote : WroteNodes to (nodes_z z) K A K' A'
-
--- a Struct's node put before its fields
-abbrev pub ClosedOf : Filled → ℕ → (K A K' A' : List ℕ) → Joined → Type 0
-ClosedOf (Filled.Fields n s) to K A K' A' r =
-    (r ≡ Joined.Nodes (s + 1)) × (K' ≡ set K to kind.Struct) × (A' ≡ set A to n)
-ClosedOf Filled.Apart to K A K' A' r = (r ≡ Joined.Nothing) × (K' ≡ K) × (A' ≡ A)
-ClosedOf Filled.Nothing to K A K' A' r = (r ≡ Joined.Nothing) × (K' ≡ K) × (A' ≡ A)
+-- A Struct's node put before its fields.
+pub record Closed (f : Filled) (to : ℕ) (K A K' A' : List ℕ) (r : ℕ) : Type 0 where
+  pub number : r ≡ f.nodes + 1
+  pub kinds : K' ≡ set K to kind.Struct
+  pub args : A' ≡ set A to f.names
 
 -- there is room for it, and for the number of nodes
-abbrev pub FitsAfter : Filled → ℕ → List ℕ → Type 0
-FitsAfter (Filled.Fields n s) to K = to + s < length K
-FitsAfter Filled.Apart to K = Unit {0}
-FitsAfter Filled.Nothing to K = Unit {0}
-
 pub record ClosedFits (f : Filled) (to : ℕ) (K A : List ℕ) : Type 0 where
   pub kinds : to < length K
   pub args : to < length A
-  pub fits : FitsAfter f to K
+  pub fits : to + f.nodes < length K

@@ -10,30 +10,28 @@ use crate::node;
 use dtype_eq::nodes::starts_with;
 
 // A field of a run: where its type stands, and how many fields stand after it.
-#[derive(Clone, Copy)]
-pub enum Located {
-    At(usize, u64),
-    Missing,
+#[derive(Clone, Copy, Debug, PartialEq, Eq)]
+pub struct Located {
+    pub at: usize,
+    pub left: u64,
 }
 
 // The first field of the name.
-pub fn first_of(kinds: &[u8], args: &[u64], at: usize, count: u64, name: u64) -> Located
+pub fn first_of(kinds: &[u8], args: &[u64], at: usize, count: u64, name: u64) -> Option<Located>
     requires { RunIn count at kinds.now args.now }
     ensures { let ks = kinds.now in
         let xs = args.now in
         LocatedIn name (run_in count at ks xs) ks xs result }
 {
     let mut here = at;
-    let mut left = count;
-    while left > 0 {
+    for left in (0..count).rev() {
         let next = here + 1;
         if args[here] == name {
-            return Located::At(next, left - 1);
+            return Some(Located { at: next, left });
         }
         here = node::after(kinds, args, next);
-        left = left - 1;
     }
-    Located::Missing
+    None
 }
 
 // Whether a field has the name.
@@ -42,10 +40,7 @@ pub fn has(kinds: &[u8], args: &[u64], at: usize, count: u64, name: u64) -> bool
     ensures { let fs = run_in count at kinds.now args.now in
         result ≡ seen (with_names fs []) name }
 {
-    match first_of(kinds, args, at, count, name) {
-        Located::At(_, _) => true,
-        Located::Missing => false,
-    }
+    first_of(kinds, args, at, count, name).is_some()
 }
 
 // Where the last type of the name stands: that of a later field, else the one at `held`.
@@ -58,14 +53,12 @@ pub fn last_of(kinds: &[u8], args: &[u64], held: usize, at: usize, count: u64, n
 {
     let mut last = held;
     let mut here = at;
-    let mut left = count;
-    while left > 0 {
+    for _ in 0..count {
         let next = here + 1;
         if args[here] == name {
             last = next;
         }
         here = node::after(kinds, args, next);
-        left = left - 1;
     }
     last
 }
@@ -87,14 +80,12 @@ pub fn in_place(
 {
     let mut here = at;
     let mut there = by;
-    let mut left = count;
-    while left > 0 {
+    for _ in 0..count {
         if la[here] != ra[there] {
             return false;
         }
         here = node::after(lk, la, here + 1);
         there = node::after(rk, ra, there + 1);
-        left = left - 1;
     }
     true
 }

@@ -1,4 +1,5 @@
 -- What a Decimal keeps of the numbers of an integer type that it is joined with. Assumes nothing.
+use Rattle.std.specs.Prelude.{Some}
 use mathlib.Core.Path.{◌≡◌, refl, sym, subst, ◌∙◌}
 use mathlib.Core.Bool.{Bool, true}
 use mathlib.Core.Logic.{◌↔◌}
@@ -10,7 +11,8 @@ use borrow.Author.Tests.{le-leb, lt-leb, leb-true}
 use Rattle.flat.specs.Kind.{Decimal}
 use Rattle.flat.specs.Argument.{dec128_max_prec}
 use Rattle.flat.proofs.Truths.{is_true}
-use Rattle.supertype_answer.specs.Join.{Node, Some, node}
+use Rattle.flat.specs.declared.Node.{Node}
+use Rattle.supertype_answer.specs.Join.{node}
 use Rattle.dtype.specs.Predicate.{is_signed_integer}
 use Rattle.supertype_numbers.specs.Integer.{width_of, max_of}
 use Rattle.supertype_numbers.specs.Range.{Listed, Holds}

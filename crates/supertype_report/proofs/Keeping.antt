@@ -1,4 +1,5 @@
 -- Whether the supertype of two integer types keeps their numbers, and what each report says then. Assumes nothing.
+use Rattle.std.specs.Prelude.{Option, None, Some}
 use mathlib.Core.Path.{◌≡◌, refl, sym, subst, ◌∙◌}
 use mathlib.Core.Bool.{Bool, true, false}
 use mathlib.Core.Logic.{◌↔◌}
@@ -11,12 +12,10 @@ use Rattle.flat.specs.Kind.{Int128, Float16, Float32, Float64}
 use Rattle.flat.proofs.Truths.{impossible, never}
 use Rattle.dtype.specs.Match.{among}
 use Rattle.dtype.specs.Predicate.{is_signed_integer}
-use Rattle.supertype_answer.specs.Join.{Some, node}
+use Rattle.supertype_answer.specs.Join.{node}
 use Rattle.supertype_numbers.specs.Range.{Listed, Holds, Includes}
 use Rattle.supertype_numbers.specs.Format.{Format, binary64, format_of, WholeIn}
 use Rattle.supertype_lossless.specs.Lossless.{upcast_of}
-use Rattle.supertype_lossless.specs.declared.upcast.Upcast.{Upcast}
-use Rattle.supertype_lossless.specs.declared.upcast.Upcast.TheVariants.{To, Nothing}
 use Rattle.supertype_lossless.proofs.Laws.{lossless_laws}
 use Rattle.supertype_arms.specs.Supertype.{supertype}
 use Rattle.supertype_report.specs.Kept.{Has, integer, float, Kept}
@@ -107,7 +106,7 @@ module _ {a b : ℕ} (l : Listed a × Listed b) (lost : Kept a b → ⊥) where
   pub lossy : Says a b (by_upcast (upcast_of a b))
   lossy = go (upcast_of a b) refl
     where
-      go : (u : Upcast) → upcast_of a b ≡ u → Says a b (by_upcast u)
-      go (To k) e =
+      go : (u : Option ℕ) → upcast_of a b ≡ u → Says a b (by_upcast u)
+      go (Some k) e =
           let m = (lossless_laws.least a b l.0 l.1 differ k).0 e in (l, lost, (k, m.is_listed_kind, m.covers))
-      go Nothing e = (l, lost, (lossless_laws.none a b l.0 l.1 differ).0 e)
+      go None e = (l, lost, (lossless_laws.none a b l.0 l.1 differ).0 e)

@@ -1,4 +1,5 @@
 -- The laws of whole numbers hold. Assumes nothing.
+use Rattle.std.specs.Prelude.{Some}
 use mathlib.Core.Path.{◌≡◌, refl, sym, ap, subst, ◌∙◌}
 use mathlib.Core.Logic.{◌↔◌}
 use mathlib.Core.Bool.{Bool, true, false, ◌&&◌, ◌||◌}
@@ -13,11 +14,10 @@ use Rattle.flat.proofs.Rules.{and_left, and_right}
 use Rattle.flat.proofs.Truths.{never, to_T}
 use Rattle.dtype.specs.Match.{among}
 use Rattle.dtype.specs.Predicate.{is_signed_integer}
-use Rattle.supertype_answer.specs.Join.{Some, node}
+use Rattle.supertype_answer.specs.Join.{node}
 use Rattle.supertype_numbers.specs.Range.{Listed, is_listed, Holds, Includes}
 use Rattle.supertype_numbers.proofs.Tests.{to_listed}
 use Rattle.supertype_lossless.specs.Lossless.{upcast_of}
-use Rattle.supertype_lossless.specs.declared.upcast.Upcast.TheVariants.{To}
 use Rattle.supertype_arms.specs.Supertype.{supertype}
 use Rattle.supertype_report.specs.Laws.{uint128_with_signed, signed_to64, uint64_with_signed, Logged, left, right}
 use Rattle.supertype_report.specs.Laws.{MadeOne, NumberLaws}
@@ -115,10 +115,10 @@ uint128 : (i s : Bool) (a b : ℕ) → uint128_with_signed a b ≡ true
 unfolding joined
 uint128 i s a b e = let l = uint128_listed a b e in is_joined a b l.0 l.1 i s ∙ rw e
 
-avoidable : (a b : ℕ) → uint64_with_signed a b ≡ true → (upcast_of a b ≡ To Int128) × Includes Int128 a × Includes Int128 b
+avoidable : (a b : ℕ) → uint64_with_signed a b ≡ true → (upcast_of a b ≡ Some Int128) × Includes Int128 a × Includes Int128 b
 avoidable a b e = let l = uint64_listed a b e in go (answered a b l.0 l.1)
   where
-    go : {t : ℕ} → Answered a b t → (upcast_of a b ≡ To Int128) × Includes Int128 a × Includes Int128 b
+    go : {t : ℕ} → Answered a b t → (upcast_of a b ≡ Some Int128) × Includes Int128 a × Includes Int128 b
     go (float64 d f u x y) = (u, x, y)
     go (integral d l k) = never (sym d ∙ e)
 

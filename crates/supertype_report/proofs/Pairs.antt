@@ -1,9 +1,11 @@
 -- The supertype of two integer types, by tests that antt computes over all pairs of the ten. Assumes nothing.
-use mathlib.Core.Path.{◌≡◌, refl, sym, ap, subst}
+use Rattle.std.specs.Prelude.{Option, None, Some}
+use mathlib.Core.Path.{◌≡◌, refl, sym, ap, ap₂, subst, ◌∙◌}
 use mathlib.Core.Bool.{Bool, true, false, cond, not, ◌&&◌}
 use mathlib.Core.Logic.{◌↔◌}
-use Prim.Native.Nat.{ℕ, ◌≤◌, ◌<◌}
+use Prim.Native.Nat.{ℕ, ◌≤◌, ◌<◌, min, max}
 use native.Mathlib.Omega.{arith}
+use native.Mathlib.Decide.{dec_lt}
 use borrow.Author.Tests.{not-true}
 use lib.Dec.{T, eqb, eqb→eq}
 use Rattle.flat.specs.Kind.{Int128, Float64}
@@ -11,28 +13,27 @@ use Rattle.flat.proofs.Rules.{and_left, and_right, and_both}
 use Rattle.flat.proofs.Truths.{is_true}
 use Rattle.dtype.specs.Equality.{equal_node}
 use Rattle.dtype.proofs.Runs.{same, are_same}
-use Rattle.supertype_answer.specs.Join.{Node, Supertype, Some, Nothing, node}
+use Rattle.flat.specs.declared.Node.{Node}
+use Rattle.supertype_answer.specs.Join.{node}
 use Rattle.supertype_numbers.specs.Range.{Listed, is_listed, Includes}
 use Rattle.supertype_numbers.proofs.Tests.{to_listed, pairs, at_pair}
 use Rattle.supertype_numbers.proofs.Ranges.{inside, includes}
 use Rattle.supertype_lossless.specs.Lossless.{upcast_of}
-use Rattle.supertype_lossless.specs.declared.upcast.Upcast.{Upcast}
-use Rattle.supertype_lossless.specs.declared.upcast.Upcast.TheVariants.{To, Nothing as NoUpcast}
 use Rattle.supertype_lossless.proofs.Upcasts.{right as upcasts}
 use Rattle.supertype_arms.specs.declared.plan.Plan.TheVariants.{Kind}
-use Rattle.supertype_arms.specs.Rule.{Settles}
+use Rattle.supertype_arms.specs.Rule.{rule_of, Settles}
 use Rattle.supertype_arms.specs.Supertype.{run, inner, supertype_with, known_supertype, supertype}
 use Rattle.supertype_arms.proofs.Areas.{right_at}
 use Rattle.supertype_arms.proofs.Bare.{of_one, up, down}
 use Rattle.supertype_report.specs.Laws.{uint128_with_signed, uint64_with_signed}
 
-abbrev kind_of : Upcast → ℕ
-kind_of (To k) = k
-kind_of NoUpcast = 0
+abbrev kind_of : Option ℕ → ℕ
+kind_of (Some k) = k
+kind_of None = 0
 
-is_int128 : (u : Upcast) → T (eqb (kind_of u) Int128) → u ≡ To Int128
-is_int128 (To k) t = ap To (eqb→eq k Int128 t)
-is_int128 NoUpcast t = absurd t
+is_int128 : (u : Option ℕ) → T (eqb (kind_of u) Int128) → u ≡ Some Int128
+is_int128 (Some k) t = ap Some (eqb→eq k Int128 t)
+is_int128 None t = absurd t
 
 -- the kind of the supertype: that of the lossless upcast, save where UInt128 or UInt64 meets a signed type
 unfoldable pub joined : ℕ → ℕ → ℕ
@@ -43,16 +44,16 @@ joined a b =
 -- ---- it is the supertype's
 
 -- t is Some type of the kind k, without an argument
-abbrev bare : Supertype → ℕ → Bool
+abbrev bare : Option Node → ℕ → Bool
 bare (Some n) k = eqb n.kind k && eqb n.arg 0
-bare Nothing k = false
+bare None k = false
 
-is_bare : (t : Supertype) (k : ℕ) → T (bare t k) → t ≡ Some (node k 0)
+is_bare : (t : Option Node) (k : ℕ) → T (bare t k) → t ≡ Some (node k 0)
 is_bare (Some n) k t =
     λ i. Some
     (node (eqb→eq n.kind k (and_left (eqb n.kind k) _ t) i)
     (eqb→eq n.arg 0 (and_right (eqb n.kind k) _ t) i))
-is_bare Nothing k t = absurd t
+is_bare None k t = absurd t
 
 unfoldable joined_at : Bool → ℕ → ℕ → Bool
 unfolding joined supertype known_supertype supertype_with inner equal_node run
@@ -67,7 +68,7 @@ joined_hold = tt
 -- t is the kind of the supertype: Float64, although Int128 includes both ranges, or an integer type, which includes
 -- them unless UInt128 meets a signed type
 pub data Answered (a b t : ℕ) : Type 0 where
-  float64 : uint64_with_signed a b ≡ true → t ≡ Float64 → upcast_of a b ≡ To Int128 → Includes Int128 a → Includes Int128 b
+  float64 : uint64_with_signed a b ≡ true → t ≡ Float64 → upcast_of a b ≡ Some Int128 → Includes Int128 a → Includes Int128 b
       → Answered a b t
   integral : uint64_with_signed a b ≡ false → Listed t → (Includes t a × Includes t b) ↔ (uint128_with_signed a b ≡ false)
       → Answered a b t
@@ -149,12 +150,17 @@ module _ {a b : ℕ} where
   unfolding supertype
   of_equal e = sym (of_one known_supertype false e)
 
-  pub in_order : {r : ℕ} → a < b → b ≤ Float64 → Settles a b (Kind r)
-      → supertype false false (node a 0) (node b 0) ≡ Some (node r 0)
+  pub in_either : {r m n : ℕ} → (a ≡ b → ⊥) → a ≤ Float64 → b ≤ Float64 → m ≡ min a b → n ≡ max a b
+      → Settles m n (Kind r) → supertype false false (node a 0) (node b 0) ≡ Some (node r 0)
   unfolding supertype run
-  in_order h n f = sym (up known_supertype false h n (f false))
-
-  pub out_of_order : {r : ℕ} → b < a → a ≤ Float64 → Settles b a (Kind r)
-      → supertype false false (node a 0) (node b 0) ≡ Some (node r 0)
-  unfolding supertype run
-  out_of_order h n f = sym (down known_supertype false h n (f false))
+  in_either {r} {m} {n} d f g low high e = go (dec_lt a b)
+    where
+      go : Dec (a < b) → supertype_with known_supertype false (node a 0) (node b 0) ≡ Some (node r 0)
+      go (yes h) =
+          let i : m ≡ a = omega arith in
+          let j : n ≡ b = omega arith in
+          sym (up known_supertype false h g (e false ∙ ap₂ (rule_of false) i j))
+      go (no h) =
+          let i : m ≡ b = omega arith in
+          let j : n ≡ a = omega arith in
+          sym (down known_supertype false (omega arith) f (e false ∙ ap₂ (rule_of false) i j))

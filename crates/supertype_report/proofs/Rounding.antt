@@ -1,7 +1,7 @@
 -- roundTiesToEven is what its name says, and two numbers of which Float64 makes one. Assumes nothing.
 use mathlib.Core.Path.{◌≡◌, refl, sym, ap, subst, ◌∙◌}
 use mathlib.Core.Bool.{Bool, true, false, cond, ◌&&◌, ◌||◌}
-use mathlib.Core.Option.{some}
+use Rattle.std.specs.Prelude.{Some}
 use Prim.Native.Nat.{ℕ, zero, suc, ◌+◌, ◌-◌, ◌*◌, ◌/◌, ◌%◌, ◌^◌, ◌≤◌, ◌<◌}
 use native.Mathlib.Nat.{le_of_lt, lt_of_lt_of_le, lt_of_le_of_lt, not-le_of_lt, lt_of_not-le, ne_of_lt, add-mul}
 use native.Mathlib.Nat.{mul_assoc, mul_left_comm, mul-le-mul_left, mul-le-mul_right, mul-lt-mul_of_pos_right}
@@ -210,7 +210,7 @@ abbrev p64 : ℕ
 p64 = binary64.precision
 
 -- by the table of formats
-the_format : (f : Format) → format_of Float64 ≡ some f → f ≡ binary64
+the_format : (f : Format) → format_of Float64 ≡ Some f → f ≡ binary64
 unfolding format_of
 the_format f e = cc
 

@@ -21,23 +21,18 @@ module _ (x y : ℕ) where
   one Report.Kept Report.Avoidable h k = absurd (k.1 h.1)
   one Report.Kept Report.Unavoidable h k = absurd (k.1 h.1)
   one Report.Kept Report.NotIntegers h k = absurd (k h.0)
-  one Report.Kept (Report.Refused e) h k = absurd k
   one Report.Avoidable Report.Kept h k = absurd (h.1 k.1)
   one Report.Avoidable Report.Avoidable h k = refl
   one Report.Avoidable Report.Unavoidable h k = absurd (k.2 h.2)
   one Report.Avoidable Report.NotIntegers h k = absurd (k h.0)
-  one Report.Avoidable (Report.Refused e) h k = absurd k
   one Report.Unavoidable Report.Kept h k = absurd (h.1 k.1)
   one Report.Unavoidable Report.Avoidable h k = absurd (h.2 k.2)
   one Report.Unavoidable Report.Unavoidable h k = refl
   one Report.Unavoidable Report.NotIntegers h k = absurd (k h.0)
-  one Report.Unavoidable (Report.Refused e) h k = absurd k
   one Report.NotIntegers Report.Kept h k = absurd (h k.0)
   one Report.NotIntegers Report.Avoidable h k = absurd (h k.0)
   one Report.NotIntegers Report.Unavoidable h k = absurd (h k.0)
   one Report.NotIntegers Report.NotIntegers h k = refl
-  one Report.NotIntegers (Report.Refused e) h k = absurd k
-  one (Report.Refused e) b h k = absurd h
 
 -- ---- the definition's is so
 

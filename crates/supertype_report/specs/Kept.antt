@@ -1,7 +1,7 @@
 -- When the supertype of two integer types keeps every whole number of both. Assumes nothing: these are definitions.
 use Rattle.std.specs.Prelude.{◌≡◌, false, ℕ, ℤ}
-use Rattle.std.proofs.Math.Option.{some}
-use Rattle.supertype_answer.specs.Join.{Some, node}
+use Rattle.std.specs.Prelude.{Some}
+use Rattle.supertype_answer.specs.Join.{node}
 use Rattle.supertype_numbers.specs.Range.{Holds}
 use Rattle.supertype_numbers.specs.Format.{Format, format_of, WholeIn}
 use Rattle.supertype_arms.specs.Supertype.{supertype}
@@ -10,7 +10,7 @@ use Rattle.supertype_arms.specs.Supertype.{supertype}
 -- a number
 pub data Has (k : ℕ) (z : ℤ) : Type 0 where
   integer : Holds k z → Has k z
-  float : (f : Format) → format_of k ≡ some f → WholeIn f z → Has k z
+  float : (f : Format) → format_of k ≡ Some f → WholeIn f z → Has k z
 
 -- the supertype of two integer types, both flags off, has every whole number of both
 pub record Kept (a b : ℕ) : Type 0 where

@@ -1,16 +1,17 @@
 -- What the two rules do to whole numbers, each law over all pairs of integer types, or of a Decimal and an integer
 -- type, and both flags. Assumes nothing: these are definitions.
+use Rattle.std.specs.Prelude.{Some}
 use Rattle.std.specs.Prelude.{◌≡◌, ◌↔◌, Bool, true, false, ◌&&◌, ◌||◌, List, [], ◌∷◌, ℕ, ◌-◌, ◌≤◌, ◌<◌, eqb, ℤ, pos}
 use Rattle.flat.specs.Kind.{UInt64, UInt128, Int8, Int16, Int32, Int64, Int128, Float64, Decimal}
 use Rattle.flat.specs.Argument.{dec128_max_prec}
 use Rattle.dtype.specs.Match.{among}
 use Rattle.dtype.specs.Predicate.{is_signed_integer}
-use Rattle.supertype_answer.specs.Join.{Node, Some, node}
+use Rattle.flat.specs.declared.Node.{Node}
+use Rattle.supertype_answer.specs.Join.{node}
 use Rattle.supertype_numbers.specs.Integer.{max_of}
 use Rattle.supertype_numbers.specs.Range.{Listed, Holds, Includes}
 use Rattle.supertype_numbers.specs.Decimal.{DecimalHolds, digits_of}
 use Rattle.supertype_lossless.specs.Lossless.{upcast_of}
-use Rattle.supertype_lossless.specs.declared.upcast.Upcast.TheVariants.{To}
 use Rattle.supertype_arms.specs.Node.{precision, scale, fits}
 use Rattle.supertype_arms.specs.Supertype.{supertype}
 use Rattle.supertype_report.specs.Rounding.{as_float64}
@@ -57,7 +58,7 @@ pub record NumberLaws : Type 0 where
       → (supertype i s (node a 0) (node b 0) ≡ Some (node Float64 0)) ↔ (uint64_with_signed a b ≡ true)
   -- of such a pair an integer type includes both ranges, which the lossless upcast finds
   pub avoidable : (a b : ℕ) → uint64_with_signed a b ≡ true
-      → (upcast_of a b ≡ To Int128) × Includes Int128 a × Includes Int128 b
+      → (upcast_of a b ≡ Some Int128) × Includes Int128 a × Includes Int128 b
   -- (c) Float64 makes one number of two that such a pair of columns could hold
   pub merges : (a b : ℕ) → uint64_with_signed a b ≡ true → MadeOne a b
   -- (d) a Decimal n with an integer type is a Decimal of its scale and no less precision, in either order: n loses none

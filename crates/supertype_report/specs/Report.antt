@@ -1,14 +1,12 @@
 -- What a report says of two columns that are to be joined. Assumes nothing: these are definitions.
-use Rattle.std.specs.Prelude.{◌≡◌, cond, ◌&&◌, ◌||◌, [], ◌∷◌, ℕ}
-use Rattle.flat.specs.Refusal.{number_of}
+use Rattle.std.specs.Prelude.{◌≡◌, cond, ◌&&◌, ◌||◌, [], ◌∷◌, ℕ, Option, None, Some, Result, Ok, Err}
 use Rattle.flat.specs.Tree.{head_kind}
 use Rattle.flat.specs.Reading.{Reading}
 use Rattle.flat.specs.Both.{both_of, root_reading}
-use Rattle.flat.specs.declared.Root.{Root}
+use Rattle.flat.specs.declared.error.Error.{Error}
+use Rattle.flat.specs.declared.Node.{Node}
 use Rattle.supertype_numbers.specs.Range.{Listed, is_listed, Room}
 use Rattle.supertype_lossless.specs.Lossless.{upcast_of}
-use Rattle.supertype_lossless.specs.declared.upcast.Upcast.{Upcast}
-use Rattle.supertype_lossless.specs.declared.upcast.Upcast.TheVariants.{To, Nothing}
 use Rattle.supertype_report.specs.Kept.{Kept}
 use Rattle.supertype_report.specs.Laws.{uint128_with_signed, uint64_with_signed}
 use Rattle.supertype_report.specs.declared.Report.{Report}
@@ -27,11 +25,10 @@ Says a b Report.Avoidable = Integers a b × (Kept a b → ⊥) × Room (a ∷ b 
 Says a b Report.Unavoidable = Integers a b × (Kept a b → ⊥) × (Room (a ∷ b ∷ []) → ⊥)
 -- the question doesn't arise
 Says a b Report.NotIntegers = Integers a b → ⊥
-Says a b (Report.Refused e) = ⊥
 
-abbrev pub by_upcast : Upcast → Report
-by_upcast (To k) = Report.Avoidable
-by_upcast Nothing = Report.Unavoidable
+abbrev pub by_upcast : Option ℕ → Report
+by_upcast (Some k) = Report.Avoidable
+by_upcast None = Report.Unavoidable
 
 -- the report on two kinds: where UInt64 or UInt128 meets a signed type that is no wider the supertype loses numbers,
 -- and the lossless upcast tells whether an integer type keeps them
@@ -47,24 +44,16 @@ pub record ReportLaws : Type 0 where
   pub only : (a b : ℕ) (r : Report) → Says a b r → r ≡ report_of a b
 
 -- the report on two types: the left through 1 to 5, then the right, then the report on their kinds
-unfoldable pub types_report : Reading → Reading → Report
-types_report left right = both_of Report.Refused (λ t u. report_of (head_kind t) (head_kind u)) left right
+unfoldable pub types_report : Reading → Reading → Result Report Error
+types_report left right = both_of Err (λ t u. Ok (report_of (head_kind t) (head_kind u))) left right
 
 -- the report on two types told by their roots
-abbrev pub roots_report : Root → Root → Report
+abbrev pub roots_report : Result Node Error → Result Node Error → Result Report Error
 roots_report left right = types_report (root_reading left) (root_reading right)
 
--- document 01's number of a report, and the value beside it
-abbrev pub report_number : Report → ℕ
-report_number Report.Kept = 0
-report_number Report.Avoidable = 0
-report_number Report.Unavoidable = 0
-report_number Report.NotIntegers = 0
-report_number (Report.Refused e) = number_of e
-
+-- document 01's value of a report
 abbrev pub report_value : Report → ℕ
 report_value Report.Kept = 0
 report_value Report.Avoidable = 1
 report_value Report.Unavoidable = 2
 report_value Report.NotIntegers = 3
-report_value (Report.Refused e) = 0

@@ -1,7 +1,7 @@
 -- What becomes of a whole number in a float format: IEEE 754's roundTiesToEven. Assumes nothing: these are definitions.
 use Rattle.std.specs.Prelude.{◌≡◌, true, false, cond, ◌&&◌, ◌||◌, ℕ, zero, suc, ◌+◌, ◌-◌, ◌*◌, ◌/◌, ◌%◌, ◌^◌, ◌≤◌, ◌<◌}
 use Rattle.std.specs.Prelude.{ltb, eqb, ℤ, pos, negsuc, neg_ℤ}
-use Rattle.std.proofs.Math.Option.{some}
+use Rattle.std.specs.Prelude.{Some}
 use Rattle.flat.specs.Kind.{Float64}
 use Rattle.supertype_numbers.specs.Range.{Holds}
 use Rattle.supertype_numbers.specs.Format.{Format, binary64, format_of, magnitude, WholeIn}
@@ -44,6 +44,6 @@ pub record RoundingLaws : Type 0 where
   pub even : (p n m q : ℕ) → 2 ≤ p → m < 2 ^ p → distance n (m * 2 ^ q) ≡ distance n (nearest p n)
       → (m * 2 ^ q ≡ nearest p n → ⊥) → (j i : ℕ) × (j < 2 ^ p) × (j % 2 ≡ 0) × (nearest p n ≡ j * 2 ^ i)
   -- by Float64's format: its whole numbers of at most p bits are kept
-  pub whole : (z : ℤ) (f : Format) → format_of Float64 ≡ some f → magnitude z < 2 ^ f.precision → as_float64 z ≡ z
+  pub whole : (z : ℤ) (f : Format) → format_of Float64 ≡ Some f → magnitude z < 2 ^ f.precision → as_float64 z ≡ z
   -- by Float64's format: the numbers of every integer type are rounded to numbers of it
-  pub in_format : (k : ℕ) (z : ℤ) (f : Format) → format_of Float64 ≡ some f → Holds k z → WholeIn f (as_float64 z)
+  pub in_format : (k : ℕ) (z : ℤ) (f : Format) → format_of Float64 ≡ Some f → Holds k z → WholeIn f (as_float64 z)

@@ -1,56 +1,37 @@
 // What joining does to the whole numbers of two columns.
 #![tactic(auto)]
 
-ghost use Rattle.std.specs.Prelude.{◌≡◌, false};
+ghost use Rattle.std.specs.Prelude.{◌≡◌, false, Some};
 ghost use Rattle.flat.specs.Reading.{reading};
-ghost use Rattle.supertype_answer.specs.Join.{Some, node};
+ghost use Rattle.supertype_answer.specs.Join.{node};
 ghost use Rattle.supertype_numbers.specs.Range.{Listed};
 ghost use Rattle.supertype_arms.specs.Supertype.{supertype};
-ghost use Rattle.supertype_report.specs.Report.{report_of, roots_report, types_report, report_number, report_value};
+ghost use Rattle.supertype_report.specs.Report.{report_of, roots_report, types_report, report_value};
 
 use flat::error::Error;
 use flat::kind::Kind;
-use flat::{Flat, Root};
+use flat::reply::Value;
+use flat::{Flat, Node};
 use supertype_arms::number::numeric;
-use supertype_lossless::upcast::{Upcast, upcast_kinds};
-use supertype_numbers::integer::includes;
+use supertype_lossless::upcast::upcast_kinds;
+use supertype_numbers::integer::{includes, is_listed};
 
 // Whether the supertype of two integer types keeps every whole number of both; where it doesn't, whether an integer
 // type would.
-#[derive(Clone, Copy)]
+#[derive(Clone, Copy, Debug, PartialEq, Eq)]
 pub enum Report {
-    Kept,
-    Avoidable,
-    Unavoidable,
-    NotIntegers,
-    Refused(Error),
+    Kept = 0,
+    Avoidable = 1,
+    Unavoidable = 2,
+    NotIntegers = 3,
 }
 
-impl Report {
-    // Document 01's number.
-    pub fn number(self) -> u64
-        ensures { result ≡ report_number self }
-    {
-        match self {
-            Report::Kept => 0,
-            Report::Avoidable => 0,
-            Report::Unavoidable => 0,
-            Report::NotIntegers => 0,
-            Report::Refused(e) => e.number(),
-        }
-    }
+// Document 01's value of a report.
+impl Value for Report {
+    ghost value_of = { report_value };
 
-    // The value beside the number.
-    pub fn value(self) -> u64
-        ensures { result ≡ report_value self }
-    {
-        match self {
-            Report::Kept => 0,
-            Report::Avoidable => 1,
-            Report::Unavoidable => 2,
-            Report::NotIntegers => 3,
-            Report::Refused(_) => 0,
-        }
+    fn value(self) -> u64 {
+        self as u64
     }
 }
 
@@ -62,10 +43,7 @@ fn integer_supertype(a: u8, b: u8) -> u8
     if a == b {
         return a;
     }
-    if a < b {
-        return numeric(a, b);
-    }
-    numeric(b, a)
+    numeric(a.min(b), a.max(b))
 }
 
 // The report on two integer types.
@@ -74,16 +52,12 @@ fn report_integers(a: u8, b: u8) -> Report
     ensures { result ≡ report_of a b }
 {
     let t = integer_supertype(a, b);
-    if t <= Kind::INT128 {
-        if includes(t, a) {
-            if includes(t, b) {
-                return Report::Kept;
-            }
-        }
+    if t <= Kind::INT128 && includes(t, a) && includes(t, b) {
+        return Report::Kept;
     }
     match upcast_kinds(a, b) {
-        Upcast::To(_) => Report::Avoidable,
-        Upcast::Nothing => Report::Unavoidable,
+        Some(_) => Report::Avoidable,
+        None => Report::Unavoidable,
     }
 }
 
@@ -91,26 +65,19 @@ fn report_integers(a: u8, b: u8) -> Report
 fn report_kinds(a: u8, b: u8) -> Report
     ensures { result ≡ report_of a b }
 {
-    match a {
-        Kind::UINT8..=Kind::INT128 => match b {
-            Kind::UINT8..=Kind::INT128 => report_integers(a, b),
-            _ => Report::NotIntegers,
-        },
-        _ => Report::NotIntegers,
+    if is_listed(a) && is_listed(b) {
+        return report_integers(a, b);
     }
+    Report::NotIntegers
 }
 
 // The report on the roots of two types: the refusal of the left, of the right, or the report on their kinds.
-pub fn report_roots(left: Root, right: Root) -> Report
+pub fn report_roots(left: Result<Node, Error>, right: Result<Node, Error>) -> Result<Report, Error>
     ensures { result ≡ roots_report left right }
 {
-    match left {
-        Root::Refused(e) => Report::Refused(e),
-        Root::Node(k, _) => match right {
-            Root::Refused(e) => Report::Refused(e),
-            Root::Node(l, _) => report_kinds(k, l),
-        },
-    }
+    let l = left?;
+    let r = right?;
+    Ok(report_kinds(l.kind, r.kind))
 }
 
 // The report on two types: refusals 1 to 5 of the left type, then of the right.
@@ -119,7 +86,7 @@ pub fn join_report(
     left_args: &[u64],
     right_kinds: &[u8],
     right_args: &[u64],
-) -> Report
+) -> Result<Report, Error>
     ensures { let left = reading Flat.MAX_NODES Flat.MAX_DEPTH left_kinds.now left_args.now in
         let right = reading Flat.MAX_NODES Flat.MAX_DEPTH right_kinds.now right_args.now in
         result ≡ types_report left right }

@@ -10,6 +10,8 @@ use Rattle.flat.specs.Tree.{DataType, list, array, struct, Fields, count, head_k
 use Rattle.flat.specs.Reader.{map_o}
 use Rattle.flat.proofs.Truths.{never}
 use Rattle.dtype_inner.specs.Inner.{inner_dtype}
+use Rattle.flat.specs.declared.Node.{Node}
+use Rattle.supertype_answer.specs.Join.{node}
 use Rattle.supertype_arms.specs.Supertype.{is}
 use Rattle.supertype_nested.specs.Nested.{SuperTypeOptions, TreeCall, supertype_tree_with}
 use Rattle.supertype_nested.specs.Step.{Fair}
@@ -90,7 +92,7 @@ module _ (c : TreeCall) (fair : Fair c) (o : SuperTypeOptions) where
   abbrev OneWidth : DataType → DataType → Type 0
   OneWidth l r = (head_kind l ≡ kind.Array) × (head_kind r ≡ kind.Array) × (head_arg l ≡ head_arg r)
 
-  wrap_list : {l r : DataType} → Wraps l → Wraps r → (OneWidth l r → ⊥) → Decided c o l r (Step.Under kind.List 0)
+  wrap_list : {l r : DataType} → Wraps l → Wraps r → (OneWidth l r → ⊥) → Decided c o l r (Step.Under (node kind.List 0))
   unfolding run_step head_kind head_arg inner_dtype
   wrap_list (list_wraps {t}) (list_wraps {t = u}) n =
       record { answers = two_lists c fair o t u; parts = (is_list, list_wraps, list_wraps) }
@@ -106,7 +108,7 @@ module _ (c : TreeCall) (fair : Fair c) (o : SuperTypeOptions) where
       }
 
   wrap_array : {l r : DataType} → Wraps l → Wraps r → OneWidth l r
-      → Decided c o l r (Step.Under kind.Array (head_arg l))
+      → Decided c o l r (Step.Under (node kind.Array (head_arg l)))
   unfolding run_step head_kind head_arg inner_dtype
   wrap_array list_wraps v e = absurd (omega (arith, e.0))
   wrap_array array_wraps list_wraps e = absurd (omega (arith, e.1))
@@ -120,7 +122,7 @@ module _ (c : TreeCall) (fair : Fair c) (o : SuperTypeOptions) where
 -- ---- by their roots
 
 -- the kind of a List or an Array
-abbrev Wrap : ℕ → Type 0
+abbrev pub Wrap : ℕ → Type 0
 Wrap k = (kind.List ≤ k) × (k < kind.Struct)
 
 module _ (o : SuperTypeOptions) (a x b y : ℕ) where
@@ -152,14 +154,14 @@ module _ (o : SuperTypeOptions) (a x b y : ℕ) where
   none_left w g i c fair l r p q =
       out_struct c fair o (wraps_root l p w.0 w.1) (struct_root r q g) (at_root false p i)
 
-  pub by_list : Wrap a → Wrap b → ((a ≡ kind.Array) × (b ≡ kind.Array) × (x ≡ y) → ⊥)
-      → DecidedBy o a x b y (Step.Under kind.List 0)
-  by_list w v n c fair l r p q =
-      wrap_list c fair o (wraps_root l p w.0 w.1) (wraps_root r q v.0 v.1)
-      (λ e. n (sym p.kind ∙ e.0, sym q.kind ∙ e.1, sym p.arg ∙ e.2 ∙ q.arg))
+  pub by_list : {root : Node} → root ≡ node kind.List 0 → Wrap a → Wrap b
+      → ((a ≡ kind.Array) × (b ≡ kind.Array) × (x ≡ y) → ⊥) → DecidedBy o a x b y (Step.Under root)
+  by_list h w v n c fair l r p q =
+      rw h (wrap_list c fair o (wraps_root l p w.0 w.1) (wraps_root r q v.0 v.1)
+      (λ e. n (sym p.kind ∙ e.0, sym q.kind ∙ e.1, sym p.arg ∙ e.2 ∙ q.arg)))
 
-  pub by_array : a ≡ kind.Array → b ≡ kind.Array → x ≡ y → DecidedBy o a x b y (Step.Under kind.Array x)
+  pub by_array : a ≡ kind.Array → b ≡ kind.Array → x ≡ y → DecidedBy o a x b y (Step.Under (node a x))
   by_array e g n c fair l r p q =
-      rw (← p.arg)
+      rw (e, ← p.arg)
       (wrap_array c fair o (wraps_root l p (omega arith) (omega arith)) (wraps_root r q (omega arith) (omega arith))
       (p.kind ∙ e, q.kind ∙ g, p.arg ∙ n ∙ sym q.arg))

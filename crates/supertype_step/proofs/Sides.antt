@@ -1,7 +1,8 @@
 -- The steps of a nested type with a leaf, on either side. Assumes nothing.
 use mathlib.Core.Path.{◌≡◌, refl, sym, ap, ap₂, ◌∙◌}
 use mathlib.Core.Bool.{Bool, true, false, ◌&&◌}
-use mathlib.Core.Option.{none}
+use Rattle.std.specs.Prelude.{None, Some}
+use Rattle.flat.specs.declared.Node.{Node}
 use Prim.Native.Nat.{ℕ, ◌≤◌, ◌<◌}
 use native.Mathlib.Omega.{arith}
 use native.Mathlib.Decide.{dec_lt}
@@ -13,6 +14,7 @@ use Rattle.flat.proofs.Truths.{never, both_true}
 use Rattle.dtype.specs.Predicate.{is_primitive_numeric}
 use Rattle.dtype.proofs.Runs.{says, of_run}
 use Rattle.dtype_inner.specs.Inner.{inner_dtype}
+use Rattle.supertype_answer.specs.Join.{node as root, type_of}
 use Rattle.supertype_arms.specs.Supertype.{is, run, TreePlan, left_type, roots, implode_left, first_field, each_field}
 use Rattle.supertype_arms.specs.declared.plan.Plan.TheVariants.{No, Kind}
 use Rattle.supertype_nested.specs.Nested.{SuperTypeOptions, TreeCall, run_tree, supertype_tree_with}
@@ -36,9 +38,14 @@ module _ (i : Bool) (a x k : ℕ) where
       → run_tree c (plan_beside i a k) t (leaf k y) ≡ run_tree c p t (leaf k y)
   told e c t y = ap (λ (p : TreePlan). run_tree c p t (leaf k y)) e
 
-  to_kind : (v : ℕ) → plan_beside i a k ≡ roots (Kind v) → StepBeside i a x k (Step.Node v 0)
+  to_kind : {v : ℕ} {n : Node} → n ≡ root v 0 → plan_beside i a k ≡ roots (Kind v) → StepBeside i a x k (Step.Node n)
   unfolding run_tree run run_step
-  to_kind v e = record { answers = λ c t p y. told e c t y; parts = λ t p y. tt; of_left = node }
+  to_kind {v} {n} h e =
+      record {
+        answers = λ c t p y. told e c t y ∙ ap (λ (m : Node). Some (type_of m)) (sym h);
+        parts = λ t p y. tt;
+        of_left = node;
+      }
 
   to_none : plan_beside i a k ≡ roots No → StepBeside i a x k Step.Nothing
   unfolding run_tree run run_step
@@ -66,7 +73,7 @@ module _ (i : Bool) (a x k : ℕ) where
       }
 
   -- a Struct without fields has no first one
-  no_first : (c : TreeCall) (t : DataType) (y : ℕ) → head_arg t ≡ 0 → run_tree c first_field t (leaf k y) ≡ none
+  no_first : (c : TreeCall) (t : DataType) (y : ℕ) → head_arg t ≡ 0 → run_tree c first_field t (leaf k y) ≡ None
   unfolding run_tree head_arg count
   no_first c (leaf j b) y e = refl
   no_first c (list t) y e = refl
@@ -87,8 +94,8 @@ module _ (i : Bool) (a x k : ℕ) where
 
 -- String and Null
 module _ (i : Bool) (a x k : ℕ) where
-  pub at_string : k ≡ kind.String → StepBeside i a x k (Step.Node kind.String 0)
-  at_string e = to_kind i a x k kind.String (ap (plan_beside i a) e ∙ beside_string i a)
+  pub at_string : {n : Node} → n ≡ root kind.String 0 → k ≡ kind.String → StepBeside i a x k (Step.Node n)
+  at_string h e = to_kind i a x k h (ap (plan_beside i a) e ∙ beside_string i a)
 
   pub at_null : k ≡ kind.Null → StepBeside i a x k Step.Left
   at_null e = to_left i a x k (ap (plan_beside i a) e ∙ beside_null i a)
@@ -130,9 +137,9 @@ module _ (x k : ℕ) (other : Other k) where
   pub struct_nothing : is_primitive_numeric k ≡ false → k < kind.UnknownAny → StructBeside x k Step.Nothing
   struct_nothing e l i = to_none i kind.Struct x k (struct_none k high no_string no_null i l e)
 
-  pub struct_unknown : is_primitive_numeric k ≡ false → kind.UnknownAny ≤ k
-      → StructBeside x k (Step.Node kind.UnknownAny 0)
-  struct_unknown e l i = to_kind i kind.Struct x k kind.UnknownAny (go (dec_lt k kind.UnknownFloat))
+  pub struct_unknown : {n : Node} → n ≡ root kind.UnknownAny 0 → is_primitive_numeric k ≡ false → kind.UnknownAny ≤ k
+      → StructBeside x k (Step.Node n)
+  struct_unknown h e l i = to_kind i kind.Struct x k h (go (dec_lt k kind.UnknownFloat))
     where
       go : Dec (k < kind.UnknownFloat) → plan_beside i kind.Struct k ≡ roots (Kind kind.UnknownAny)
       go (yes g) = struct_any k high no_string no_null i l g
@@ -171,9 +178,9 @@ module _ (x k : ℕ) (other : Other k) where
           to_none i a x k
           (plan_out (roots No) (list_none k high no_string no_null u) (array_none k high no_string no_null i u))
 
-      pub at_unknown : kind.UnknownAny ≤ k → StepBeside i a x k (Step.Node kind.UnknownAny 0)
-      at_unknown u =
-          to_kind i a x k kind.UnknownAny
+      pub at_unknown : {n : Node} → n ≡ root kind.UnknownAny 0 → kind.UnknownAny ≤ k → StepBeside i a x k (Step.Node n)
+      at_unknown h u =
+          to_kind i a x k h
           (plan_out (roots (Kind kind.UnknownAny)) (list_any k high no_string no_null u)
           (array_any k high no_string no_null i u))
 
@@ -262,11 +269,11 @@ module _ (o : SuperTypeOptions) (k b y : ℕ) (h : k < kind.List) (g : kind.List
       (string_in c fair o x (nested_root r q g)
       (ap (λ (b : ℕ). is kind.List b && o.allow_implode_list) q.kind ∙ e))
 
-  pub to_string_lem : k ≡ kind.String → (is kind.List b && o.allow_implode_list) ≡ false
-      → DecidedBefore o k b y (Step.Node kind.String 0)
+  pub to_string_lem : {n : Node} → n ≡ root kind.String 0 → k ≡ kind.String
+      → (is kind.List b && o.allow_implode_list) ≡ false → DecidedBefore o k b y (Step.Node n)
   unfolding run_step run_tree run
-  to_string_lem s e x c fair l r p q =
-      rw (leaf_root l p h)
+  to_string_lem z s e x c fair l r p q =
+      rw (z, leaf_root l p h)
       (record {
         answers =
             right_by c o k x (omega arith) (nested_root r q g) (roots (Kind kind.String))

@@ -1,14 +1,17 @@
 -- What the roots of two types decide of their supertype: one step, in which the source's two tries are one. Assumes
 -- nothing: these are definitions.
 use Rattle.std.specs.Prelude.{◌≡◌, true, cond, ℕ, ◌≤◌, ◌<◌, ltb, eqb}
-use Rattle.std.proofs.Math.Option.{Option, none, some}
+use Rattle.std.specs.Prelude.{Option, None, Some}
+use Rattle.std.specs.Option.{option_or}
 use Rattle.flat.specs.Kind as kind
 use Rattle.flat.specs.Argument.{argument_fits}
 use Rattle.flat.specs.Tree.{DataType, leaf, list, array, struct, Fields, count, size, head_kind, head_arg}
 use Rattle.flat.specs.Reader.{map_o, bind_o}
+use Rattle.flat.specs.declared.Node.{Node}
 use Rattle.dtype.specs.Match.{if_struct, if_field}
 use Rattle.dtype_inner.specs.Inner.{inner_dtype}
-use Rattle.supertype_nested.specs.Nested.{SuperTypeOptions, TreeCall, or_else_tree, join_each, zip_fields, union_fields}
+use Rattle.supertype_answer.specs.Join.{node, type_of}
+use Rattle.supertype_nested.specs.Nested.{SuperTypeOptions, TreeCall, join_each, zip_fields, union_fields}
 use Rattle.supertype_nested.specs.Nested.{options, supertype_tree_with}
 use Rattle.supertype_nested.specs.Laws.{LeavesFit}
 use Rattle.supertype_nested.specs.Step.{Fair, zip_either}
@@ -22,9 +25,9 @@ either_fields c fs gs =
     (cond (ltb (count gs) (count fs)) (union_fields c fs gs)
     (zip_either (union_fields c fs gs) (union_fields c gs fs) (zip_fields c fs gs)))
 
--- a List, or an Array of the width v, of a type
-abbrev pub above : ℕ → ℕ → DataType → DataType
-above k v t = cond (eqb k kind.Array) (array v t) (list t)
+-- a List, or an Array of the node's width, of a type
+abbrev pub above : Node → DataType → DataType
+above n t = cond (eqb n.kind kind.Array) (array n.arg t) (list t)
 
 -- a List of what the inner type of l comes to with r
 abbrev pub within : TreeCall → DataType → DataType → Option DataType
@@ -32,27 +35,27 @@ within c l r = bind_o (inner_dtype l) (λ t. map_o list (c t r))
 
 -- the first field of the Struct l with r
 abbrev pub first : TreeCall → DataType → DataType → Option DataType
-first c l r = if_struct none (if_field none (λ name t fs. c t r)) l
+first c l r = if_struct None (if_field None (λ name t fs. c t r)) l
 
 -- each field of the Struct l with r
 abbrev pub each : TreeCall → DataType → DataType → Option DataType
-each c l r = if_struct none (λ fs. map_o struct (join_each c fs r)) l
+each c l r = if_struct None (λ fs. map_o struct (join_each c fs r)) l
 
 -- what a step answers for two types, by the calls c on their parts
 unfoldable pub run_step : TreeCall → Step → DataType → DataType → Option DataType
-run_step c Step.Nothing l r = none
-run_step c (Step.Node k v) l r = some (leaf k v)
-run_step c Step.Left l r = some l
-run_step c Step.Right l r = some r
-run_step c (Step.Under k v) l r = bind_o (inner_dtype l) (λ t. bind_o (inner_dtype r) (λ u. map_o (above k v) (c t u)))
+run_step c Step.Nothing l r = None
+run_step c (Step.Node n) l r = Some (type_of n)
+run_step c Step.Left l r = Some l
+run_step c Step.Right l r = Some r
+run_step c (Step.Under n) l r = bind_o (inner_dtype l) (λ t. bind_o (inner_dtype r) (λ u. map_o (above n) (c t u)))
 run_step c Step.WithinLeft l r = within c l r
 run_step c Step.WithinRight l r = within c r l
-run_step c Step.StringWithin l r = or_else_tree (within c r l) (some (leaf kind.String 0))
+run_step c Step.StringWithin l r = option_or (within c r l) (Some (leaf kind.String 0))
 run_step c Step.FirstLeft l r = first c l r
 run_step c Step.FirstRight l r = first c r l
 run_step c Step.EachLeft l r = each c l r
 run_step c Step.EachRight l r = each c r l
-run_step c Step.Fields l r = if_struct none (λ fs. if_struct none (λ gs. map_o struct (either_fields c fs gs)) r) l
+run_step c Step.Fields l r = if_struct None (λ fs. if_struct None (λ gs. map_o struct (either_fields c fs gs)) r) l
 
 -- ---- what the code promises of a step
 
@@ -72,9 +75,9 @@ abbrev pub NodeFits : ℕ → ℕ → Type 0
 NodeFits k a = (k ≤ kind.Struct) × (k < kind.List → argument_fits k a ≡ true)
 
 -- the node of a List or of an Array
-pub data IsOver : ℕ → ℕ → Type 0 where
-  is_list : IsOver kind.List 0
-  is_array : {w : ℕ} → IsOver kind.Array w
+pub data IsOver : Node → Type 0 where
+  is_list : IsOver (node kind.List 0)
+  is_array : {w : ℕ} → IsOver (node kind.Array w)
 
 -- a List or an Array
 pub data Wraps : DataType → Type 0 where
@@ -84,10 +87,10 @@ pub data Wraps : DataType → Type 0 where
 -- the parts that a step calls for are there
 abbrev pub HasParts : Step → DataType → DataType → Type 0
 HasParts Step.Nothing l r = Unit {0}
-HasParts (Step.Node k v) l r = Unit {0}
+HasParts (Step.Node n) l r = Unit {0}
 HasParts Step.Left l r = Unit {0}
 HasParts Step.Right l r = Unit {0}
-HasParts (Step.Under k v) l r = IsOver k v × Wraps l × Wraps r
+HasParts (Step.Under n) l r = IsOver n × Wraps l × Wraps r
 HasParts Step.WithinLeft l r = head_kind l ≡ kind.List
 HasParts Step.WithinRight l r = head_kind r ≡ kind.List
 HasParts Step.StringWithin l r = head_kind r ≡ kind.List

@@ -3,6 +3,7 @@
 use Rattle.std.specs.Prelude.{◌≡◌, Bool, ℕ}
 use Rattle.flat.specs.Kind as kind
 use Rattle.flat.specs.Tree.{DataType, leaf}
+use Rattle.flat.specs.declared.Node.{Node}
 use Rattle.supertype_nested.specs.Nested.{SuperTypeOptions, TreeCall, run_tree}
 use Rattle.supertype_nested.specs.Step.{plan_beside}
 use Rattle.supertype_step.specs.Decided.{run_step, RootOf, HasParts, DecidedBy}
@@ -11,7 +12,7 @@ use Rattle.supertype_step.specs.declared.Step.{Step}
 -- a step of a nested type with a leaf on its right
 pub data OfLeft : Step → Type 0 where
   nothing : OfLeft Step.Nothing
-  node : {k v : ℕ} → OfLeft (Step.Node k v)
+  node : {n : Node} → OfLeft (Step.Node n)
   left : OfLeft Step.Left
   within : OfLeft Step.WithinLeft
   first : OfLeft Step.FirstLeft

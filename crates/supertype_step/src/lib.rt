@@ -4,19 +4,18 @@
 
 ghost use Rattle.std.specs.Prelude.{◌≡◌, true, ◌&&◌, ◌≤◌, ◌<◌};
 ghost use Rattle.flat.specs.Kind.{Null, String, List, Struct};
-ghost use Rattle.supertype_answer.specs.Join.{node};
 ghost use Rattle.supertype_arms.specs.Node.{fits};
 ghost use Rattle.supertype_arms.specs.Supertype.{is};
 ghost use Rattle.supertype_step.specs.Decided.{options_of, NodeFits, DecidedBy};
 ghost use Rattle.supertype_step.specs.Sides.{OfLeft, StepBeside, StructBeside, Turned, DecidedBefore};
 
 use dtype::kind::is_primitive_numeric;
+use flat::Node;
 use flat::kind::Kind;
-use supertype::node::node_supertype;
-use supertype_answer::Common;
+use supertype::node::{node_supertype, plain};
 
 // `SuperTypeOptions`: the flags of a call.
-#[derive(Clone, Copy)]
+#[derive(Clone, Copy, Debug, Default, PartialEq, Eq)]
 pub struct Options {
     pub allow_implode_list: bool,
     pub allow_primitive_to_string: bool,
@@ -25,13 +24,13 @@ pub struct Options {
 // One step: None, one node, either type, a node over the join of both inner types, a List of one's inner type with the
 // other type, the same with String where there is none, the first field with the other type, each field with it, or the
 // fields of both.
-#[derive(Clone, Copy)]
+#[derive(Clone, Copy, Debug, PartialEq, Eq)]
 pub enum Step {
     Nothing,
-    Node(u8, u64),
+    Node(Node),
     Left,
     Right,
-    Under(u8, u64),
+    Under(Node),
     WithinLeft,
     WithinRight,
     StringWithin,
@@ -46,10 +45,7 @@ pub enum Step {
 fn takes_in(implode: bool, kind: u8) -> bool
     ensures { result ≡ (is List kind && implode) }
 {
-    if kind == Kind::LIST {
-        return implode;
-    }
-    false
+    kind == Kind::LIST && implode
 }
 
 // A Struct on the left with a leaf that is neither String nor Null.
@@ -57,42 +53,29 @@ fn struct_beside(count: u64, leaf: u8) -> Step
     requires { (leaf < List) × (leaf ≡ String → ⊥) × (leaf ≡ Null → ⊥) }
     ensures { StructBeside count leaf result }
 {
-    if is_primitive_numeric(leaf) {
-        if leaf < Kind::UNKNOWN_ANY {
-            return Step::EachLeft;
-        }
-        if count == 0 {
-            return Step::Nothing;
-        }
-        return Step::FirstLeft;
+    let known = leaf < Kind::UNKNOWN_ANY;
+    match is_primitive_numeric(leaf) {
+        true if known => Step::EachLeft,
+        true if count == 0 => Step::Nothing,
+        true => Step::FirstLeft,
+        false if known => Step::Nothing,
+        false => Step::Node(plain(Kind::UNKNOWN_ANY)),
     }
-    if leaf < Kind::UNKNOWN_ANY {
-        return Step::Nothing;
-    }
-    Step::Node(Kind::UNKNOWN_ANY, 0)
 }
 
 // A nested type on the left with a leaf.
-fn beside(implode: bool, a: u8, x: u64, leaf: u8) -> Step
-    requires { (List ≤ a) × (a ≤ Struct) × (leaf < List) }
-    ensures { StepBeside implode a x leaf result }
+fn beside(implode: bool, n: Node, leaf: u8) -> Step
+    requires { (List ≤ n.kind) × (n.kind ≤ Struct) × (leaf < List) }
+    ensures { StepBeside implode n.kind n.arg leaf result }
 {
-    if leaf == Kind::STRING {
-        return Step::Node(Kind::STRING, 0);
+    match leaf {
+        Kind::STRING => Step::Node(plain(Kind::STRING)),
+        Kind::NULL => Step::Left,
+        _ if n.kind == Kind::STRUCT => struct_beside(n.arg, leaf),
+        _ if takes_in(implode, n.kind) => Step::WithinLeft,
+        _ if leaf < Kind::UNKNOWN_ANY => Step::Nothing,
+        _ => Step::Node(plain(Kind::UNKNOWN_ANY)),
     }
-    if leaf == Kind::NULL {
-        return Step::Left;
-    }
-    if a == Kind::STRUCT {
-        return struct_beside(x, leaf);
-    }
-    if takes_in(implode, a) {
-        return Step::WithinLeft;
-    }
-    if leaf < Kind::UNKNOWN_ANY {
-        return Step::Nothing;
-    }
-    Step::Node(Kind::UNKNOWN_ANY, 0)
 }
 
 // The step of a nested type with a leaf, with left and right exchanged.
@@ -110,75 +93,55 @@ fn turned(step: Step) -> Step
 }
 
 // A leaf with a nested type on the right: String tries a List first.
-fn before(o: Options, a: u8, b: u8, y: u64) -> Step
-    requires { (a < List) × (List ≤ b) × (b ≤ Struct) }
-    ensures { DecidedBefore (options_of o) a b y result }
+fn before(o: Options, leaf: u8, n: Node) -> Step
+    requires { (leaf < List) × (List ≤ n.kind) × (n.kind ≤ Struct) }
+    ensures { DecidedBefore (options_of o) leaf n.kind n.arg result }
 {
-    if a == Kind::STRING {
-        if takes_in(o.allow_implode_list, b) {
-            return Step::StringWithin;
+    match leaf {
+        Kind::STRING if !takes_in(o.allow_implode_list, n.kind) => {
+            Step::Node(plain(Kind::STRING))
         }
-        return Step::Node(Kind::STRING, 0);
+        Kind::STRING => Step::StringWithin,
+        _ => turned(beside(o.allow_implode_list, n, leaf)),
     }
-    turned(beside(o.allow_implode_list, b, y, a))
 }
 
 // Two nested types.
-fn both(o: Options, a: u8, x: u64, b: u8, y: u64) -> Step
-    requires { (List ≤ a) × (a ≤ Struct) × (List ≤ b) × (b ≤ Struct) }
-    ensures { DecidedBy (options_of o) a x b y result }
+fn both(o: Options, l: Node, r: Node) -> Step
+    requires { (List ≤ l.kind) × (l.kind ≤ Struct) × (List ≤ r.kind) × (r.kind ≤ Struct) }
+    ensures { DecidedBy (options_of o) l.kind l.arg r.kind r.arg result }
 {
-    if a == Kind::STRUCT {
-        if b == Kind::STRUCT {
-            return Step::Fields;
-        }
-        if takes_in(o.allow_implode_list, b) {
-            return Step::WithinRight;
-        }
-        return Step::Nothing;
+    match (l.kind, r.kind) {
+        (Kind::STRUCT, Kind::STRUCT) => Step::Fields,
+        (Kind::STRUCT, b) if takes_in(o.allow_implode_list, b) => Step::WithinRight,
+        (Kind::STRUCT, _) => Step::Nothing,
+        (a, Kind::STRUCT) if takes_in(o.allow_implode_list, a) => Step::WithinLeft,
+        (_, Kind::STRUCT) => Step::Nothing,
+        (Kind::ARRAY, Kind::ARRAY) if l.arg == r.arg => Step::Under(l),
+        _ => Step::Under(plain(Kind::LIST)),
     }
-    if b == Kind::STRUCT {
-        if takes_in(o.allow_implode_list, a) {
-            return Step::WithinLeft;
-        }
-        return Step::Nothing;
-    }
-    if a == Kind::LIST {
-        return Step::Under(Kind::LIST, 0);
-    }
-    if b == Kind::LIST {
-        return Step::Under(Kind::LIST, 0);
-    }
-    if x == y {
-        return Step::Under(Kind::ARRAY, x);
-    }
-    Step::Under(Kind::LIST, 0)
 }
 
 // Two leaves.
-fn leaves(o: Options, a: u8, x: u64, b: u8, y: u64) -> Step
-    requires { (fits (node a x) ≡ true) × (fits (node b y) ≡ true) }
-    ensures { DecidedBy (options_of o) a x b y result }
+fn leaves(o: Options, l: Node, r: Node) -> Step
+    requires { (fits l ≡ true) × (fits r ≡ true) }
+    ensures { DecidedBy (options_of o) l.kind l.arg r.kind r.arg result }
 {
-    match node_supertype(o.allow_primitive_to_string, a, x, b, y) {
-        Common::Some(k, v) => Step::Node(k, v),
-        Common::Nothing => Step::Nothing,
+    match node_supertype(o.allow_primitive_to_string, l, r) {
+        Some(n) => Step::Node(n),
+        None => Step::Nothing,
     }
 }
 
-// The step that the roots of two types decide, a with x and b with y.
-pub fn decide(o: Options, a: u8, x: u64, b: u8, y: u64) -> Step
-    requires { NodeFits a x × NodeFits b y }
-    ensures { DecidedBy (options_of o) a x b y result }
+// The step that the roots of two types decide.
+pub fn decide(o: Options, l: Node, r: Node) -> Step
+    requires { NodeFits l.kind l.arg × NodeFits r.kind r.arg }
+    ensures { DecidedBy (options_of o) l.kind l.arg r.kind r.arg result }
 {
-    if b < Kind::LIST {
-        if a < Kind::LIST {
-            return leaves(o, a, x, b, y);
-        }
-        return beside(o.allow_implode_list, a, x, b);
+    match (l.kind < Kind::LIST, r.kind < Kind::LIST) {
+        (true, true) => leaves(o, l, r),
+        (true, false) => before(o, l.kind, r),
+        (false, true) => beside(o.allow_implode_list, l, r.kind),
+        (false, false) => both(o, l, r),
     }
-    if a < Kind::LIST {
-        return before(o, a, b, y);
-    }
-    both(o, a, x, b, y)
 }

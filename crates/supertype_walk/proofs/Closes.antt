@@ -1,7 +1,7 @@
 -- A Struct's node put before its fields: what a loop over fields comes to, as a type. Assumes nothing.
-use mathlib.Core.Path.{◌≡◌, sym, ap, ◌∙◌, subst}
+use mathlib.Core.Path.{◌≡◌, sym, ap, ◌∙◌}
 use mathlib.Core.List.{List, [], ◌∷◌, ◌++◌, append_assoc, append-nil}
-use mathlib.Core.Option.{Option, none, some}
+use Rattle.std.specs.Prelude.{Option, None, Some}
 use native.Mathlib.Nat.{add-zero}
 use native.Mathlib.Numerals.{add-one}
 use Prim.Native.Nat.{ℕ, suc, ◌+◌, ◌<◌}
@@ -12,11 +12,10 @@ use Rattle.flat.specs.Kind as kind
 use Rattle.flat.specs.Tree.{struct, Fields, count, size, sizes, kinds_of, kinds_ofs, args_of, args_ofs}
 use Rattle.flat.specs.Reader.{map_o}
 use Rattle.flat.proofs.Sizes.{length_kindss}
-use Rattle.supertype_nested.specs.Nested.{Zip, names_differ, no_join, joined}
-use Rattle.supertype_place.specs.declared.node.Joined.{Joined}
 use Rattle.supertype_place.specs.declared.node.Filled.{Filled}
-use Rattle.supertype_place.specs.Written.{type_nodes, Joins, Fills, filled_of, ClosedOf, FitsAfter, ClosedFits}
-use Rattle.supertype_walk.specs.Room.{zip_o}
+use Rattle.supertype_place.specs.Written.{Wrote, type_nodes, Joins, filled, Fills, Closed, ClosedFits}
+use Rattle.supertype_walk.proofs.Orders.{fills_is, was_none, told_fields}
+use Rattle.supertype_walk.proofs.Told.{joins_is, joins_none}
 
 -- ---- of lists
 
@@ -56,48 +55,52 @@ fits_written to n ys K K' h g e =
 
 -- ---- the Struct
 
--- there is room for its node, and for the number of nodes
-pub closed_fits : (z : Zip) {to : ℕ} {K A K' A' : List ℕ} {f : Filled} → Fills z (to + 1) K A K' A' f
-    → to < length K → to < length A → length K' ≡ length K → length A' ≡ length A → ClosedFits f to K' A'
-closed_fits z {to} {K} {A} {K'} {A'} {f} w h g p q =
-    record {
-      kinds = omega arith;
-      args = omega arith;
-      fits = subst (λ (f : Filled). FitsAfter f to K') (sym w.answers) (go z w);
-    }
-  where
-    go : (z : Zip) → Fills z (to + 1) K A K' A' f → FitsAfter (filled_of z) to K'
-    go names_differ w = tt
-    go no_join w = tt
-    go (joined fs) w = fits_written to (sizes fs) (kinds_ofs fs) K K' h (length_kindss fs) w.wrote.kinds
+module _ {q : Option Fields} {to : ℕ} {K A K' A' : List ℕ} {r : Option Filled} (w : Fills q (to + 1) K A K' A' r)
+    (h : to < length K) (g : to < length A) where
+  module _ (f : Filled) (e : r ≡ Some f) where
+    told : (fs : Fields) × (q ≡ Some fs) × (f ≡ filled fs)
+        × Wrote (to + 1) (sizes fs) (kinds_ofs fs) (args_ofs fs) K A K' A'
+    told = told_fields w f e
 
--- the fields closed
-pub closed_joins : (q : Option Fields) {to : ℕ} {K A K' A' K'' A'' : List ℕ} {f : Filled} {r : Joined}
-    → Fills (zip_o q) (to + 1) K A K' A' f → ClosedOf f to K' A' K'' A'' r → to < length K → to < length A
-    → Joins type_nodes (map_o struct q) to K A K'' A'' r
-unfolding size kinds_of args_of
-closed_joins q {to} {K} {A} {K'} {A'} {K''} {A''} {f} {r} w d h g =
-    go q w (subst (λ (f : Filled). ClosedOf f to K' A' K'' A'' r) w.answers d)
-  where
-    go : (q : Option Fields) → Fills (zip_o q) (to + 1) K A K' A' f
-        → ClosedOf (filled_of (zip_o q)) to K' A' K'' A'' r → Joins type_nodes (map_o struct q) to K A K'' A'' r
-    go none w d =
+    -- there is room for its node, and for the number of nodes
+    pub closed_fits : length K' ≡ length K → length A' ≡ length A → ClosedFits f to K' A'
+    closed_fits i j =
+        let n = ap (λ (f : Filled). f.nodes) told.2 in
         record {
-          answers = d.0;
-          wrote = record {
-            kinds = ap (take (to + 0)) d.1 ∙ one_back to K K' w.wrote.kinds;
-            args = ap (take (to + 0)) d.2 ∙ one_back to A A' w.wrote.args;
-          };
+          kinds = omega arith;
+          args = omega arith;
+          fits =
+              omega (
+                arith,
+                n,
+                fits_written to (sizes told.0) (kinds_ofs told.0) K K' h (length_kindss told.0)
+                    told.3.kinds,
+              );
         }
-    go (some fs) w d =
-        record {
-          answers = d.0 ∙ ap Joined.Nodes (add-one (sizes fs));
+
+    -- the fields closed
+    pub closed_joins : {K'' A'' : List ℕ} {a : ℕ} → Closed f to K' A' K'' A'' a
+        → Joins type_nodes (map_o struct q) to K A K'' A'' (Some a)
+    unfolding size kinds_of args_of
+    closed_joins {K''} {A''} {a} d =
+        let fs : Fields = told.0 in
+        joins_is (ap (map_o struct) (sym told.1)) record {
+          answers = ap Some (d.number ∙ ap (λ (f : Filled). f.nodes + 1) told.2 ∙ add-one (sizes fs));
           wrote = record {
             kinds =
-                ap (take (to + suc (sizes fs))) d.1
-                ∙ node_before to (sizes fs) kind.Struct (kinds_ofs fs) K K' h w.wrote.kinds;
+                ap (take (to + suc (sizes fs))) d.kinds
+                ∙ node_before to (sizes fs) kind.Struct (kinds_ofs fs) K K' h told.3.kinds;
             args =
-                ap (take (to + suc (sizes fs))) d.2
-                ∙ node_before to (sizes fs) (count fs) (args_ofs fs) A A' g w.wrote.args;
+                ap (take (to + suc (sizes fs))) (d.args ∙ ap (λ (f : Filled). set A' to f.names) told.2)
+                ∙ node_before to (sizes fs) (count fs) (args_ofs fs) A A' g told.3.args;
           };
         }
+
+  -- no fields
+  pub closed_none : r ≡ None → Joins type_nodes (map_o struct q) to K A K' A' None
+  closed_none e =
+      let x = (fills_is (was_none w e) w).wrote in
+      joins_none (ap (map_o struct) (was_none w e)) record {
+        kinds = one_back to K K' x.kinds;
+        args = one_back to A A' x.args;
+      }

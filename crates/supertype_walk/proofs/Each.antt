@@ -1,25 +1,25 @@
 -- Each field of a run with one type: what the loop keeps. Assumes nothing.
 use mathlib.Core.Path.{◌≡◌, refl, sym, ap, ◌∙◌, subst}
 use mathlib.Core.List.{List, ◌∷◌}
-use mathlib.Core.Option.{Option, none, some}
+use Rattle.std.specs.Prelude.{Option, None, Some, Ok, Err}
 use Prim.Native.Nat.{ℕ, suc, ◌+◌, ◌-◌, ◌≤◌, ◌<◌}
 use native.Mathlib.Omega.{arith}
 use lib.ListN.{length, get_or}
 use Rattle.flat.specs.Kind as kind
 use Rattle.flat.specs.Tree.{DataType, Fields, empty, field, size, sizes, kinds_of, args_of}
 use Rattle.flat.specs.Reader.{map_o, bind_o}
+use Rattle.supertype_answer.specs.Join.{node}
 use Rattle.supertype_nested.specs.Nested.{SuperTypeOptions, TreeCall, joined, zip_on, join_each}
 use Rattle.supertype_nested.proofs.Found.{If}
 use Rattle.supertype_nested.proofs.Smaller.{tree_smaller}
-use Rattle.supertype_place.specs.declared.node.Joined.{Joined}
-use Rattle.supertype_place.specs.declared.node.Filled.{Filled}
+use Rattle.supertype_walk.specs.declared.walk.Unzipped.{Unzipped}
 use Rattle.supertype_place.specs.Place.{type_in, run_in, most_nodes, TypeIn, RunIn}
 use Rattle.supertype_place.specs.Written.{Wrote, headed, Joins, Fills}
 use Rattle.supertype_place.proofs.Places.{field_in, others_in, run_is_field, run_nodes, run_none}
-use Rattle.supertype_walk.specs.Room.{JoinRoom, EachRoom, get_supertype, zip_o}
+use Rattle.supertype_walk.specs.Room.{JoinRoom, EachRoom, get_supertype}
 use Rattle.supertype_walk.proofs.Told.{told_none, told_some, still_joins}
 use Rattle.supertype_walk.specs.Going.{Going}
-use Rattle.supertype_walk.proofs.Going.{going_start, going_next, going_nothing, going_end}
+use Rattle.supertype_walk.proofs.Going.{zip_o, going_start, going_next, going_nothing, going_end, fills_ok}
 
 -- one field
 each_step : (c : TreeCall) (name : ℕ) (t : DataType) (fs : Fields) (r : DataType)
@@ -29,9 +29,9 @@ each_step c name t fs r = go (c t r) (join_each c fs r)
   where
     go : (p : Option DataType) (q : Option Fields)
         → zip_o (bind_o p (λ st. map_o (field name st) q)) ≡ zip_on name p (zip_o q)
-    go none q = refl
-    go (some st) none = refl
-    go (some st) (some fs) = refl
+    go None q = refl
+    go (Some st) None = refl
+    go (Some st) (Some fs) = refl
 
 each_none : (c : TreeCall) (r : DataType) → zip_o (join_each c empty r) ≡ joined empty
 unfolding join_each
@@ -53,8 +53,8 @@ pub record Eaching (i : SuperTypeOptions) (count at : ℕ) (ks xs : List ℕ) (r
 -- before the first field
 pub each_start : {i : SuperTypeOptions} {count at : ℕ} {ks xs : List ℕ} {r : DataType} {to : ℕ} {K A : List ℕ}
     → RunIn count at ks xs → EachRoom to (run_in count at ks xs) r K A
-    → Eaching i count at ks xs r to K A at count to K A
-each_start {i} {count} {at} {ks} {xs} {r} {to} {K} {A} v m = record {
+    → {left : ℕ} → left ≡ count → Eaching i count at ks xs r to K A at left to K A
+each_start {i} {count} {at} {ks} {xs} {r} {to} {K} {A} v m h = rw h record {
   run = v;
   going =
       subst (λ (n : ℕ). Going (zip_o (join_each (get_supertype i) (run_in count at ks xs) r))
@@ -101,20 +101,20 @@ module _ {i : SuperTypeOptions} {count at : ℕ} {ks xs : List ℕ} {r : DataTyp
         ap (λ (fs : Fields). zip_o (join_each (get_supertype i) fs r)) (run_is_field s.run p)
         ∙ each_step (get_supertype i) (get_or xs here 0) t others r
 
-    module _ {K'' A'' : List ℕ} {a : Joined} (w : Joins (headed kind.Field (get_or xs here 0))
+    module _ {K'' A'' : List ℕ} {a : Option ℕ} (w : Joins (headed (node kind.Field (get_or xs here 0)))
         (get_supertype i (type_in (here + 1) ks xs) r) end K' A' K'' A'' a) where
       -- its join is None
-      pub each_nothing : a ≡ Joined.Nothing
-          → Fills (zip_o (join_each (get_supertype i) (run_in count at ks xs) r)) to K A K'' A'' Filled.Nothing
+      pub each_nothing : a ≡ None
+          → Fills (join_each (get_supertype i) (run_in count at ks xs) r) to K A K'' A'' None
       each_nothing e =
-          going_nothing s.going (omega (arith, s.going.kinds, s.kinds, s.going.ends))
+          fills_ok _ (Err Unzipped.Nothing) (going_nothing s.going (omega (arith, s.going.kinds, s.kinds, s.going.ends))
           (omega (arith, s.going.args, s.args, s.going.ends))
           (still_joins w (omega (arith, s.kinds)) (omega (arith, s.args)))
           (rest_is ∙ ap (λ (q : Option DataType). zip_on (get_or xs here 0) q (zip_o (join_each (get_supertype i) others r)))
-          (told_none w e))
+          (told_none w e)))
 
-      module _ (n : ℕ) (e : a ≡ Joined.Nodes n) where
-        told : (st : DataType) × (get_supertype i t r ≡ some st) × (n ≡ suc (size st))
+      module _ (n : ℕ) (e : a ≡ Some n) where
+        told : (st : DataType) × (get_supertype i t r ≡ Some st) × (n ≡ suc (size st))
             × Wrote end (suc (size st)) (kind.Field ∷ kinds_of st) (get_or xs here 0 ∷ args_of st) K' A' K'' A''
         told = told_some w n e
 
@@ -129,9 +129,9 @@ module _ {i : SuperTypeOptions} {count at : ℕ} {ks xs : List ℕ} {r : DataTyp
         each_nodes = omega (arith, smaller, s.kinds, run_nodes s.run p, s.limit, s.going.kinds)
 
         -- its join was written: the next field
-        pub each_next : (past : ℕ) → past ≡ here + 1 + size (type_in (here + 1) ks xs) → length K'' ≡ length K'
+        each_past : (past : ℕ) → past ≡ here + 1 + size (type_in (here + 1) ks xs) → length K'' ≡ length K'
             → length A'' ≡ length A' → Eaching i count at ks xs r to K A past (left - 1) (end + n) K'' A''
-        each_next past q f g =
+        each_past past q f g =
             subst (λ (j : ℕ). Eaching i count at ks xs r to K A j (left - 1) (end + n) K'' A'') (sym q) record {
               run = others_in s.run p;
               going =
@@ -148,10 +148,15 @@ module _ {i : SuperTypeOptions} {count at : ℕ} {ks xs : List ℕ} {r : DataTyp
               args = omega (arith, smaller, s.args, run_nodes s.run p);
             }
 
+        pub each_next : {past rest : ℕ} → past ≡ here + 1 + size (type_in (here + 1) ks xs) → rest ≡ left - 1
+            → length K'' ≡ length K' → length A'' ≡ length A' → Eaching i count at ks xs r to K A past rest (end + n) K'' A''
+        each_next {past} {rest} q h f g = rw h (each_past past q f g)
+
   -- after the last field
   pub each_end : left ≡ 0 → (size : ℕ) → size ≡ end - to
-      → Fills (zip_o (join_each (get_supertype i) (run_in count at ks xs) r)) to K A K' A' (Filled.Fields count size)
+      → Fills (join_each (get_supertype i) (run_in count at ks xs) r) to K A K' A'
+      (Some (record { names = count; nodes = size }))
   each_end z size e =
-      going_end s.going count size (let y : count ≡ count - left = omega arith in y) e
+      fills_ok _ (Ok _) (going_end s.going count size (let y : count ≡ count - left = omega arith in y) e
       (ap (λ (fs : Fields). zip_o (join_each (get_supertype i) fs r)) (run_none left here ks xs z)
-      ∙ each_none (get_supertype i) r)
+      ∙ each_none (get_supertype i) r))

@@ -2,7 +2,7 @@
 use mathlib.Core.Path.{◌≡◌, refl, sym, ap, ap₂, ◌∙◌, subst}
 use mathlib.Core.Bool.{Bool, true, false, cond}
 use mathlib.Core.List.{List, [], ◌++◌, append-nil}
-use mathlib.Core.Option.{Option, none, some}
+use Rattle.std.specs.Prelude.{Option, None, Some}
 use Prim.Native.Nat.{ℕ, suc, ◌+◌, ◌-◌, ◌≤◌, ◌<◌}
 use native.Mathlib.Omega.{arith}
 use native.Mathlib.Nat.{zero-add}
@@ -28,12 +28,9 @@ use Rattle.supertype_nested.specs.Laws.{Each, LeavesFit, FieldsFit}
 use Rattle.supertype_nested.proofs.Found.{If, if_told}
 use Rattle.supertype_nested.proofs.Smaller.{Below, held_sizes, tree_smaller}
 use Rattle.supertype_nested.proofs.Valid.{leaves_fit}
-use Rattle.supertype_place.specs.declared.node.Joined.{Joined}
-use Rattle.supertype_place.specs.declared.run.Located.{Located}
-use Rattle.supertype_place.specs.declared.run.Located.TheVariants.{At, Missing}
 use Rattle.supertype_place.specs.Place.{from, type_in, run_in, most_nodes, TypeIn, RunIn}
-use Rattle.supertype_place.specs.Written.{RoomAt, Wrote, type_nodes, Joins}
-use Rattle.supertype_place.specs.Names.{FoundIn, LocatedIn}
+use Rattle.supertype_place.specs.Written.{Wrote, type_nodes, Joins}
+use Rattle.supertype_place.specs.Names.{FoundIn}
 use Rattle.supertype_place.proofs.Writes.{written_kinds, written_args}
 use Rattle.supertype_place.proofs.Places.{front, type_in_lem, type_of_lem, kinds_from, args_from_lem, type_good}
 use Rattle.supertype_walk.specs.Room.{JoinRoom, NameRoom, HeldAt, held_at, get_supertype}
@@ -99,10 +96,10 @@ module _ {to n : ℕ} {K A : List ℕ} (h : HeldAt to n K A) where
       ∙ take_at (args_of t) _ (size t) (length_args t)
 
   -- the held type as it stands
-  pub stays : Joins type_nodes (some (held_at to n K A)) to K A K A (Joined.Nodes n)
+  pub stays : Joins type_nodes (Some (held_at to n K A)) to K A K A (Some n)
   stays =
       record {
-        answers = ap Joined.Nodes (sym h.nodes);
+        answers = ap Some (sym h.nodes);
         wrote = record {
           kinds = ap (λ (i : ℕ). take (to + i) K) h.nodes ∙ take-add to n K
               ∙ ap (λ (l : List ℕ). take to K ++ l) kinds_held;
@@ -166,22 +163,12 @@ module _ {to n : ℕ} {K A : List ℕ} (h : HeldAt to n K A) where
 
 -- ---- the fields of a name
 
--- a field of the name was found
-pub place_at : (name : ℕ) (fs : Fields) (ks xs : List ℕ) (r : Located) (p left : ℕ) → LocatedIn name fs ks xs r
-    → r ≡ At p left → FoundIn name fs ks xs p left
-place_at name fs ks xs r p left h e = subst (LocatedIn name fs ks xs) e h
-
--- none was
-pub place_missing : (name : ℕ) (fs : Fields) (ks xs : List ℕ) (r : Located) → LocatedIn name fs ks xs r → r ≡ Missing
-    → named name fs ≡ empty
-place_missing name fs ks xs r h e = subst (LocatedIn name fs ks xs) e h
-
 -- a held type's joins rest on the fields of its name alone
 module _ (c : TreeCall) (name : ℕ) where
   on_held : (fs gs : Fields) → ((v : DataType) → join_named c name v fs ≡ join_named c name v gs)
       → (q : Option DataType) → bind_o q (λ st. join_named c name st fs) ≡ bind_o q (λ st. join_named c name st gs)
-  on_held fs gs h none = refl
-  on_held fs gs h (some v) = h v
+  on_held fs gs h None = refl
+  on_held fs gs h (Some v) = h v
 
   by_name : (u : DataType) (fs : Fields) → join_named c name u (named name fs) ≡ join_named c name u fs
   unfolding named join_named
@@ -208,27 +195,41 @@ module _ (c : TreeCall) (name : ℕ) where
       one = rw (eq-eqb name name refl) refl
 
   -- none of them
-  none_named : (u : DataType) (fs : Fields) → named name fs ≡ empty → some u ≡ join_named c name u fs
+  none_named : (u : DataType) (fs : Fields) → named name fs ≡ empty → Some u ≡ join_named c name u fs
   unfolding join_named
   none_named u fs e = sym (sym (by_name u fs) ∙ ap (join_named c name u) e)
 
 -- no field has the name
 pub none_left : (i : SuperTypeOptions) (name : ℕ) (u : DataType) (fs : Fields) {to : ℕ} {K A K' A' : List ℕ}
-    {r : Joined}
-    → named name fs ≡ empty → Joins type_nodes (some u) to K A K' A' r
+    {r : Option ℕ}
+    → named name fs ≡ empty → Joins type_nodes (Some u) to K A K' A' r
     → Joins type_nodes (join_named (get_supertype i) name u fs) to K A K' A' r
 none_left i name u fs e w = joins_is (none_named (get_supertype i) name u fs e) w
 
 held_fits : (i : SuperTypeOptions) (t u : DataType) → LeavesFit t → LeavesFit u → (st : DataType)
-    → join_held (get_supertype i) t u ≡ some st → LeavesFit st
+    → join_held (get_supertype i) t u ≡ Some st → LeavesFit st
 held_fits i t u f g st e = go (equal t u) e
   where
-    go : (b : Bool) → cond b (some u) (get_supertype i t u) ≡ some st → LeavesFit st
+    go : (b : Bool) → cond b (Some u) (get_supertype i t u) ≡ Some st → LeavesFit st
     go true h = subst (If LeavesFit) h g
     go false h = leaves_fit i i t u st f g h
 
+-- The held type u was joined with a field of the name, and k nodes are held: what the others of the name, the `left`
+-- fields from `past` on, are joined with.
+pub record Fed (i : SuperTypeOptions) (u : DataType) (name : ℕ) (fs : Fields) (ks xs : List ℕ) (left past to k : ℕ)
+    (K A K' A' : List ℕ) : Type 0 where
+  pub held : HeldAt to k K' A'
+  pub run : RunIn left past ks xs
+  -- for the measure
+  pub less : k + sizes (named name (run_in left past ks xs)) < size u + sizes (named name fs)
+  pub room : NameRoom to name (held_at to k K' A') (run_in left past ks xs) K' A'
+  -- the joins with the others are the joins with all
+  pub on : {K'' A'' : List ℕ} {a : Option ℕ}
+      → Joins type_nodes (join_named (get_supertype i) name (held_at to k K' A') (run_in left past ks xs)) to K' A' K'' A'' a
+      → Joins type_nodes (join_named (get_supertype i) name u fs) to K A K'' A'' a
+
 -- a field of the name was found at p, and the held type u is to be joined with it
-module _ (i : SuperTypeOptions) (u : DataType) (gu : LeavesFit u) (name : ℕ) (fs : Fields) (ks xs : List ℕ) (p left : ℕ)
+module _ (i : SuperTypeOptions) (u : DataType) (gu : LeavesFit u) {name : ℕ} {fs : Fields} {ks xs : List ℕ} {p left : ℕ}
     (f : FoundIn name fs ks xs p left) where
   abbrev t : DataType
   t = type_in p ks xs
@@ -253,7 +254,7 @@ module _ (i : SuperTypeOptions) (u : DataType) (gu : LeavesFit u) (name : ℕ) (
   pub found_less : size (type_in p ks xs) + size u < size u + sizes (named name fs)
   found_less = omega (arith, nodes_named)
 
-  module _ {to : ℕ} {K A K' A' : List ℕ} {r : Joined}
+  module _ {to : ℕ} {K A K' A' : List ℕ} {r : Option ℕ}
       (w : Joins type_nodes (join_held (get_supertype i) (type_in p ks xs) u) to K A K' A' r) (m : NameRoom to name u fs K A)
     where
       split : join_named (get_supertype i) name u fs
@@ -269,12 +270,12 @@ module _ (i : SuperTypeOptions) (u : DataType) (gu : LeavesFit u) (name : ℕ) (
       kept = still_joins w (omega (arith, m.kinds)) (omega (arith, m.args))
 
       -- the join is None
-      pub fed_none : r ≡ Joined.Nothing
-          → Joins type_nodes (join_named (get_supertype i) name u fs) to K A K' A' Joined.Nothing
-      fed_none e = joins_none (after_held none (told_none w e)) kept
+      pub fed_none : r ≡ None
+          → Joins type_nodes (join_named (get_supertype i) name u fs) to K A K' A' None
+      fed_none e = joins_none (after_held None (told_none w e)) kept
 
-      module _ (k : ℕ) (e : r ≡ Joined.Nodes k) (lk : length K' ≡ length K) (la : length A' ≡ length A) where
-        told : (st : DataType) × (join_held (get_supertype i) t u ≡ some st) × (k ≡ size st)
+      module _ (k : ℕ) (e : r ≡ Some k) (lk : length K' ≡ length K) (la : length A' ≡ length A) where
+        told : (st : DataType) × (join_held (get_supertype i) t u ≡ Some st) × (k ≡ size st)
             × Wrote to (size st) (kinds_of st) (args_of st) K A K' A'
         told = told_some w k e
 
@@ -302,7 +303,7 @@ module _ (i : SuperTypeOptions) (u : DataType) (gu : LeavesFit u) (name : ℕ) (
         is_fed = type_held told.0 fits to k K' A' wrote_k wrote_a told.2
 
         -- the join is held
-        pub fed_held : HeldAt to k K' A'
+        fed_held : HeldAt to k K' A'
         fed_held =
             held_of told.0 fits to k K' A' wrote_k wrote_a told.2 (omega (arith, smaller, nodes_named, m.kinds))
             (omega (arith, smaller, nodes_named, m.args))
@@ -318,7 +319,7 @@ module _ (i : SuperTypeOptions) (u : DataType) (gu : LeavesFit u) (name : ℕ) (
               args = omega (arith, fed_less, fed_held.nodes, m.args);
             }
 
-        fed_on : {K'' A'' : List ℕ} {a : Joined}
+        fed_on : {K'' A'' : List ℕ} {a : Option ℕ}
             → Joins type_nodes (join_named (get_supertype i) name (held_at to k K' A')
             (run_in left (p + size (type_in p ks xs)) ks xs)) to K' A' K'' A'' a
             → Joins type_nodes (join_named (get_supertype i) name u fs) to K A K'' A'' a
@@ -326,29 +327,29 @@ module _ (i : SuperTypeOptions) (u : DataType) (gu : LeavesFit u) (name : ℕ) (
             front_of
             (joins_is
             (ap (λ (v : DataType). join_named (get_supertype i) name v others) is_fed
-            ∙ sym (after_held (some told.0) told.1))
+            ∙ sym (after_held (Some told.0) told.1))
             j)
             kept
 
         -- with the place past it
         module _ (past : ℕ) (ep : past ≡ p + size (type_in p ks xs)) where
           -- the other fields
-          pub past_run : RunIn left past ks xs
+          past_run : RunIn left past ks xs
           past_run = subst (λ (j : ℕ). RunIn left j ks xs) (sym ep) f.others
 
           -- for the measure
-          pub past_less : k + sizes (named name (run_in left past ks xs)) < size u + sizes (named name fs)
+          past_less : k + sizes (named name (run_in left past ks xs)) < size u + sizes (named name fs)
           past_less =
               subst (λ (j : ℕ). k + sizes (named name (run_in left j ks xs)) < size u + sizes (named name fs)) (sym ep)
               fed_less
 
           -- room for the others of the name
-          pub past_room : NameRoom to name (held_at to k K' A') (run_in left past ks xs) K' A'
+          past_room : NameRoom to name (held_at to k K' A') (run_in left past ks xs) K' A'
           past_room =
               subst (λ (j : ℕ). NameRoom to name (held_at to k K' A') (run_in left j ks xs) K' A') (sym ep) fed_room
 
           -- the joins with the others are the joins with all
-          pub past_on : {K'' A'' : List ℕ} {a : Joined}
+          past_on : {K'' A'' : List ℕ} {a : Option ℕ}
               → Joins type_nodes (join_named (get_supertype i) name (held_at to k K' A') (run_in left past ks xs)) to K' A' K''
               A''
               a
@@ -360,7 +361,6 @@ module _ (i : SuperTypeOptions) (u : DataType) (gu : LeavesFit u) (name : ℕ) (
               Joins type_nodes (join_named (get_supertype i) name (held_at to k K' A') (run_in left b ks xs)) to K' A' K'' A'' a)
               ep j)
 
--- room for the held type alone
-pub name_whole : {to name : ℕ} {t : DataType} {fs : Fields} {K A : List ℕ} → NameRoom to name t fs K A
-    → RoomAt (to + size t) K A
-name_whole r = record { kinds = omega (arith, r.kinds); args = omega (arith, r.args) }
+          -- all of it
+          pub fed_of : Fed i u name fs ks xs left past to k K A K' A'
+          fed_of = record { held = fed_held; run = past_run; less = past_less; room = past_room; on = past_on }

@@ -1,19 +1,27 @@
 -- Fields written one after the other: what all the loops over fields keep. Assumes nothing.
 use mathlib.Core.Path.{◌≡◌, refl, sym, ap, ap₂, ◌∙◌, subst}
 use mathlib.Core.List.{List, [], ◌∷◌, ◌++◌, append_assoc, append-nil}
-use mathlib.Core.Option.{some}
+use Rattle.std.specs.Prelude.{Option, None, Some, Result, Ok, Err}
+use Rattle.std.specs.Result.{result_ok}
 use Prim.Native.Nat.{ℕ, suc, ◌+◌, ◌-◌, ◌≤◌}
 use native.Mathlib.Omega.{arith}
 use lib.ListN.{length, take}
 use Rattle.flat.specs.Kind as kind
+use Rattle.flat.proofs.Truths.{impossible}
 use Rattle.flat.specs.Tree.{DataType, Fields, empty, field, count, size, sizes, kinds_of, kinds_ofs, args_of, args_ofs}
 use Rattle.flat.specs.Tree.{append}
 use Rattle.supertype_nested.specs.Nested.{Zip, names_differ, no_join, joined, zip_on}
 use Rattle.supertype_place.specs.declared.node.Filled.{Filled}
 use Rattle.supertype_place.specs.Written.{Wrote, Fills}
-use Rattle.supertype_walk.specs.Going.{behind, Going}
+use Rattle.supertype_walk.specs.declared.walk.Unzipped.{Unzipped}
+use Rattle.supertype_walk.specs.Going.{behind, Going, Zipped}
 use Rattle.supertype_place.proofs.Fronts.{append_append, append_sizes}
 use Rattle.supertype_place.proofs.Writes.{and_then, still, not_yet}
+
+-- fields, or None, as what a loop over fields comes to
+abbrev pub zip_o : Option Fields → Zip
+zip_o None = no_join
+zip_o (Some fs) = joined fs
 
 -- ---- fields after fields
 none_after : (fs : Fields) → append fs empty ≡ fs
@@ -76,7 +84,7 @@ going_start z to K A =
 -- one field
 going_one : (name : ℕ) (t : DataType) (z : Zip) {end : ℕ} {K A K' A' : List ℕ}
     → Wrote end (suc (size t)) (kind.Field ∷ kinds_of t) (name ∷ args_of t) K A K' A' → length K' ≡ length K
-    → length A' ≡ length A → Going (zip_on name (some t) z) z end K A 1 (end + suc (size t)) K' A'
+    → length A' ≡ length A → Going (zip_on name (Some t) z) z end K A 1 (end + suc (size t)) K' A'
 unfolding append count size kinds_of args_of
 going_one name t z {end} {K} {A} {K'} {A'} w p q =
     record {
@@ -100,7 +108,7 @@ going_one name t z {end} {K} {A} {K'} {A'} w p q =
     nodes : sizes (field name t empty) ≡ suc (size t)
     nodes = omega arith
 
-    go : (z : Zip) → zip_on name (some t) z ≡ behind (field name t empty) z
+    go : (z : Zip) → zip_on name (Some t) z ≡ behind (field name t empty) z
     go names_differ = refl
     go no_join = refl
     go (joined fs) = refl
@@ -108,7 +116,7 @@ going_one name t z {end} {K} {A} {K'} {A'} w p q =
 module _ {whole rest : Zip} {to : ℕ} {K A : List ℕ} {names end : ℕ} {K' A' : List ℕ}
     (g : Going whole rest to K A names end K' A') where
   -- what has come so far, and then further
-  pub going_on : {rest' : Zip} {more end' : ℕ} {K'' A'' : List ℕ} → Going rest rest' end K' A' more end' K'' A''
+  going_on : {rest' : Zip} {more end' : ℕ} {K'' A'' : List ℕ} → Going rest rest' end K' A' more end' K'' A''
       → Going whole rest' to K A (names + more) end' K'' A''
   going_on {rest'} {more} {end'} {K''} {A''} h =
       record {
@@ -127,7 +135,7 @@ module _ {whole rest : Zip} {to : ℕ} {K A : List ℕ} {names end : ℕ} {K' A'
       }
 
   -- one field more
-  pub going_next : (name : ℕ) (t : DataType) (z : Zip) → rest ≡ zip_on name (some t) z → {K'' A'' : List ℕ}
+  pub going_next : (name : ℕ) (t : DataType) (z : Zip) → rest ≡ zip_on name (Some t) z → {K'' A'' : List ℕ}
       → Wrote end (suc (size t)) (kind.Field ∷ kinds_of t) (name ∷ args_of t) K' A' K'' A'' → (names' end' : ℕ)
       → names' ≡ names + 1 → end' ≡ end + suc (size t) → length K'' ≡ length K' → length A'' ≡ length A'
       → Going whole z to K A names' end' K'' A''
@@ -141,25 +149,34 @@ module _ {whole rest : Zip} {to : ℕ} {K A : List ℕ} {names end : ℕ} {K' A'
     front : Wrote to 0 [] [] K A K'' A''
     front = still h i (and_then g.wrote (subst (λ (i : ℕ). Wrote i 0 [] [] K' A' K'' A'') g.ends w))
 
-    pub going_nothing : rest ≡ no_join → Fills whole to K A K'' A'' Filled.Nothing
+    pub going_nothing : rest ≡ no_join → Zipped whole to K A K'' A'' (Err Unzipped.Nothing)
     going_nothing e =
-        subst (λ (z : Zip). Fills z to K A K'' A'' Filled.Nothing) (sym (g.same ∙ ap (behind g.done) e))
+        subst (λ (z : Zip). Zipped z to K A K'' A'' (Err Unzipped.Nothing)) (sym (g.same ∙ ap (behind g.done) e))
         record { answers = refl; wrote = front }
 
-    pub going_apart : rest ≡ names_differ → Fills whole to K A K'' A'' Filled.Apart
+    pub going_apart : rest ≡ names_differ → Zipped whole to K A K'' A'' (Err Unzipped.Apart)
     going_apart e =
-        subst (λ (z : Zip). Fills z to K A K'' A'' Filled.Apart) (sym (g.same ∙ ap (behind g.done) e))
+        subst (λ (z : Zip). Zipped z to K A K'' A'' (Err Unzipped.Apart)) (sym (g.same ∙ ap (behind g.done) e))
         record { answers = refl; wrote = front }
 
   -- nothing is to come
   pub going_end : (n s : ℕ) → n ≡ names → s ≡ end - to → rest ≡ joined empty
-      → Fills whole to K A K' A' (Filled.Fields n s)
+      → Zipped whole to K A K' A' (Ok (record { names = n; nodes = s }))
   going_end n s a b e =
       subst
-      (λ (z : Zip). Fills z to K A K' A' (Filled.Fields n s))
+      (λ (z : Zip). Zipped z to K A K' A' (Ok (record { names = n; nodes = s })))
       (sym (g.same ∙ ap (behind g.done) e ∙ ap joined (none_after g.done)))
       record {
         answers =
-            ap₂ Filled.Fields (a ∙ g.number) (let x : s ≡ sizes g.done = omega (arith, b, g.ends) in x);
+            ap₂ (λ (n s : ℕ). Ok (record { names = n; nodes = s })) (a ∙ g.number) (let x : s ≡ sizes g.done = omega (arith, b, g.ends) in x);
         wrote = g.wrote;
       }
+
+-- Fields, or None: never names that differ.
+pub fills_ok : (q : Option Fields) (r : Result Filled Unzipped) {to : ℕ} {K A K' A' : List ℕ}
+    → Zipped (zip_o q) to K A K' A' r → Fills q to K A K' A' (result_ok r)
+fills_ok None (Err Unzipped.Nothing) w = record { answers = refl; wrote = w.wrote }
+fills_ok None (Err Unzipped.Apart) w = let h = w.answers in impossible cc
+fills_ok None (Ok f) w = let h = w.answers in impossible cc
+fills_ok (Some fs) (Err e) w = let h = w.answers in impossible cc
+fills_ok (Some fs) (Ok f) w = record { answers = (let h = w.answers in cc); wrote = w.wrote }

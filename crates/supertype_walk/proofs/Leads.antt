@@ -2,23 +2,22 @@
 use mathlib.Core.Path.{◌≡◌, refl, sym, ap, ap₂, ◌∙◌, subst}
 use mathlib.Core.Bool.{true, false}
 use mathlib.Core.List.{List, [], ◌∷◌}
-use mathlib.Core.Option.{Option, none, some}
+use Rattle.std.specs.Prelude.{Option, Some}
 use Prim.Native.Nat.{ℕ, ◌+◌, ◌-◌, ◌*◌, ◌≤◌, ◌<◌}
 use native.Mathlib.Omega.{arith}
 use lib.ListN.{length, get_or}
 use Rattle.flat.specs.Kind as kind
-use Rattle.flat.specs.Tree.{DataType, leaf}
+use Rattle.flat.specs.Tree.{leaf}
 use Rattle.flat.proofs.Walks.{type_leaf}
 use Rattle.flat.proofs.Onward.{from_first}
-use Rattle.supertype_answer.specs.Join.{Node, node, Supertype, Some, Nothing, common_of}
-use Rattle.supertype_answer.specs.declared.Common.{Common}
+use Rattle.flat.specs.declared.Node.{Node}
+use Rattle.supertype_answer.specs.Join.{node, type_of}
 use Rattle.supertype_arms.specs.Node.{fits}
 use Rattle.supertype_arms.specs.Supertype.{supertype}
 use Rattle.supertype_arms.proofs.Recursive.{supertype_laws}
 use Rattle.supertype_nested.specs.Laws.{Each, LeavesFit}
 use Rattle.supertype_nested.specs.Nested.{SuperTypeOptions, tree_of}
 use Rattle.supertype_nested.proofs.Leaves.{leaf_law}
-use Rattle.supertype_place.specs.declared.node.Joined.{Joined}
 use Rattle.supertype_place.specs.Place.{from, type_in, TypeIn, RunIn, run_in}
 use Rattle.supertype_place.specs.Written.{Wrote, headed, Joins}
 use Rattle.supertype_place.proofs.Places.{leaf_one, leaf_joins}
@@ -39,15 +38,6 @@ module _ {at : ℕ} {ks xs : List ℕ} (v : TypeIn at ks xs) (h : get_or ks at 0
   unfolding fits Each
   leaf_fits_lem = subst LeavesFit leaf_at v.fits
 
--- what was found of two leaves
-found_some : (q : Supertype) (k v : ℕ) → Common.Some k v ≡ common_of q → tree_of q ≡ some (leaf k v)
-found_some (Some n) k v e = sym (ap leaf_of e)
-  where
-    leaf_of : Common → Option DataType
-    leaf_of (Common.Some k v) = some (leaf k v)
-    leaf_of Common.Nothing = none
-found_some Nothing k v e = absurd (let y : ◌≡◌ {A = ℕ} 0 1 = cc in omega arith)
-
 -- ---- the loop
 
 -- Of the count fields of both the first n, leaves all, are joined.
@@ -61,11 +51,7 @@ module _ {i : SuperTypeOptions} {count at : ℕ} {ks xs : List ℕ} {by : ℕ} {
   moved : {here there left end here' there' left' end' : ℕ} {K' A' : List ℕ} → here ≡ here' → there ≡ there'
       → left ≡ left' → end ≡ end' → Zipping i count at ks xs by ls ys to K A here there left end K' A'
       → Zipping i count at ks xs by ls ys to K A here' there' left' end' K' A'
-  moved {here} {there} {left} {end} {here'} {there'} {left'} {end'} {K'} {A'} e f g h z =
-      subst (λ (j : ℕ). Zipping i count at ks xs by ls ys to K A j there' left' end' K' A') e
-      (subst (λ (j : ℕ). Zipping i count at ks xs by ls ys to K A here j left' end' K' A') f
-      (subst (λ (j : ℕ). Zipping i count at ks xs by ls ys to K A here there j end' K' A') g
-      (subst (λ (j : ℕ). Zipping i count at ks xs by ls ys to K A here there left j K' A') h z)))
+  moved e f g h z = rw (sym e, sym f, sym g, sym h) z
 
   pub lead_start : RunIn count at ks xs → RunIn count by ls ys
       → RunRoom to (run_in count at ks xs) (run_in count by ls ys) K A → Leads i count at ks xs by ls ys to K A 0 K A
@@ -87,26 +73,26 @@ module _ {i : SuperTypeOptions} {count at : ℕ} {ks xs : List ℕ} {by : ℕ} {
 
     -- one field more
     module _ (d : get_or xs (at + 2 * n) 0 ≡ get_or ys (by + 2 * n) 0) (a : get_or ks (at + 2 * n + 1) 0 < kind.List)
-        (b : get_or ls (by + 2 * n + 1) 0 < kind.List) (k v : ℕ) {found : Common} (e : found ≡ Common.Some k v)
-        (c : found ≡ common_of (supertype false i.allow_primitive_to_string l r)) {K'' A'' K''' A''' : List ℕ}
+        (b : get_or ls (by + 2 * n + 1) 0 < kind.List) (j : Node) {found : Option Node} (e : found ≡ Some j)
+        (c : found ≡ supertype false i.allow_primitive_to_string l r) {K'' A'' K''' A''' : List ℕ}
         (w : Wrote (to + 2 * n) 1 (kind.Field ∷ []) (get_or xs (at + 2 * n) 0 ∷ []) K' A' K'' A'')
-        (z : Wrote (to + 2 * n + 1) 1 (k ∷ []) (v ∷ []) K'' A'' K''' A''') (f : length K''' ≡ length K')
+        (z : Wrote (to + 2 * n + 1) 1 (j.kind ∷ []) (j.arg ∷ []) K'' A'' K''' A''') (f : length K''' ≡ length K')
         (g : length A''' ≡ length A') where
-      answer : get_supertype i (type_in (at + 2 * n + 1) ks xs) (type_in (by + 2 * n + 1) ls ys) ≡ some (leaf k v)
+      answer : get_supertype i (type_in (at + 2 * n + 1) ks xs) (type_in (by + 2 * n + 1) ls ys) ≡ Some (type_of j)
       answer =
           ap₂ (get_supertype i) (leaf_at lead_left a) (leaf_at lead_right b)
           ∙ leaf_law i i l.kind l.arg r.kind r.arg (omega arith) (omega arith)
           ∙ ap tree_of (supertype_laws.implode i.allow_implode_list false i.allow_primitive_to_string l r)
-          ∙ found_some (supertype false i.allow_primitive_to_string l r) k v (sym e ∙ c)
+          ∙ ap tree_of (sym c ∙ e)
 
-      joins : Joins (headed kind.Field (get_or xs (at + 2 * n) 0))
+      joins : Joins (headed (node kind.Field (get_or xs (at + 2 * n) 0)))
           (get_supertype i (type_in (at + 2 * n + 1) ks xs) (type_in (by + 2 * n + 1) ls ys)) (to + 2 * n) K' A' K''' A'''
-          (Joined.Nodes 2)
+          (Some 2)
       joins = rw answer (under_some w (leaf_joins z) 1 refl)
 
       pub lead_next : Leads i count at ks xs by ls ys to K A (n + 1) K''' A'''
       lead_next = (
         omega arith,
-        moved refl refl (omega arith) (omega arith) (zip_next s.1 (omega arith) d joins 2 refl (at + 2 * (n + 1))
-            (by + 2 * (n + 1)) (omega (arith, leaf_one lead_left a)) (omega (arith, leaf_one lead_right b)) f g),
+        moved refl refl refl (omega arith) (zip_next s.1 (omega arith) d joins 2 refl
+            (omega (arith, leaf_one lead_left a)) (omega (arith, leaf_one lead_right b)) (omega arith) f g),
       )

@@ -2,27 +2,27 @@
 use mathlib.Core.Path.{◌≡◌, refl, sym, ap, ap₂, ◌∙◌, subst}
 use mathlib.Core.Bool.{Bool, true, false}
 use mathlib.Core.List.{List, [], ◌∷◌}
-use mathlib.Core.Option.{Option, some}
+use Rattle.std.specs.Prelude.{Option, None, Some, Ok, Err}
 use Prim.Native.Nat.{ℕ, suc, ◌+◌, ◌-◌, ◌≤◌, ◌<◌}
 use native.Mathlib.Omega.{arith}
 use lib.ListN.{length, get_or}
 use Rattle.flat.specs.Kind as kind
 use Rattle.flat.specs.Tree.{DataType, Fields, empty, field, append, size, sizes, kinds_of, args_of}
 use Rattle.flat.proofs.Sizes.{count_le}
+use Rattle.supertype_answer.specs.Join.{node}
 use Rattle.supertype_nested.specs.Nested.{SuperTypeOptions, TreeCall, Zip, joined, zip_on}
 use Rattle.supertype_nested.specs.Step.{repeats}
 use Rattle.supertype_nested.specs.Union.{named, join_named, seen, with_names, new_names, outside}
 use Rattle.supertype_nested.proofs.Found.{if_told}
-use Rattle.supertype_place.specs.declared.node.Joined.{Joined}
-use Rattle.supertype_place.specs.declared.node.Filled.{Filled}
+use Rattle.supertype_walk.specs.declared.walk.Unzipped.{Unzipped}
 use Rattle.supertype_place.specs.Place.{type_in, run_in, most_nodes, RunIn}
 use Rattle.supertype_place.specs.Written.{Wrote, headed, Joins, Fills}
 use Rattle.supertype_place.proofs.Places.{run_is_field, run_none}
 use Rattle.supertype_place.proofs.Fronts.{append_sizes, Along, along_start, along_next}
 use Rattle.supertype_place.proofs.Repeats.{once_new}
-use Rattle.supertype_walk.specs.Room.{NewRoom, NameRoom, get_supertype, zip_o}
+use Rattle.supertype_walk.specs.Room.{NewRoom, NameRoom, get_supertype}
 use Rattle.supertype_walk.specs.Going.{Going}
-use Rattle.supertype_walk.proofs.Going.{going_start, going_next, going_nothing, going_end}
+use Rattle.supertype_walk.proofs.Going.{zip_o, going_start, going_next, going_nothing, going_end, fills_ok}
 use Rattle.supertype_walk.proofs.Seens.{names_start, names_next, zip_before, out_field, out_seen}
 use Rattle.supertype_walk.proofs.Told.{told_none, told_some, still_joins, named_sizes}
 use Rattle.supertype_walk.proofs.Unions.{parted, some_sizes}
@@ -85,14 +85,14 @@ module _ {i : SuperTypeOptions} {fs : Fields} {n by : ℕ} {ks xs : List ℕ} {t
       omega (arith, s.going.number, s.going.ends, count_le s.going.done, s.kinds, s.going.kinds, s.limit)
 
   pub new_end : left ≡ 0 → (size : ℕ) → size ≡ end - to
-      → Fills (zip_o (new_names (get_supertype i) (with_names fs []) (run_in n by ks xs))) to K A K' A'
-      (Filled.Fields names size)
+      → Fills (new_names (get_supertype i) (with_names fs []) (run_in n by ks xs)) to K A K' A'
+      (Some (record { names = names; nodes = size }))
   new_end z size e =
-      going_end s.going names size refl e
+      fills_ok _ (Ok _) (going_end s.going names size refl e
       (ap
       (λ (gs : Fields). zip_o (new_names (get_supertype i) (with_names (run_in (n - left) by ks xs) (with_names fs [])) gs))
       (run_none left here ks xs z)
-      ∙ new_none (get_supertype i) (with_names (run_in (n - left) by ks xs) (with_names fs [])))
+      ∙ new_none (get_supertype i) (with_names (run_in (n - left) by ks xs) (with_names fs []))))
 
   module _ (p : left ≡ 0 → ⊥) (past : ℕ) (q : past ≡ here + 1 + size (type_in (here + 1) ks xs)) where
     abbrev ns : List ℕ
@@ -125,23 +125,24 @@ module _ {i : SuperTypeOptions} {fs : Fields} {n by : ℕ} {ks xs : List ℕ} {t
     pub new_others : RunIn (left - 1) past ks xs
     new_others = on.others
 
-    -- no name is repeated
-    pub new_once : repeats [] (run_in n by ks xs) ≡ false
-        → seen (with_names (run_in (n - left) by ks xs) []) name ≡ false
-    new_once e =
-        once_new name (run_in (n - left) by ks xs) t others
-        (ap (repeats []) (sym (s.along.parts ∙ ap (append (run_in (n - left) by ks xs)) rest_is)) ∙ e)
+    -- of the fields before, by their number
+    module _ {done : ℕ} (e : done ≡ n - left) where
+      -- no name is repeated
+      pub new_once : repeats [] (run_in n by ks xs) ≡ false → seen (with_names (run_in done by ks xs) []) name ≡ false
+      new_once h =
+          ap (λ (i : ℕ). seen (with_names (run_in i by ks xs) []) name) e
+          ∙ once_new name (run_in (n - left) by ks xs) t others
+          (ap (repeats []) (sym (s.along.parts ∙ ap (append (run_in (n - left) by ks xs)) rest_is)) ∙ h)
 
-    -- what the test of the name tells, which answers r
-    pub new_unseen : (r : Bool) → r ≡ seen ns name
-        → r ≡ false → seen ns name ≡ false
-    new_unseen r e f = sym e ∙ f
+      -- what the test of the name tells, which answers r
+      pub new_told : {r b : Bool} → r ≡ seen (with_names (run_in done by ks xs) (with_names fs [])) name → r ≡ b
+          → seen ns name ≡ b
+      new_told h f =
+          ap (λ (i : ℕ). seen (with_names (run_in i by ks xs) (with_names fs [])) name) (sym e) ∙ sym h ∙ f
 
     -- the name was seen
-    pub new_skip : (r : Bool) → r ≡ seen ns name
-        → r ≡ true → Newing i fs n by ks xs to K A past end (left - 1) names K' A'
-    new_skip r e' f =
-        let e : seen ns name ≡ true = sym e' ∙ f in
+    pub new_skip : seen ns name ≡ true → Newing i fs n by ks xs to K A past end (left - 1) names K' A'
+    new_skip e =
         let out : sizes (outside ns (run_in left here ks xs)) ≡ sizes (outside ns' others) =
         ap sizes
         (ap (outside ns) rest_is
@@ -198,18 +199,18 @@ module _ {i : SuperTypeOptions} {fs : Fields} {n by : ℕ} {ks xs : List ℕ} {t
           ≡ zip_on name (join_named c name t others) (zip_o (new_names c (name ∷ ns) others))
       step = ap (λ (gs : Fields). zip_o (new_names c ns gs)) rest_is ∙ new_new c ns name t others k
 
-      module _ {K'' A'' : List ℕ} {a : Joined}
-          (w : Joins (headed kind.Field name) (join_named c name t others) end K' A' K'' A'' a) where
-        pub new_nothing : a ≡ Joined.Nothing
-            → Fills (zip_o (new_names c (with_names fs []) (run_in n by ks xs))) to K A K'' A'' Filled.Nothing
+      module _ {K'' A'' : List ℕ} {a : Option ℕ}
+          (w : Joins (headed (node kind.Field name)) (join_named c name t others) end K' A' K'' A'' a) where
+        pub new_nothing : a ≡ None
+            → Fills (new_names c (with_names fs []) (run_in n by ks xs)) to K A K'' A'' None
         new_nothing e =
-            going_nothing s.going (omega (arith, s.going.kinds, s.kinds, s.going.ends))
+            fills_ok _ (Err Unzipped.Nothing) (going_nothing s.going (omega (arith, s.going.kinds, s.kinds, s.going.ends))
             (omega (arith, s.going.args, s.args, s.going.ends))
             (still_joins w (omega (arith, s.kinds)) (omega (arith, s.args)))
-            (step ∙ ap (λ (o : Option DataType). zip_on name o (zip_o (new_names c (name ∷ ns) others))) (told_none w e))
+            (step ∙ ap (λ (o : Option DataType). zip_on name o (zip_o (new_names c (name ∷ ns) others))) (told_none w e)))
 
-        module _ (j : ℕ) (e : a ≡ Joined.Nodes j) where
-          told : (st : DataType) × (join_named c name t others ≡ some st) × (j ≡ suc (size st))
+        module _ (j : ℕ) (e : a ≡ Some j) where
+          told : (st : DataType) × (join_named c name t others ≡ Some st) × (j ≡ suc (size st))
               × Wrote end (suc (size st)) (kind.Field ∷ kinds_of st) (name ∷ args_of st) K' A' K'' A''
           told = told_some w j e
 

@@ -2,30 +2,29 @@
 use mathlib.Core.Path.{◌≡◌, refl, sym, ap, ap₂, ◌∙◌, subst}
 use mathlib.Core.Bool.{true, false}
 use mathlib.Core.List.{List, [], ◌∷◌}
-use mathlib.Core.Option.{Option, some}
+use Rattle.std.specs.Prelude.{Option, None, Some, Ok, Err}
 use Prim.Native.Nat.{ℕ, suc, ◌+◌, ◌-◌, ◌≤◌, ◌<◌}
 use native.Mathlib.Omega.{arith}
 use lib.ListN.{length, get_or}
 use Rattle.flat.specs.Kind as kind
 use Rattle.flat.specs.Tree.{DataType, Fields, empty, field, append, size, sizes, kinds_of, args_of}
 use Rattle.flat.proofs.Sizes.{count_le}
+use Rattle.supertype_answer.specs.Join.{node}
 use Rattle.supertype_nested.specs.Nested.{SuperTypeOptions, TreeCall, Zip, joined, zip_on}
 use Rattle.supertype_nested.specs.Step.{repeats}
 use Rattle.supertype_nested.specs.Union.{named, last_or, join_named, seen, with_names, old_names, outside}
 use Rattle.supertype_nested.proofs.Found.{if_told}
 use Rattle.supertype_nested.proofs.Names.{out_same, outside_none}
-use Rattle.supertype_place.specs.declared.names.LastType.{LastType}
-use Rattle.supertype_place.specs.declared.node.Joined.{Joined}
-use Rattle.supertype_place.specs.declared.node.Filled.{Filled}
-use Rattle.supertype_place.specs.Names.{LastIn, LastTypeIn, Once}
+use Rattle.supertype_walk.specs.declared.walk.Unzipped.{Unzipped}
+use Rattle.supertype_place.specs.Names.{LastIn, Once}
 use Rattle.supertype_place.specs.Place.{type_in, run_in, most_nodes, RunIn}
 use Rattle.supertype_place.specs.Written.{Wrote, headed, Joins, Fills}
 use Rattle.supertype_place.proofs.Places.{run_is_field, run_none}
 use Rattle.supertype_place.proofs.Fronts.{append_sizes, Along, along_start, along_next}
 use Rattle.supertype_place.proofs.Repeats.{once}
-use Rattle.supertype_walk.specs.Room.{RunRoom, NameRoom, get_supertype, zip_o}
+use Rattle.supertype_walk.specs.Room.{RunRoom, NameRoom, get_supertype}
 use Rattle.supertype_walk.specs.Going.{Going}
-use Rattle.supertype_walk.proofs.Going.{going_start, going_next, going_nothing, going_end}
+use Rattle.supertype_walk.proofs.Going.{zip_o, going_start, going_next, going_nothing, going_end, fills_ok}
 use Rattle.supertype_walk.proofs.Seens.{names_start, names_next, zip_before, out_field, out_seen}
 use Rattle.supertype_walk.proofs.Told.{told_none, told_some, still_joins, named_sizes}
 use Rattle.supertype_walk.proofs.Unions.{parted, last_sizes, some_sizes}
@@ -92,12 +91,13 @@ module _ {i : SuperTypeOptions} {m at : ℕ} {ks xs : List ℕ} {gs : Fields} {t
       omega (arith, s.going.number, s.going.ends, count_le s.going.done, s.kinds, s.going.kinds, s.limit)
 
   pub old_end : left ≡ 0 → (size : ℕ) → size ≡ end - to
-      → Fills (zip_o (old_names (get_supertype i) gs [] (run_in m at ks xs))) to K A K' A' (Filled.Fields names size)
+      → Fills (old_names (get_supertype i) gs [] (run_in m at ks xs)) to K A K' A'
+      (Some (record { names = names; nodes = size }))
   old_end z size e =
-      going_end s.going names size refl e
+      fills_ok _ (Ok _) (going_end s.going names size refl e
       (ap (λ (fs : Fields). zip_o (old_names (get_supertype i) gs (with_names (run_in (m - left) at ks xs) []) fs))
       (run_none left here ks xs z)
-      ∙ old_none (get_supertype i) gs (with_names (run_in (m - left) at ks xs) []))
+      ∙ old_none (get_supertype i) gs (with_names (run_in (m - left) at ks xs) [])))
 
   module _ (p : left ≡ 0 → ⊥) (past : ℕ) (q : past ≡ here + 1 + size (type_in (here + 1) ks xs)) where
     abbrev before : Fields
@@ -136,28 +136,20 @@ module _ {i : SuperTypeOptions} {m at : ℕ} {ks xs : List ℕ} {gs : Fields} {t
     pub old_others : RunIn (left - 1) past ks xs
     old_others = on.others
 
-    -- no name is repeated
-    pub old_once : repeats [] (run_in m at ks xs) ≡ false
-        → Once name before others
-    old_once e =
-        once name before t others
-        (ap (repeats []) (sym (s.along.parts ∙ ap (append before) rest_is)) ∙ e)
+    -- of the fields before, by their number
+    module _ {done : ℕ} (e : done ≡ m - left) where
+      -- no name is repeated
+      pub old_once : repeats [] (run_in m at ks xs) ≡ false → Once name (run_in done at ks xs) others
+      old_once h =
+          rw e (once name before t others (ap (repeats []) (sym (s.along.parts ∙ ap (append before) rest_is)) ∙ h))
 
-    -- what is kept of the field: its name was seen, or its last type stands at a place
-    abbrev Keeps : LastType → Type 0
-    Keeps = LastTypeIn name before t others ks xs
+      -- what is kept of the field: its last type stands at a place, or its name was seen
+      pub old_last : {last : ℕ} → LastIn name (run_in done at ks xs) t others ks xs last
+          → LastIn name before t others ks xs last
+      old_last {last} k = subst (λ (i : ℕ). LastIn name (run_in i at ks xs) t others ks xs last) e k
 
-    pub old_last : (last : ℕ) (r : LastType)
-        → LastTypeIn name before t others ks xs r
-        → r ≡ LastType.At last
-        → LastIn name before t others ks xs
-        last
-    old_last last r k e = subst Keeps e k
-
-    pub old_was_seen : (r : LastType)
-        → LastTypeIn name before t others ks xs r
-        → r ≡ LastType.Seen → seen ns name ≡ true
-    old_was_seen r k e = subst Keeps e k
+      pub old_was_seen : seen (with_names (run_in done at ks xs) []) name ≡ true → seen ns name ≡ true
+      old_was_seen k = subst (λ (i : ℕ). seen (with_names (run_in i at ks xs) []) name ≡ true) e k
 
     -- the name was seen
     pub old_skip : seen ns name ≡ true
@@ -231,19 +223,19 @@ module _ {i : SuperTypeOptions} {m at : ℕ} {ks xs : List ℕ} {gs : Fields} {t
           ∙ ap (λ (u : DataType). zip_on name (join_named c name u gs) (zip_o (old_names c gs (name ∷ ns) others)))
           (sym k.last)
 
-      module _ {K'' A'' : List ℕ} {a : Joined}
-          (w : Joins (headed kind.Field name) (join_named c name (type_in last ks xs) gs) end K' A' K'' A'' a) where
-        pub old_nothing : a ≡ Joined.Nothing
-            → Fills (zip_o (old_names c gs [] (run_in m at ks xs))) to K A K'' A'' Filled.Nothing
+      module _ {K'' A'' : List ℕ} {a : Option ℕ}
+          (w : Joins (headed (node kind.Field name)) (join_named c name (type_in last ks xs) gs) end K' A' K'' A'' a) where
+        pub old_nothing : a ≡ None
+            → Fills (old_names c gs [] (run_in m at ks xs)) to K A K'' A'' None
         old_nothing e =
-            going_nothing s.going (omega (arith, s.going.kinds, s.kinds, s.going.ends))
+            fills_ok _ (Err Unzipped.Nothing) (going_nothing s.going (omega (arith, s.going.kinds, s.kinds, s.going.ends))
             (omega (arith, s.going.args, s.args, s.going.ends))
             (still_joins w (omega (arith, s.kinds)) (omega (arith, s.args)))
             (step
-            ∙ ap (λ (o : Option DataType). zip_on name o (zip_o (old_names c gs (name ∷ ns) others))) (told_none w e))
+            ∙ ap (λ (o : Option DataType). zip_on name o (zip_o (old_names c gs (name ∷ ns) others))) (told_none w e)))
 
-        module _ (n : ℕ) (e : a ≡ Joined.Nodes n) where
-          told : (st : DataType) × (join_named c name (type_in last ks xs) gs ≡ some st) × (n ≡ suc (size st))
+        module _ (n : ℕ) (e : a ≡ Some n) where
+          told : (st : DataType) × (join_named c name (type_in last ks xs) gs ≡ Some st) × (n ≡ suc (size st))
               × Wrote end (suc (size st)) (kind.Field ∷ kinds_of st) (name ∷ args_of st) K' A' K'' A''
           told = told_some w n e
 

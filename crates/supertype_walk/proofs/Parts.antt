@@ -1,7 +1,7 @@
 -- The root of a type at its place, and the parts under it. Assumes nothing.
 use mathlib.Core.Path.{◌≡◌, refl, sym, ap, ap₂, ◌∙◌, subst}
 use mathlib.Core.List.{List}
-use mathlib.Core.Option.{some}
+use Rattle.std.specs.Prelude.{Some}
 use Prim.Native.Nat.{ℕ, suc, ◌+◌, ◌-◌, ◌≤◌, ◌<◌}
 use native.Mathlib.Omega.{arith}
 use lib.Dec.{leb}
@@ -58,7 +58,7 @@ wraps_kind array_wraps = (omega arith, λ e. omega arith)
 pub list_kind : (t : DataType) → head_kind t ≡ kind.List → (kind.List ≤ head_kind t) × (head_kind t ≡ kind.Struct → ⊥)
 list_kind t e = (omega arith, λ h. omega arith)
 
-unary_inner : {k a : ℕ} {f : DataType → DataType} → Unary k a f → (t : DataType) → inner_dtype (f t) ≡ some t
+unary_inner : {k a : ℕ} {f : DataType → DataType} → Unary k a f → (t : DataType) → inner_dtype (f t) ≡ Some t
 unfolding inner_dtype
 unary_inner Unary.is_list t = refl
 unary_inner Unary.is_array t = refl
@@ -89,7 +89,7 @@ module _ {at : ℕ} {ks xs : List ℕ} (v : TypeIn at ks xs)
   under_valid =
       rw (past at ks, past at xs) at (one_valid (from at ks) (from at xs) v.valid over_kind.0 over_kind.1)
 
-  pub inner_is : inner_dtype (type_in at ks xs) ≡ some (type_in (at + 1) ks xs)
+  pub inner_is : inner_dtype (type_in at ks xs) ≡ Some (type_in (at + 1) ks xs)
   inner_is = ap inner_dtype one_under.2 ∙ unary_inner one_under.1 (type_in (at + 1) ks xs)
 
   pub inner_nodes_lem : size (type_in at ks xs) ≡ suc (size (type_in (at + 1) ks xs))

@@ -3,7 +3,7 @@
 use mathlib.Core.Path.{◌≡◌, refl, sym, ap, ◌∙◌}
 use mathlib.Core.Bool.{true, false}
 use mathlib.Core.List.{List, ◌∷◌}
-use mathlib.Core.Option.{Option, none, some}
+use Rattle.std.specs.Prelude.{Option, None, Some}
 use Prim.Native.Nat.{ℕ, suc, ◌+◌, ◌-◌}
 use native.Mathlib.Omega.{arith}
 use lib.ListN.{get_or}
@@ -16,7 +16,7 @@ use Rattle.supertype_place.specs.Place.{run_in}
 use Rattle.supertype_place.proofs.Places.{run_none}
 use Rattle.supertype_place.proofs.Fronts.{Along, along_grown}
 use Rattle.supertype_place.proofs.Repeats.{append_names}
-use Rattle.supertype_walk.specs.Room.{zip_o}
+use Rattle.supertype_walk.proofs.Going.{zip_o}
 
 -- the names before the first field are those that were there
 pub names_start : (m at : ℕ) (ks xs ns : List ℕ) → with_names (run_in (m - m) at ks xs) ns ≡ ns
@@ -35,9 +35,9 @@ names_next {m} {at} {ks} {xs} {here} {left} a p ns =
 -- a field before fields, as what a loop comes to
 pub zip_before : (name : ℕ) (p : Option DataType) (q : Option Fields)
     → zip_o (bind_o p (λ st. map_o (field name st) q)) ≡ zip_on name p (zip_o q)
-zip_before name none q = refl
-zip_before name (some st) none = refl
-zip_before name (some st) (some fs) = refl
+zip_before name None q = refl
+zip_before name (Some st) None = refl
+zip_before name (Some st) (Some fs) = refl
 
 -- the fields of names not seen, at a field
 pub out_field : (ns : List ℕ) (name : ℕ) (t : DataType) (fs : Fields) → seen ns name ≡ false

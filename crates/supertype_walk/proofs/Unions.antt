@@ -2,7 +2,7 @@
 use mathlib.Core.Path.{◌≡◌, refl, sym, ap, ◌∙◌}
 use mathlib.Core.Bool.{Bool, true, false, cond, ◌||◌}
 use mathlib.Core.List.{List, ◌∷◌}
-use mathlib.Core.Option.{Option, none, some}
+use Rattle.std.specs.Prelude.{Option, None, Some}
 use Prim.Native.Nat.{ℕ, suc, ◌+◌, ◌≤◌}
 use native.Mathlib.Omega.{arith}
 use lib.Dec.{eqb}
@@ -63,9 +63,9 @@ before_sizes : (name w n m k : ℕ) (p : Option DataType) (q : Option Fields) �
     → If (λ hs. sizes hs + w ≤ m) q → suc n + m ≤ k
     → If (λ hs. sizes hs + w ≤ k) (bind_o p (λ st. map_o (field name st) q))
 unfolding size
-before_sizes name w n m k none q h g e = tt
-before_sizes name w n m k (some st) none h g e = tt
-before_sizes name w n m k (some st) (some hs) h g e = omega arith
+before_sizes name w n m k None q h g e = tt
+before_sizes name w n m k (Some st) None h g e = tt
+before_sizes name w n m k (Some st) (Some hs) h g e = omega arith
 
 module _ (i : SuperTypeOptions) where
   abbrev c : TreeCall

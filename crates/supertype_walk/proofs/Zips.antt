@@ -1,26 +1,26 @@
 -- The fields of two runs, two by two: what the loop keeps. Assumes nothing.
 use mathlib.Core.Path.{◌≡◌, refl, sym, ap, ap₂, ◌∙◌, subst}
 use mathlib.Core.List.{List, ◌∷◌}
-use mathlib.Core.Option.{Option, none, some}
+use Rattle.std.specs.Prelude.{Option, None, Some, Ok, Err}
 use Prim.Native.Nat.{ℕ, suc, ◌+◌, ◌-◌, ◌≤◌, ◌<◌}
 use native.Mathlib.Omega.{arith}
 use lib.ListN.{length, get_or}
 use borrow.Author.Tests.{eq-eqb, ne_eqb}
 use Rattle.flat.specs.Kind as kind
 use Rattle.flat.specs.Tree.{DataType, Fields, empty, field, size, sizes, kinds_of, args_of}
+use Rattle.supertype_answer.specs.Join.{node}
 use Rattle.supertype_nested.specs.Nested.{SuperTypeOptions, TreeCall, Zip, names_differ, joined, zip_on, zip_fields}
 use Rattle.supertype_nested.proofs.Found.{If}
 use Rattle.supertype_nested.proofs.Smaller.{tree_smaller}
-use Rattle.supertype_place.specs.declared.node.Joined.{Joined}
-use Rattle.supertype_place.specs.declared.node.Filled.{Filled}
+use Rattle.supertype_walk.specs.declared.walk.Unzipped.{Unzipped}
 use Rattle.supertype_place.specs.Place.{type_in, run_in, most_nodes, TypeIn, RunIn}
-use Rattle.supertype_place.specs.Written.{Wrote, headed, Joins, Fills}
+use Rattle.supertype_place.specs.Written.{Wrote, headed, Joins}
 use Rattle.supertype_place.proofs.Writes.{not_yet}
 use Rattle.supertype_place.proofs.Places.{field_in, others_in, run_is_field, run_nodes, run_none}
-use Rattle.supertype_walk.specs.Going.{Going, zip_in, Zipping}
+use Rattle.supertype_walk.specs.Going.{Going, zip_in, Zipping, Zipped}
 use Rattle.supertype_walk.specs.Room.{JoinRoom, RunRoom, get_supertype}
 use Rattle.supertype_walk.proofs.Told.{told_none, told_some, still_joins}
-use Rattle.supertype_walk.proofs.Going.{going_start, going_on, going_next, going_nothing, going_apart, going_end}
+use Rattle.supertype_walk.proofs.Going.{going_start, going_next, going_nothing, going_apart, going_end}
 
 -- ---- fields two by two
 zip_yes : (c : TreeCall) (n m : ℕ) (t u : DataType) (fs gs : Fields) → n ≡ m
@@ -110,13 +110,13 @@ module _ {i : SuperTypeOptions} {count at : ℕ} {ks xs : List ℕ} {by : ℕ} {
 
     -- a name out of place
     pub zip_apart : (get_or xs here 0 ≡ get_or ys there 0 → ⊥)
-        → Fills (zip_in i count at ks xs by ls ys) to K A K' A' Filled.Apart
+        → Zipped (zip_in i count at ks xs by ls ys) to K A K' A' (Err Unzipped.Apart)
     zip_apart e =
         going_apart s.going room_kinds room_args (not_yet end K' A')
         (runs_are ∙ zip_no (get_supertype i) (get_or xs here 0) (get_or ys there 0) t u others others' e)
 
-    module _ (d : get_or xs here 0 ≡ get_or ys there 0) {K'' A'' : List ℕ} {a : Joined}
-        (w : Joins (headed kind.Field (get_or xs here 0))
+    module _ (d : get_or xs here 0 ≡ get_or ys there 0) {K'' A'' : List ℕ} {a : Option ℕ}
+        (w : Joins (headed (node kind.Field (get_or xs here 0)))
         (get_supertype i (type_in (here + 1) ks xs) (type_in (there + 1) ls ys)) end K' A' K'' A'' a) where
       -- by what the two types come to
       rest_is : (q : Option DataType) → get_supertype i t u ≡ q
@@ -125,14 +125,15 @@ module _ {i : SuperTypeOptions} {count at : ℕ} {ks xs : List ℕ} {by : ℕ} {
           runs_are ∙ zip_yes (get_supertype i) (get_or xs here 0) (get_or ys there 0) t u others others' d
           ∙ ap (λ (q : Option DataType). zip_on (get_or xs here 0) q later) e
 
-      pub zip_nothing : a ≡ Joined.Nothing → Fills (zip_in i count at ks xs by ls ys) to K A K'' A'' Filled.Nothing
+      pub zip_nothing : a ≡ None → Zipped (zip_in i count at ks xs by ls ys) to K A K'' A''
+          (Err Unzipped.Nothing)
       zip_nothing e =
           going_nothing s.going room_kinds room_args
           (still_joins w (omega (arith, s.kinds)) (omega (arith, s.args)))
-          (rest_is none (told_none w e))
+          (rest_is None (told_none w e))
 
-      module _ (n : ℕ) (e : a ≡ Joined.Nodes n) where
-        told : (st : DataType) × (get_supertype i t u ≡ some st) × (n ≡ suc (size st))
+      module _ (n : ℕ) (e : a ≡ Some n) where
+        told : (st : DataType) × (get_supertype i t u ≡ Some st) × (n ≡ suc (size st))
             × Wrote end (suc (size st)) (kind.Field ∷ kinds_of st) (get_or xs here 0 ∷ args_of st) K' A' K'' A''
         told = told_some w n e
 
@@ -146,10 +147,10 @@ module _ {i : SuperTypeOptions} {count at : ℕ} {ks xs : List ℕ} {by : ℕ} {
         zip_nodes =
             omega (arith, smaller, s.kinds, run_nodes s.run p, run_nodes s.other p, s.limit, s.going.kinds)
 
-        pub zip_next : (past past' : ℕ) → past ≡ here + 1 + size (type_in (here + 1) ks xs)
+        zip_past : (past past' : ℕ) → past ≡ here + 1 + size (type_in (here + 1) ks xs)
             → past' ≡ there + 1 + size (type_in (there + 1) ls ys) → length K'' ≡ length K' → length A'' ≡ length A'
             → Zipping i count at ks xs by ls ys to K A past past' (left - 1) (end + n) K'' A''
-        zip_next past past' q q' f g =
+        zip_past past past' q q' f g =
             subst (λ (j : ℕ). Zipping i count at ks xs by ls ys to K A j past' (left - 1) (end + n) K'' A'') (sym q)
             (subst
             (λ (j : ℕ). Zipping i count at ks xs by ls ys to K A (here + 1 + size t) j (left - 1) (end + n) K'' A'')
@@ -159,7 +160,7 @@ module _ {i : SuperTypeOptions} {count at : ℕ} {ks xs : List ℕ} {by : ℕ} {
               other = others_in s.other p;
               going =
                   going_next s.going (get_or xs here 0) told.0 later
-                  (rest_is (some told.0) told.1) told.3 (count - (left - 1)) (end + n) one_more
+                  (rest_is (Some told.0) told.1) told.3 (count - (left - 1)) (end + n) one_more
                   (ap (λ (j : ℕ). end + j) told.2) f g;
               most = omega (arith, s.most);
               fewer = omega (arith, s.fewer, run_nodes s.run p, run_nodes s.other p);
@@ -171,39 +172,14 @@ module _ {i : SuperTypeOptions} {count at : ℕ} {ks xs : List ℕ} {by : ℕ} {
             one_more : count - (left - 1) ≡ count - left + 1
             one_more = omega (arith, s.most, p)
 
+        pub zip_next : {past past' rest : ℕ} → past ≡ here + 1 + size (type_in (here + 1) ks xs)
+            → past' ≡ there + 1 + size (type_in (there + 1) ls ys) → rest ≡ left - 1 → length K'' ≡ length K'
+            → length A'' ≡ length A' → Zipping i count at ks xs by ls ys to K A past past' rest (end + n) K'' A''
+        zip_next {past} {past'} {rest} q q' h f g = rw h (zip_past past past' q q' f g)
+
   pub zip_end_lem : left ≡ 0 → (size : ℕ) → size ≡ end - to
-      → Fills (zip_in i count at ks xs by ls ys) to K A K' A' (Filled.Fields count size)
+      → Zipped (zip_in i count at ks xs by ls ys) to K A K' A' (Ok (record { names = count; nodes = size }))
   zip_end_lem z size e =
       going_end s.going count size (let y : count ≡ count - left = omega arith in y) e
       (ap (λ (fs : Fields). zip_fields (get_supertype i) fs (run_in left there ls ys)) (run_none left here ks xs z)
       ∙ zip_none (get_supertype i) (run_in left there ls ys))
-
-  -- Another loop starts where this one has come to.
-  pub zip_again : Zipping i left here ks xs there ls ys end K' A' here there left end K' A'
-  zip_again =
-      zip_start s.run s.other
-      record { most = omega (arith, s.limit, s.going.kinds); kinds = s.kinds; args = s.args }
-
-  -- As far as that one has come, both have.
-  pub zip_on_lem : {past past' rest stop : ℕ} {K'' A'' : List ℕ}
-      → Zipping i left here ks xs there ls ys end K' A' past past' rest stop K'' A''
-      → Zipping i count at ks xs by ls ys to K A past past' rest stop K'' A''
-  zip_on_lem {past} {past'} {rest} {stop} {K''} {A''} z =
-      record {
-        run = z.run;
-        other = z.other;
-        going =
-            subst
-            (λ (n : ℕ). Going (zip_in i count at ks xs by ls ys) (zip_in i rest past ks xs past' ls ys) to K A n stop K''
-            A'')
-            together
-            (going_on s.going z.going);
-        most = omega (arith, s.most, z.most);
-        fewer = omega (arith, s.fewer, z.fewer);
-        limit = s.limit;
-        kinds = z.kinds;
-        args = z.args;
-      }
-    where
-      together : count - left + (left - rest) ≡ count - rest
-      together = omega (arith, s.most, z.most)

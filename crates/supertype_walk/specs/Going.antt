@@ -1,9 +1,12 @@
 -- Fields written one after the other: how far a loop has come. Assumes nothing: these are definitions.
 use Rattle.std.specs.Prelude.{◌≡◌, List, ℕ, ◌+◌, ◌-◌, ◌≤◌, length}
+use Rattle.std.specs.Prelude.{Option, None, Some, Result, Ok, Err}
 use Rattle.flat.specs.Tree.{Fields, count, sizes, kinds_ofs, args_ofs, append}
 use Rattle.supertype_nested.specs.Nested.{SuperTypeOptions, Zip, names_differ, no_join, joined, zip_fields}
 use Rattle.supertype_place.specs.Place.{RunIn, run_in, most_nodes}
-use Rattle.supertype_place.specs.Written.{Wrote}
+use Rattle.supertype_place.specs.Written.{Wrote, Nodes, WroteNodes, filled, field_nodes}
+use Rattle.supertype_place.specs.declared.node.Filled.{Filled}
+use Rattle.supertype_walk.specs.declared.walk.Unzipped.{Unzipped}
 use Rattle.supertype_walk.specs.Room.{get_supertype}
 
 -- fields before what a loop comes to
@@ -21,6 +24,23 @@ pub record Going (whole rest : Zip) (to : ℕ) (K A : List ℕ) (names end : ℕ
   pub wrote : Wrote to (sizes done) (kinds_ofs done) (args_ofs done) K A K' A'
   pub kinds : length K' ≡ length K
   pub args : length A' ≡ length A
+
+-- what the loop over the fields of both answers
+abbrev pub zipped_of : Zip → Result Filled Unzipped
+zipped_of names_differ = Err Unzipped.Apart
+zipped_of no_join = Err Unzipped.Nothing
+zipped_of (joined fs) = Ok (filled fs)
+
+-- and the nodes that it writes
+abbrev pub nodes_z : Zip → Option Nodes
+nodes_z names_differ = None
+nodes_z no_join = None
+nodes_z (joined fs) = Some (field_nodes fs)
+
+-- What that loop comes to.
+pub record Zipped (z : Zip) (to : ℕ) (K A K' A' : List ℕ) (r : Result Filled Unzipped) : Type 0 where
+  pub answers : r ≡ zipped_of z
+  pub wrote : WroteNodes to (nodes_z z) K A K' A'
 
 -- the m fields from two places on, two by two
 abbrev pub zip_in : SuperTypeOptions → (m at : ℕ) → (ks xs : List ℕ) → (by : ℕ) → (ls ys : List ℕ) → Zip

@@ -1,10 +1,9 @@
 -- What the members of the walk ask of the lent arrays, and what fields come to. Assumes nothing: these are definitions.
 use Rattle.std.specs.Prelude.{◌≡◌, List, [], ℕ, ◌+◌, ◌≤◌, length, take, drop}
-use Rattle.std.proofs.Math.Option.{Option, none, some}
 use Rattle.flat.specs.Tree.{DataType, Fields, size, sizes}
 use Rattle.flat.specs.Walk.{Valid, type_at}
 use Rattle.supertype_nested.specs.Laws.{LeavesFit}
-use Rattle.supertype_nested.specs.Nested.{SuperTypeOptions, TreeCall, Zip, no_join, joined, supertype_tree}
+use Rattle.supertype_nested.specs.Nested.{SuperTypeOptions, TreeCall, supertype_tree}
 use Rattle.supertype_nested.specs.Union.{named, with_names, outside}
 use Rattle.supertype_place.specs.Place.{most_nodes}
 
@@ -54,8 +53,3 @@ pub record HeldAt (to n : ℕ) (K A : List ℕ) : Type 0 where
   pub nodes : size (held_at to n K A) ≡ n
   pub kinds : to + n ≤ length K
   pub args : to + n ≤ length A
-
--- fields, or None, as what a loop over fields comes to
-abbrev pub zip_o : Option Fields → Zip
-zip_o none = no_join
-zip_o (some fs) = joined fs

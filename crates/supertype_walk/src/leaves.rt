@@ -7,8 +7,7 @@ ghost use Rattle.supertype_walk.specs.Going.{Zipping};
 
 use flat::kind::Kind;
 use supertype::node::node_supertype;
-use supertype_answer::Common;
-use supertype_place::node::put;
+use supertype_place::node::{field, put, read};
 use supertype_step::Options;
 
 // Joins the fields of both as long as they have one name, are leaves and have a supertype, and tells how many it has
@@ -39,30 +38,20 @@ pub fn zip_leaves(
         let Zips = Zipping (options_of i) count at ks xs by ls ys to K A in
         (result ≤ count) × Zips (at + 2 * result) (by + 2 * result) (count - result) (to + 2 * result) ok.new oa.new }
 {
-    let mut n = 0;
-    while n < count {
+    for n in 0..count {
         let l = at + 2 * n;
         let r = by + 2 * n;
         let name = la[l];
-        if name != ra[r] {
+        let a = read(lk, la, l + 1);
+        let b = read(rk, ra, r + 1);
+        if name != ra[r] || a.kind >= Kind::LIST || b.kind >= Kind::LIST {
             return n;
         }
-        let a = lk[l + 1];
-        let b = rk[r + 1];
-        if a >= Kind::LIST {
+        let Some(joined) = node_supertype(i.allow_primitive_to_string, a, b) else {
             return n;
-        }
-        if b >= Kind::LIST {
-            return n;
-        }
-        match node_supertype(i.allow_primitive_to_string, a, la[l + 1], b, ra[r + 1]) {
-            Common::Nothing => return n,
-            Common::Some(k, v) => {
-                put(Kind::FIELD, name, ok, oa, to + 2 * n);
-                put(k, v, ok, oa, to + 2 * n + 1);
-                n += 1;
-            }
-        }
+        };
+        put(field(name), ok, oa, to + 2 * n);
+        put(joined, ok, oa, to + 2 * n + 1);
     }
-    n
+    count
 }

@@ -1,7 +1,8 @@
 // The join of two types: the left one stands at `at` in lk and la, the right one at `by` in rk and ra, and the answer
 // is written at `to` in ok and oa. o has the flags of a call itself, i those of inner calls.
-ghost use Rattle.std.specs.Prelude.{◌≡◌, true, false, [], ◌+◌};
+ghost use Rattle.std.specs.Prelude.{◌≡◌, false, [], ◌+◌, OnSome, option_copied};
 ghost use Rattle.flat.specs.Kind.{Field};
+ghost use Rattle.supertype_answer.specs.Join.{node};
 ghost use Rattle.supertype_nested.specs.Nested.{supertype_tree, join_held, join_each, zip_fields, union_fields};
 ghost use Rattle.supertype_nested.specs.Step.{in_place, repeats};
 ghost use Rattle.supertype_nested.specs.Union.{join_named, old_names, new_names, with_names};
@@ -10,19 +11,28 @@ ghost use Rattle.supertype_place.specs.Place.{TypeIn, type_in, RunIn, run_in};
 ghost use Rattle.supertype_place.specs.Written.{Joins, type_nodes, headed, Fills};
 ghost use Rattle.supertype_step.specs.Decided.{options_of, either_fields};
 ghost use Rattle.supertype_walk.specs.Room.{JoinRoom, RunRoom, EachRoom, NameRoom, NewRoom, HeldAt, held_at};
-ghost use Rattle.supertype_walk.specs.Room.{get_supertype, zip_o};
+ghost use Rattle.supertype_walk.specs.Room.{get_supertype};
+ghost use Rattle.supertype_walk.specs.Going.{Zipped};
 
 use crate::leaves::zip_leaves;
 use crate::same::same_held;
+use flat::Node;
 use flat::kind::Kind;
-use supertype_place::names::{LastType, SLOTS};
-use supertype_place::node::{Filled, Joined};
-use supertype_place::run::Located;
+use supertype::node::plain;
+use supertype_place::names::SLOTS;
+use supertype_place::node::Filled;
 use supertype_place::{names, node, run};
 use supertype_step::{Options, Step, decide};
 
 // As many nodes as the two largest types have together: no step on the way has more.
 pub const ROOM: usize = 1024;
+
+// Why the fields of two Structs have no join one by one: names that differ, or the source's None.
+#[derive(Clone, Copy, Debug, PartialEq, Eq)]
+pub enum Unzipped {
+    Apart,
+    Nothing,
+}
 
 // `get_supertype_with_options` with flags of its own, by what the two roots decide.
 #[cycle(joins)]
@@ -38,7 +48,7 @@ pub fn join(
     ok: &mut [u8],
     oa: &mut [u64],
     to: usize,
-) -> Joined
+) -> Option<usize>
     requires stand { TypeIn at lk.now la.now × TypeIn by rk.now ra.now }
     requires room { let t = type_in at lk.now la.now in
         let u = type_in by rk.now ra.now in
@@ -54,46 +64,39 @@ pub fn join(
     let y = ra[by];
     let l = at + 1;
     let r = by + 1;
-    match decide(o, lk[at], x, rk[by], y) {
-        Step::Nothing => Joined::Nothing,
-        Step::Node(k, v) => node::one(k, v, ok, oa, to),
-        Step::Left => node::whole(lk, la, at, ok, oa, to),
-        Step::Right => node::whole(rk, ra, by, ok, oa, to),
-        Step::Under(k, v) => under(k, v, i, lk, la, l, rk, ra, r, ok, oa, to),
-        Step::WithinLeft => under(Kind::LIST, 0, i, lk, la, l, rk, ra, by, ok, oa, to),
-        Step::WithinRight => under(Kind::LIST, 0, i, rk, ra, r, lk, la, at, ok, oa, to),
-        Step::StringWithin => match under(Kind::LIST, 0, i, rk, ra, r, lk, la, at, ok, oa, to) {
-            Joined::Nodes(n) => Joined::Nodes(n),
-            Joined::Nothing => node::one(Kind::STRING, 0, ok, oa, to),
+    match decide(o, node::read(lk, la, at), node::read(rk, ra, by)) {
+        Step::Nothing => None,
+        Step::Node(n) => Some(node::one(n, ok, oa, to)),
+        Step::Left => Some(node::whole(lk, la, at, ok, oa, to)),
+        Step::Right => Some(node::whole(rk, ra, by, ok, oa, to)),
+        Step::Under(n) => under(n, i, lk, la, l, rk, ra, r, ok, oa, to),
+        Step::WithinLeft => under(plain(Kind::LIST), i, lk, la, l, rk, ra, by, ok, oa, to),
+        Step::WithinRight => under(plain(Kind::LIST), i, rk, ra, r, lk, la, at, ok, oa, to),
+        Step::StringWithin => match under(plain(Kind::LIST), i, rk, ra, r, lk, la, at, ok, oa, to) {
+            Some(n) => Some(n),
+            None => Some(node::one(plain(Kind::STRING), ok, oa, to)),
         },
         Step::FirstLeft => join(i, i, lk, la, l + 1, rk, ra, by, ok, oa, to),
         Step::FirstRight => join(i, i, rk, ra, r + 1, lk, la, at, ok, oa, to),
-        Step::EachLeft => node::closed(
-            each(i, lk, la, l, x, rk, ra, by, ok, oa, to + 1),
-            ok,
-            oa,
-            to,
-        ),
-        Step::EachRight => node::closed(
-            each(i, rk, ra, r, y, lk, la, at, ok, oa, to + 1),
-            ok,
-            oa,
-            to,
-        ),
-        Step::Fields => node::closed(
-            fields(i, lk, la, l, x, rk, ra, r, y, ok, oa, to + 1),
-            ok,
-            oa,
-            to,
-        ),
+        Step::EachLeft => {
+            let filled = each(i, lk, la, l, x, rk, ra, by, ok, oa, to + 1)?;
+            Some(node::closed(filled, ok, oa, to))
+        }
+        Step::EachRight => {
+            let filled = each(i, rk, ra, r, y, lk, la, at, ok, oa, to + 1)?;
+            Some(node::closed(filled, ok, oa, to))
+        }
+        Step::Fields => {
+            let filled = fields(i, lk, la, l, x, rk, ra, r, y, ok, oa, to + 1)?;
+            Some(node::closed(filled, ok, oa, to))
+        }
     }
 }
 
 // A node, and below it the join: of a List, of an Array, of a field.
 #[cycle(joins)]
 fn under(
-    k: u8,
-    v: u64,
+    n: Node,
     i: Options,
     lk: &[u8],
     la: &[u64],
@@ -104,7 +107,7 @@ fn under(
     ok: &mut [u8],
     oa: &mut [u64],
     to: usize,
-) -> Joined
+) -> Option<usize>
     requires stand { TypeIn at lk.now la.now × TypeIn by rk.now ra.now }
     requires room { let t = type_in at lk.now la.now in
         let u = type_in by rk.now ra.now in
@@ -114,13 +117,11 @@ fn under(
         let ks = ok.old in
         let xs = oa.old in
         let answer = get_supertype (options_of i) t u in
-        Joins (headed k v) answer to ks xs ok.new oa.new result }
+        Joins (headed n) answer to ks xs ok.new oa.new result }
 {
-    node::put(k, v, ok, oa, to);
-    match join(i, i, lk, la, at, rk, ra, by, ok, oa, to + 1) {
-        Joined::Nodes(n) => Joined::Nodes(n + 1),
-        Joined::Nothing => Joined::Nothing,
-    }
+    node::put(n, ok, oa, to);
+    let below = join(i, i, lk, la, at, rk, ra, by, ok, oa, to + 1)?;
+    Some(below + 1)
 }
 
 // Each field of a run with one type.
@@ -137,7 +138,7 @@ fn each(
     ok: &mut [u8],
     oa: &mut [u64],
     to: usize,
-) -> Filled
+) -> Option<Filled>
     requires stand { RunIn count at nk.now na.now × TypeIn by lk.now la.now }
     requires room { let fs = run_in count at nk.now na.now in
         let t = type_in by lk.now la.now in
@@ -146,37 +147,21 @@ fn each(
         let t = type_in by lk.now la.now in
         let ks = ok.old in
         let xs = oa.old in
-        let answer = zip_o (join_each (get_supertype (options_of i)) fs t) in
+        let answer = join_each (get_supertype (options_of i)) fs t in
         Fills answer to ks xs ok.new oa.new result }
 {
     let mut here = at;
     let mut end = to;
-    let mut left = count;
-    while left > 0 {
+    for _ in 0..count {
         let next = here + 1;
-        match under(
-            Kind::FIELD,
-            na[here],
-            i,
-            nk,
-            na,
-            next,
-            lk,
-            la,
-            by,
-            ok,
-            oa,
-            end,
-        ) {
-            Joined::Nothing => return Filled::Nothing,
-            Joined::Nodes(n) => {
-                here = node::after(nk, na, next);
-                end = end + n;
-                left = left - 1;
-            }
-        }
+        let field = node::field(na[here]);
+        end += under(field, i, nk, na, next, lk, la, by, ok, oa, end)?;
+        here = node::after(nk, na, next);
     }
-    Filled::Fields(count, end - to)
+    Some(Filled {
+        names: count,
+        nodes: end - to,
+    })
 }
 
 // The source's loop over the fields of both: up to names that differ, or to a join that is None. The leaves at the
@@ -194,7 +179,7 @@ fn zip(
     ok: &mut [u8],
     oa: &mut [u64],
     to: usize,
-) -> Filled
+) -> Result<Filled, Unzipped>
     requires stand { RunIn count at lk.now la.now × RunIn count by rk.now ra.now }
     requires room { let fs = run_in count at lk.now la.now in
         let gs = run_in count by rk.now ra.now in
@@ -204,31 +189,29 @@ fn zip(
         let ks = ok.old in
         let xs = oa.old in
         let answer = zip_fields (get_supertype (options_of i)) fs gs in
-        Fills answer to ks xs ok.new oa.new result }
+        Zipped answer to ks xs ok.new oa.new result }
 {
     let done = zip_leaves(i, lk, la, at, rk, ra, by, count as usize, ok, oa, to);
     let mut here = at + 2 * done;
     let mut there = by + 2 * done;
     let mut end = to + 2 * done;
-    let mut left = count - done as u64;
-    while left > 0 {
+    for _ in done as u64..count {
         let name = la[here];
         if name != ra[there] {
-            return Filled::Apart;
+            return Err(Unzipped::Apart);
         }
         let l = here + 1;
         let r = there + 1;
-        match under(Kind::FIELD, name, i, lk, la, l, rk, ra, r, ok, oa, end) {
-            Joined::Nothing => return Filled::Nothing,
-            Joined::Nodes(n) => {
-                here = node::after(lk, la, l);
-                there = node::after(rk, ra, r);
-                end = end + n;
-                left = left - 1;
-            }
-        }
+        let field = node::field(name);
+        let joined = under(field, i, lk, la, l, rk, ra, r, ok, oa, end);
+        end += joined.ok_or(Unzipped::Nothing)?;
+        here = node::after(lk, la, l);
+        there = node::after(rk, ra, r);
     }
-    Filled::Fields(count, end - to)
+    Ok(Filled {
+        names: count,
+        nodes: end - to,
+    })
 }
 
 // The fields of two Structs.
@@ -246,7 +229,7 @@ fn fields(
     ok: &mut [u8],
     oa: &mut [u64],
     to: usize,
-) -> Filled
+) -> Option<Filled>
     requires stand { RunIn m at lk.now la.now × RunIn n by rk.now ra.now }
     requires room { let fs = run_in m at lk.now la.now in
         let gs = run_in n by rk.now ra.now in
@@ -255,14 +238,11 @@ fn fields(
         let gs = run_in n by rk.now ra.now in
         let ks = ok.old in
         let xs = oa.old in
-        let answer = zip_o (either_fields (get_supertype (options_of i)) fs gs) in
+        let answer = either_fields (get_supertype (options_of i)) fs gs in
         Fills answer to ks xs ok.new oa.new result }
 {
-    if m != n {
-        return merge(i, lk, la, at, m, rk, ra, by, n, ok, oa, to);
-    }
-    if run::in_place(lk, la, at, rk, ra, by, m) {
-        return zip(i, lk, la, at, rk, ra, by, m, ok, oa, to);
+    if m == n && run::in_place(lk, la, at, rk, ra, by, m) {
+        return zip(i, lk, la, at, rk, ra, by, m, ok, oa, to).ok();
     }
     merge(i, lk, la, at, m, rk, ra, by, n, ok, oa, to)
 }
@@ -282,7 +262,7 @@ fn merge(
     ok: &mut [u8],
     oa: &mut [u64],
     to: usize,
-) -> Filled
+) -> Option<Filled>
     requires stand { RunIn m at lk.now la.now × RunIn n by rk.now ra.now }
     requires unlike { let fs = run_in m at lk.now la.now in
         let gs = run_in n by rk.now ra.now in
@@ -294,33 +274,26 @@ fn merge(
         let gs = run_in n by rk.now ra.now in
         let ks = ok.old in
         let xs = oa.old in
-        let answer = zip_o (either_fields (get_supertype (options_of i)) fs gs) in
+        let answer = either_fields (get_supertype (options_of i)) fs gs in
         Fills answer to ks xs ok.new oa.new result }
 {
     let mut lt = [0u16; SLOTS];
     let mut rt = [0u16; SLOTS];
-    // whether neither repeats a name
+    // the tables of those that repeat no name
     let p = names::enter(lk, la, at, m, &mut lt);
     let q = names::enter(rk, ra, by, n, &mut rt);
     if m < n {
-        return union(i, q, &rt, rk, ra, by, n, p, &lt, lk, la, at, m, ok, oa, to);
+        return union(i, q, rk, ra, by, n, p, lk, la, at, m, ok, oa, to);
     }
-    if n < m {
-        return union(i, p, &lt, lk, la, at, m, q, &rt, rk, ra, by, n, ok, oa, to);
-    }
-    if p {
-        if q {
-            return union(i, p, &lt, lk, la, at, m, q, &rt, rk, ra, by, n, ok, oa, to);
-        }
+    if n < m || (p.is_some() && q.is_some()) {
+        return union(i, p, lk, la, at, m, q, rk, ra, by, n, ok, oa, to);
     }
     match zip(i, lk, la, at, rk, ra, by, m, ok, oa, to) {
-        Filled::Fields(names, size) => Filled::Fields(names, size),
-        Filled::Nothing => Filled::Nothing,
-        Filled::Apart => match union(i, p, &lt, lk, la, at, m, q, &rt, rk, ra, by, n, ok, oa, to) {
-            Filled::Fields(names, size) => Filled::Fields(names, size),
-            Filled::Nothing => union(i, q, &rt, rk, ra, by, n, p, &lt, lk, la, at, m, ok, oa, to),
-            // no union is apart
-            Filled::Apart => Filled::Apart,
+        Ok(filled) => Some(filled),
+        Err(Unzipped::Nothing) => None,
+        Err(Unzipped::Apart) => match union(i, p, lk, la, at, m, q, rk, ra, by, n, ok, oa, to) {
+            Some(filled) => Some(filled),
+            None => union(i, q, rk, ra, by, n, p, lk, la, at, m, ok, oa, to),
         },
     }
 }
@@ -329,14 +302,12 @@ fn merge(
 #[cycle(joins)]
 fn union(
     i: Options,
-    lo: bool,
-    lt: &[u16],
+    lt: Option<&[u16]>,
     lk: &[u8],
     la: &[u64],
     at: usize,
     m: u64,
-    so: bool,
-    st: &[u16],
+    st: Option<&[u16]>,
     sk: &[u8],
     sa: &[u64],
     by: usize,
@@ -344,11 +315,11 @@ fn union(
     ok: &mut [u8],
     oa: &mut [u64],
     to: usize,
-) -> Filled
+) -> Option<Filled>
     requires stand { RunIn m at lk.now la.now × RunIn n by sk.now sa.now }
     requires tables { let fs = run_in m at lk.now la.now in
         let gs = run_in n by sk.now sa.now in
-        TableOf lo fs lk.now la.now lt.now × TableOf so gs sk.now sa.now st.now }
+        TableOf (option_copied lt) fs lk.now la.now × TableOf (option_copied st) gs sk.now sa.now }
     requires room { let fs = run_in m at lk.now la.now in
         let gs = run_in n by sk.now sa.now in
         RunRoom to fs gs ok.old oa.old }
@@ -356,47 +327,42 @@ fn union(
         let gs = run_in n by sk.now sa.now in
         let ks = ok.old in
         let xs = oa.old in
-        let answer = zip_o (union_fields (get_supertype (options_of i)) fs gs) in
+        let answer = union_fields (get_supertype (options_of i)) fs gs in
         Fills answer to ks xs ok.new oa.new result }
 {
-    match old(i, lo, lk, la, at, m, so, st, sk, sa, by, n, ok, oa, to) {
-        Filled::Nothing => Filled::Nothing,
-        Filled::Apart => Filled::Apart,
-        Filled::Fields(names, size) => match new(
-            i,
-            lo,
-            lt,
-            lk,
-            la,
-            at,
-            m,
-            so,
-            sk,
-            sa,
-            by,
-            n,
-            ok,
-            oa,
-            to + size,
-        ) {
-            Filled::Nothing => Filled::Nothing,
-            Filled::Apart => Filled::Apart,
-            Filled::Fields(more, past) => Filled::Fields(names + more, size + past),
-        },
-    }
+    let first = old(i, lt, lk, la, at, m, st, sk, sa, by, n, ok, oa, to)?;
+    let more = new(
+        i,
+        lt,
+        lk,
+        la,
+        at,
+        m,
+        st,
+        sk,
+        sa,
+        by,
+        n,
+        ok,
+        oa,
+        to + first.nodes,
+    )?;
+    Some(Filled {
+        names: first.names + more.names,
+        nodes: first.nodes + more.nodes,
+    })
 }
 
 // The names of the longest, each once, at its first place, with its last type.
 #[cycle(joins)]
 fn old(
     i: Options,
-    lo: bool,
+    lt: Option<&[u16]>,
     lk: &[u8],
     la: &[u64],
     at: usize,
     m: u64,
-    so: bool,
-    st: &[u16],
+    st: Option<&[u16]>,
     sk: &[u8],
     sa: &[u64],
     by: usize,
@@ -404,11 +370,11 @@ fn old(
     ok: &mut [u8],
     oa: &mut [u64],
     to: usize,
-) -> Filled
+) -> Option<Filled>
     requires stand { RunIn m at lk.now la.now × RunIn n by sk.now sa.now }
     requires tables { let fs = run_in m at lk.now la.now in
         let gs = run_in n by sk.now sa.now in
-        (lo ≡ true → repeats [] fs ≡ false) × TableOf so gs sk.now sa.now st.now }
+        OnSome lt (repeats [] fs ≡ false) × TableOf (option_copied st) gs sk.now sa.now }
     requires room { let fs = run_in m at lk.now la.now in
         let gs = run_in n by sk.now sa.now in
         RunRoom to fs gs ok.old oa.old }
@@ -416,49 +382,38 @@ fn old(
         let gs = run_in n by sk.now sa.now in
         let ks = ok.old in
         let xs = oa.old in
-        let answer = zip_o (old_names (get_supertype (options_of i)) gs [] fs) in
+        let answer = old_names (get_supertype (options_of i)) gs [] fs in
         Fills answer to ks xs ok.new oa.new result }
 {
     let mut here = at;
     let mut end = to;
-    let mut left = m;
     let mut names = 0;
-    while left > 0 {
+    for rest in (0..m).rev() {
         let name = la[here];
         let next = here + 1;
         let past = node::after(lk, la, next);
-        match names::keep(lo, lk, la, at, m - left, next, past, left - 1, name) {
-            LastType::Seen => {
-                here = past;
-                left = left - 1;
-            }
-            LastType::At(last) => match named(
-                i, name, lk, la, last, so, st, sk, sa, by, n, ok, oa, end,
-            ) {
-                Joined::Nothing => return Filled::Nothing,
-                Joined::Nodes(k) => {
-                    here = past;
-                    end = end + k;
-                    left = left - 1;
-                    names = names + 1;
-                }
-            },
+        if let Some(last) = names::keep(lt, lk, la, at, m - 1 - rest, next, past, rest, name) {
+            end += named(i, name, lk, la, last, st, sk, sa, by, n, ok, oa, end)?;
+            names += 1;
         }
+        here = past;
     }
-    Filled::Fields(names, end - to)
+    Some(Filled {
+        names,
+        nodes: end - to,
+    })
 }
 
 // The names that only the shortest has, with their first type.
 #[cycle(joins)]
 fn new(
     i: Options,
-    lo: bool,
-    lt: &[u16],
+    lt: Option<&[u16]>,
     lk: &[u8],
     la: &[u64],
     at: usize,
     m: u64,
-    so: bool,
+    st: Option<&[u16]>,
     sk: &[u8],
     sa: &[u64],
     by: usize,
@@ -466,11 +421,11 @@ fn new(
     ok: &mut [u8],
     oa: &mut [u64],
     to: usize,
-) -> Filled
+) -> Option<Filled>
     requires stand { RunIn m at lk.now la.now × RunIn n by sk.now sa.now }
     requires tables { let fs = run_in m at lk.now la.now in
         let gs = run_in n by sk.now sa.now in
-        TableOf lo fs lk.now la.now lt.now × (so ≡ true → repeats [] gs ≡ false) }
+        TableOf (option_copied lt) fs lk.now la.now × OnSome st (repeats [] gs ≡ false) }
     requires room { let fs = run_in m at lk.now la.now in
         let gs = run_in n by sk.now sa.now in
         NewRoom to fs gs ok.old oa.old }
@@ -478,36 +433,26 @@ fn new(
         let gs = run_in n by sk.now sa.now in
         let ks = ok.old in
         let xs = oa.old in
-        let answer = zip_o (new_names (get_supertype (options_of i)) (with_names fs []) gs) in
+        let answer = new_names (get_supertype (options_of i)) (with_names fs []) gs in
         Fills answer to ks xs ok.new oa.new result }
 {
     let mut here = by;
     let mut end = to;
-    let mut left = n;
     let mut names = 0;
-    while left > 0 {
+    for rest in (0..n).rev() {
         let name = sa[here];
         let next = here + 1;
-        let rest = left - 1;
         let past = node::after(sk, sa, next);
-        if names::known(lo, lt, lk, la, at, m, so, sk, sa, by, n - left, name) {
-            here = past;
-            left = rest;
-            continue;
+        if !names::known(lt, lk, la, at, m, st, sk, sa, by, n - 1 - rest, name) {
+            end += named(i, name, sk, sa, next, None, sk, sa, past, rest, ok, oa, end)?;
+            names += 1;
         }
-        match named(
-            i, name, sk, sa, next, false, lt, sk, sa, past, rest, ok, oa, end,
-        ) {
-            Joined::Nothing => return Filled::Nothing,
-            Joined::Nodes(k) => {
-                here = past;
-                end = end + k;
-                left = rest;
-                names = names + 1;
-            }
-        }
+        here = past;
     }
-    Filled::Fields(names, end - to)
+    Some(Filled {
+        names,
+        nodes: end - to,
+    })
 }
 
 // A field: the held type with all the fields of the name.
@@ -518,8 +463,7 @@ fn named(
     hk: &[u8],
     ha: &[u64],
     at: usize,
-    so: bool,
-    st: &[u16],
+    st: Option<&[u16]>,
     sk: &[u8],
     sa: &[u64],
     by: usize,
@@ -527,10 +471,10 @@ fn named(
     ok: &mut [u8],
     oa: &mut [u64],
     to: usize,
-) -> Joined
+) -> Option<usize>
     requires stand { TypeIn at hk.now ha.now × RunIn count by sk.now sa.now }
     requires tables { let gs = run_in count by sk.now sa.now in
-        TableOf so gs sk.now sa.now st.now }
+        TableOf (option_copied st) gs sk.now sa.now }
     requires room { let t = type_in at hk.now ha.now in
         let gs = run_in count by sk.now sa.now in
         NameRoom (to + 1) name t gs ok.old oa.old }
@@ -539,28 +483,11 @@ fn named(
         let ks = ok.old in
         let xs = oa.old in
         let answer = join_named (get_supertype (options_of i)) name t gs in
-        Joins (headed Field name) answer to ks xs ok.new oa.new result }
+        Joins (headed (node Field name)) answer to ks xs ok.new oa.new result }
 {
-    node::put(Kind::FIELD, name, ok, oa, to);
-    match all(
-        i,
-        name,
-        hk,
-        ha,
-        at,
-        so,
-        st,
-        sk,
-        sa,
-        by,
-        count,
-        ok,
-        oa,
-        to + 1,
-    ) {
-        Joined::Nodes(n) => Joined::Nodes(n + 1),
-        Joined::Nothing => Joined::Nothing,
-    }
+    node::put(node::field(name), ok, oa, to);
+    let n = all(i, name, hk, ha, at, st, sk, sa, by, count, ok, oa, to + 1)?;
+    Some(n + 1)
 }
 
 // The held type, which stands elsewhere, with all the fields of the name.
@@ -571,8 +498,7 @@ fn all(
     hk: &[u8],
     ha: &[u64],
     at: usize,
-    so: bool,
-    st: &[u16],
+    st: Option<&[u16]>,
     sk: &[u8],
     sa: &[u64],
     by: usize,
@@ -580,10 +506,10 @@ fn all(
     ok: &mut [u8],
     oa: &mut [u64],
     to: usize,
-) -> Joined
+) -> Option<usize>
     requires stand { TypeIn at hk.now ha.now × RunIn count by sk.now sa.now }
     requires tables { let gs = run_in count by sk.now sa.now in
-        TableOf so gs sk.now sa.now st.now }
+        TableOf (option_copied st) gs sk.now sa.now }
     requires room { let t = type_in at hk.now ha.now in
         let gs = run_in count by sk.now sa.now in
         NameRoom to name t gs ok.old oa.old }
@@ -594,16 +520,12 @@ fn all(
         let answer = join_named (get_supertype (options_of i)) name t gs in
         Joins type_nodes answer to ks xs ok.new oa.new result }
 {
-    match names::find(so, st, sk, sa, by, count, name) {
-        Located::Missing => node::whole(hk, ha, at, ok, oa, to),
-        Located::At(f, left) => match held(i, sk, sa, f, hk, ha, at, ok, oa, to) {
-            Joined::Nothing => Joined::Nothing,
-            Joined::Nodes(n) => {
-                let past = node::after(sk, sa, f);
-                again(i, name, n, sk, sa, past, left, ok, oa, to)
-            }
-        },
-    }
+    let Some(found) = names::find(st, sk, sa, by, count, name) else {
+        return Some(node::whole(hk, ha, at, ok, oa, to));
+    };
+    let n = held(i, sk, sa, found.at, hk, ha, at, ok, oa, to)?;
+    let past = node::after(sk, sa, found.at);
+    again(i, name, n, sk, sa, past, found.left, ok, oa, to)
 }
 
 // The n nodes that the lent arrays hold at the place, with all the fields of the name: one that the shortest repeats.
@@ -619,7 +541,7 @@ fn again(
     ok: &mut [u8],
     oa: &mut [u64],
     to: usize,
-) -> Joined
+) -> Option<usize>
     requires stand { RunIn count by sk.now sa.now × HeldAt to n ok.old oa.old }
     requires room { let t = held_at to n ok.old oa.old in
         let gs = run_in count by sk.now sa.now in
@@ -631,16 +553,12 @@ fn again(
         let answer = join_named (get_supertype (options_of i)) name t gs in
         Joins type_nodes answer to ks xs ok.new oa.new result }
 {
-    match run::first_of(sk, sa, by, count, name) {
-        Located::Missing => Joined::Nodes(n),
-        Located::At(f, left) => match next(i, n, sk, sa, f, ok, oa, to) {
-            Joined::Nothing => Joined::Nothing,
-            Joined::Nodes(k) => {
-                let past = node::after(sk, sa, f);
-                again(i, name, k, sk, sa, past, left, ok, oa, to)
-            }
-        },
-    }
+    let Some(found) = run::first_of(sk, sa, by, count, name) else {
+        return Some(n);
+    };
+    let k = next(i, n, sk, sa, found.at, ok, oa, to)?;
+    let past = node::after(sk, sa, found.at);
+    again(i, name, k, sk, sa, past, found.left, ok, oa, to)
 }
 
 // One field's type with the n nodes that the lent arrays hold at the place.
@@ -654,7 +572,7 @@ fn next(
     ok: &mut [u8],
     oa: &mut [u64],
     to: usize,
-) -> Joined
+) -> Option<usize>
     requires stand { TypeIn at sk.now sa.now × HeldAt to n ok.old oa.old }
     requires room { let t = type_in at sk.now sa.now in
         let u = held_at to n ok.old oa.old in
@@ -667,7 +585,7 @@ fn next(
         Joins type_nodes answer to ks xs ok.new oa.new result }
 {
     if same_held(sk, sa, at, n, ok, oa, to) {
-        return Joined::Nodes(n);
+        return Some(n);
     }
     let mut hk = [0u8; ROOM];
     let mut ha = [0u64; ROOM];
@@ -688,7 +606,7 @@ fn held(
     ok: &mut [u8],
     oa: &mut [u64],
     to: usize,
-) -> Joined
+) -> Option<usize>
     requires stand { TypeIn at sk.now sa.now × TypeIn by hk.now ha.now }
     requires room { let t = type_in at sk.now sa.now in
         let u = type_in by hk.now ha.now in
@@ -701,7 +619,7 @@ fn held(
         Joins type_nodes answer to ks xs ok.new oa.new result }
 {
     if run::same(sk, sa, at, hk, ha, by) {
-        return node::whole(hk, ha, by, ok, oa, to);
+        return Some(node::whole(hk, ha, by, ok, oa, to));
     }
     join(i, i, sk, sa, at, hk, ha, by, ok, oa, to)
 }

@@ -43,7 +43,7 @@ const INDENT: &str = "    ";
 /// What stands before the lists, behind the comment.
 const USES: &str = "\
 use Rattle.std.specs.Prelude.{true, false, List, [], ◌∷◌}
-use Rattle.std.proofs.Math.Option.{none, some}
+use Rattle.std.specs.Prelude.{Some, None}
 use Rattle.flat.specs.Kind.{Null, Boolean, UInt8, UInt16, UInt32, UInt64, UInt128, Int8, Int16, Int32, Int64, Int128}
 use Rattle.flat.specs.Kind.{Float16, Float32, Float64, Decimal, String, Binary, BinaryOffset}
 use Rattle.flat.specs.Kind.{Date, Datetime, Duration, Time}
@@ -87,8 +87,8 @@ impl fmt::Display for Row {
         let [left, right] = [left, right].map(written);
         write!(f, "asked {} {} {} {} ({left}) ({right}) ", outer[0], outer[1], inner[0], inner[1])?;
         match &self.answer {
-            Some(dtype) => write!(f, "(some ({}))", written(dtype)),
-            None => f.write_str("none"),
+            Some(dtype) => write!(f, "(Some ({}))", written(dtype)),
+            None => f.write_str("None"),
         }
     }
 }

@@ -1,25 +1,27 @@
 -- `dtype_build::to_physical` meets its contract. Assumes nothing.
 use mathlib.Core.Path.{sym, ◌∙◌}
+use Rattle.std.proofs.lemmas.Result.{err_from_is_err_and}
 use Rattle.flat.proofs.Meaning.{check_passed, checked_refused}
-use Rattle.dtype_build.proofs.Answers.{refusal, physical_refused, writes_as}
+use Rattle.dtype_build.proofs.Answers.{handed_refusal, physical_refused, writes_as}
 use Rattle.dtype_build.proofs.Answers.{Whole, whole_requires, physical_type}
 use Rattle.dtype_build.proofs.to_physical.Goals as goal
-use Rattle.dtype_build.proofs.to_physical.Goals.{In-Valid}
+use Rattle.dtype_build.proofs.to_physical.Goals.{In_ok-check}
 
 -- the check passed
-abbrev whole : In-Valid → Whole
+abbrev whole : In_ok-check → Whole
 whole c =
-    let passed = check_passed (sym c.in-Valid.is ∙ c.check.ensures) in
+    let passed = check_passed (sym c.in_ok-check.was ∙ c.check.ensures) in
     record { nodes = _; deep = _; ks = _; xs = _; passed = passed }
 
 pub build-requires : goal.build-requires
-build-requires c = whole_requires (whole (goal.at.build-requires c).In-Valid)
+build-requires c = whole_requires (whole (goal.at.build-requires c).In_ok-check)
 
 -- the check refused
-pub returns-in-Refused : goal.returns-in-Refused
-returns-in-Refused c =
-    refusal _ _ (physical_refused (checked_refused _ _ (sym c.in-Refused.is ∙ c.check.ensures)))
+pub returns-in_err-check : goal.returns-in_err-check
+returns-in_err-check c =
+    handed_refusal _ _ (err_from_is_err_and c.from_residual.result c.from_residual.ensures.1)
+    (physical_refused (checked_refused _ _ (sym c.in_err-check.was ∙ c.check.ensures)))
 
-pub returns-in-Valid : goal.returns-in-Valid
-returns-in-Valid c =
-    writes_as _ _ (physical_type (whole (goal.at.returns-in-Valid c).In-Valid)) c.build.ensures
+pub returns : goal.returns
+returns c =
+    writes_as _ _ (physical_type (whole (goal.at.returns c).In_ok-check)) c.build.ensures

@@ -1,11 +1,12 @@
 -- `dtype_inner::array_leaf_dtype_kinds` meets its contract. Assumes nothing.
-use native.Mathlib.Omega.{arith}
+use mathlib.Core.Path.{ap, ◌∙◌}
+use Rattle.dtype_inner.specs.Part.{nodes_told}
 use Rattle.dtype_inner.proofs.Endings.{finds_array_leaf}
-use Rattle.dtype_inner.proofs.Parts.{kinds_within, kinds_last, end_of}
+use Rattle.dtype_inner.proofs.Parts.{kinds_last, end_shows}
 use Rattle.dtype_inner.proofs.array_leaf_dtype_kinds.Goals as goal
 
-pub overflow_sub-at : goal.overflow_sub-at
-overflow_sub-at c = search (kinds_within finds_array_leaf)
+pub end_of-requires : goal.end_of-requires
+end_of-requires c = (kinds_last finds_array_leaf _ _ _ _ (c.nodes_in.ensures ∙ ap nodes_told c.array_leaf_dtype.ensures)).within
 
 pub returns : goal.returns
-returns c = end_of _ _ _ (search (kinds_last finds_array_leaf)) (omega arith)
+returns c = end_shows (kinds_last finds_array_leaf _ _ _ _ (c.nodes_in.ensures ∙ ap nodes_told c.array_leaf_dtype.ensures)) c.end_of.ensures

@@ -1,11 +1,12 @@
 -- `dtype_inner::inner_dtype_args` meets its contract. Assumes nothing.
-use native.Mathlib.Omega.{arith}
+use mathlib.Core.Path.{ap, ◌∙◌}
+use Rattle.dtype_inner.specs.Part.{nodes_told}
 use Rattle.dtype_inner.proofs.Endings.{finds_inner}
-use Rattle.dtype_inner.proofs.Parts.{args_within, args_last, end_of}
+use Rattle.dtype_inner.proofs.Parts.{args_last, end_shows}
 use Rattle.dtype_inner.proofs.inner_dtype_args.Goals as goal
 
-pub returns : goal.returns
-returns c = end_of _ _ _ (search (args_last finds_inner)) (omega arith)
+pub end_of-requires : goal.end_of-requires
+end_of-requires c = (args_last finds_inner _ _ _ _ (c.nodes_in.ensures ∙ ap nodes_told c.inner_dtype.ensures)).within
 
-pub overflow_sub-at : goal.overflow_sub-at
-overflow_sub-at c = search (args_within finds_inner)
+pub returns : goal.returns
+returns c = end_shows (args_last finds_inner _ _ _ _ (c.nodes_in.ensures ∙ ap nodes_told c.inner_dtype.ensures)) c.end_of.ensures

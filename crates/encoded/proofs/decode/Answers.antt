@@ -1,42 +1,47 @@
 -- `encoded::decode` meets its contract. Assumes nothing.
 use native.Mathlib.Omega.{arith}
+use mathlib.Core.Logic.{inl, inr}
 use mathlib.Core.Path.{refl}
 use lib.ListN.{length-drop}
+use lib.Seq.{length-take-le}
 use borrow.Author.Rules.{part_to_end}
+use Rattle.std.proofs.lemmas.Result.{err_from_is_err_and}
 use Rattle.flat.proofs.Truths.{Fact, fact}
 use Rattle.encoded.proofs.Answers.{encoded_form, decodes_refused, decodes_few_kinds, decodes_few_args, decodes_type}
 use Rattle.encoded.proofs.decode.Goals as goal
 use Rattle.encoded.proofs.decode.Goals.{After-count-n}
 
-pub returns-in-Refused : goal.returns-in-Refused
-returns-in-Refused c = decodes_refused _ _ _ _ c.in-Refused.is c.check.ensures
+pub returns-in_err-check : goal.returns-in_err-check
+returns-in_err-check c =
+    let p = err_from_is_err_and c.from_residual.result c.from_residual.ensures.1 in
+    rw (p.1, p.2) (decodes_refused _ _ _ _ c.in_err-check.ensures)
 
 pub count-n-requires : goal.count-n-requires
-count-n-requires c =
-    omega (arith, (encoded_form c.in-Valid.is c.check.ensures refl).sized.size)
+count-n-requires c = omega (arith, (encoded_form c.in_ok-check.ensures refl).sized.size)
 
 -- the bytes are a type of as many nodes as they say
 abbrev form : After-count-n → Fact
-form c = fact (encoded_form c.in-Valid.is c.check.ensures c.count-n.ensures.0)
+form c = fact (encoded_form c.in_ok-check.ensures c.count-n.ensures.0)
 
 pub returns-then-kinds-n : goal.returns-then-kinds-n
-returns-then-kinds-n c = decodes_few_kinds (form (goal.at.returns-then-kinds-n c).After-count-n).proof c.if-kinds-n.true
-
-pub returns-then-args-n : goal.returns-then-args-n
-returns-then-args-n c =
-    decodes_few_args (form (goal.at.returns-then-args-n c).After-count-n).proof c.if-kinds-n.false c.if-args-n.true
+returns-then-kinds-n c =
+    let f = (form (goal.at.returns-then-kinds-n c).After-count-n).proof in
+    elim c.then-kinds-n.either [ inl k ↦ decodes_few_kinds f k | inr h ↦ decodes_few_args f h.0 h.1 ]
 
 pub read_args-requires : goal.read_args-requires
 read_args-requires c =
-    rw (part_to_end, length-drop) (omega (arith, (form (goal.at.read_args-requires c).After-count-n).proof.sized.size))
+    rw (part_to_end, length-drop, length-take-le c.count-n.result c.args.args.now c.if-args-n.false)
+    (omega (arith, (form (goal.at.read_args-requires c).After-count-n).proof.sized.size))
 
-pub returns-else-args-n : goal.returns-else-args-n
-returns-else-args-n c =
-    decodes_type (form (goal.at.returns-else-args-n c).After-count-n).proof (omega arith) (omega arith) c.copy.ensures
-    c.read_args.ensures
+pub returns : goal.returns
+returns c =
+    let read = rw (length-take-le c.count-n.result c.args.args.now c.if-args-n.false) at c.read_args.ensures in
+    decodes_type (form (goal.at.returns c).After-count-n).proof c.if-kinds-n.false c.if-args-n.false
+    (rw c.copy_from_slice.ensures.after) (rw read)
 
-pub slice_bounds-copy-end : goal.slice_bounds-copy-end
-slice_bounds-copy-end c = omega (arith, (form (goal.at.slice_bounds-copy-end c).After-count-n).proof.sized.size)
+pub slice_bounds-copy_from_slice-end-3 : goal.slice_bounds-copy_from_slice-end-3
+slice_bounds-copy_from_slice-end-3 c =
+    omega (arith, (form (goal.at.slice_bounds-copy_from_slice-end-3 c).After-count-n).proof.sized.size)
 
 pub slice_bounds-read_args-count : goal.slice_bounds-read_args-count
 slice_bounds-read_args-count c =

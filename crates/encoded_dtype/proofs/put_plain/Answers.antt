@@ -3,5 +3,4 @@ use Rattle.encoded_dtype.proofs.Forms.{plain_form}
 use Rattle.encoded_dtype.proofs.put_plain.Goals as goal
 
 pub returns : goal.returns
-returns c =
-    plain_form c.args.form _ c.kind_form-new.ensures c.put.ensures
+returns g c = plain_form g.F.Form.kind_in _ c.kind-new.ensures c.put.ensures

@@ -1,13 +1,15 @@
--- `encoded_pair::equal` meets its contract: equal bytes, then any. Assumes nothing.
-use mathlib.Core.Path.{ap, ◌∙◌}
-use Rattle.encoded_pair.specs.Asked.{answer_in}
-use Rattle.encoded_pair.proofs.Asking.{answers_equal, same_equal}
+-- `encoded_pair::equal` meets its contract: one check of equal bytes. Assumes nothing.
+use mathlib.Core.Path.{◌∙◌}
+use Rattle.std.specs.Cmp.Lexicographic.{same_text}
+use Rattle.std.proofs.lemmas.Result.{err_from_is_err_and}
+use Rattle.flat.proofs.Truths.{handed_on}
+use Rattle.encoded_pair.proofs.Asking.{same_refused, same_equal}
 use Rattle.encoded_pair.proofs.equal.Goals as goal
 
-pub returns-then-same_bytes : goal.returns-then-same_bytes
-returns-then-same_bytes c =
-    let checked = c.check.ensures in
-    same_equal _ _ _ _ _ c.same_bytes.ensures c.if-same_bytes.true checked c.to_itself.ensures
+pub returns-in_err-check : goal.returns-in_err-check
+returns-in_err-check c =
+    handed_on (err_from_is_err_and c.from_residual.result c.from_residual.ensures.1)
+    ∙ same_refused _ _ _ _ _ (same_text _ _ c.if-eq.ensures) c.in_err-check.ensures
 
-pub returns : goal.returns
-returns c = c.answer.ensures ∙ ap answer_in c.ask.ensures ∙ answers_equal _ _
+pub returns-then-eq : goal.returns-then-eq
+returns-then-eq c = same_equal _ _ _ _ _ (same_text _ _ c.if-eq.ensures) c.in_ok-check.ensures

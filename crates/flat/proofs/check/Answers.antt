@@ -1,12 +1,10 @@
--- `flat::check` meets its contract: what the scan accepts is a type. Assumes nothing.
+-- `flat::check` meets its contract: one plain leaf is a type. Assumes nothing.
 use mathlib.Core.Path.{sym, ap, ◌∙◌}
+use lib.Dec.{lit≤}
 use Rattle.flat.specs.Reading.{checked_of}
-use Rattle.flat.proofs.Positions.{rest}
-use Rattle.flat.proofs.Scanned.{accepted_passed}
+use Rattle.flat.proofs.Plain.{plain_type}
 use Rattle.flat.proofs.check.Goals as goal
 
-pub returns-then-accepts : goal.returns-then-accepts
-returns-then-accepts c = ap checked_of (sym (accepted_passed _ _ _ _ (sym c.accepts.ensures ∙ c.if-accepts.true)).reads)
-
-pub returns : goal.returns
-returns c = rw (rest, rest) at c.examine.ensures
+pub returns-then-is_plain : goal.returns-then-is_plain
+returns-then-is_plain c =
+    ap checked_of (sym (plain_type _ _ _ _ (lit≤ tt) (sym c.is_plain.ensures ∙ c.if-is_plain.true)).reads)

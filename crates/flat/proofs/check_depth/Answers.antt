@@ -14,12 +14,12 @@ form c = fact (scanned _ _ _ c.requires).1
 pub node_span-requires : goal.node_span-requires
 node_span-requires c = (form_stands (form (goal.at.node_span-requires c).Start).proof).0
 
-pub returns-in-Ends : goal.returns-in-Ends
-returns-in-Ends c =
-    one_type _ (form (goal.at.returns-in-Ends c).Start).proof _
-    (sym c.in-Ends.is ∙ c.node_span.ensures)
+pub returns-in-Some : goal.returns-in-Some
+returns-in-Some c =
+    one_type _ (form (goal.at.returns-in-Some c).Start).proof _
+    (sym c.in-Some.is ∙ c.node_span.ensures)
 
-pub returns-in-TooDeep : goal.returns-in-TooDeep
-returns-in-TooDeep c =
-    too_deep _ (form (goal.at.returns-in-TooDeep c).Start).proof
-    (sym c.in-TooDeep.is ∙ c.node_span.ensures)
+pub returns-in-None : goal.returns-in-None
+returns-in-None c =
+    too_deep _ (form (goal.at.returns-in-None c).Start).proof
+    (sym c.in-None.is ∙ c.node_span.ensures)

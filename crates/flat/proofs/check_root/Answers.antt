@@ -4,7 +4,6 @@ use native.Mathlib.Omega.{arith}
 use lib.Dec.{lit≤}
 use lib.ListN.{length}
 use Rattle.flat.proofs.Truths.{Fact, fact}
-use Rattle.flat.proofs.Positions.{rest}
 use Rattle.flat.proofs.Plain.{plain_type}
 use Rattle.flat.proofs.Roots.{plain_root}
 use Rattle.flat.proofs.check_root.Goals as goal
@@ -21,6 +20,3 @@ bounds-kinds-0 c =
 pub returns-then-is_plain : goal.returns-then-is_plain
 returns-then-is_plain c =
     plain_root (plain_type _ _ _ _ (lit≤ tt) (plain (goal.at.returns-then-is_plain c).Then-is_plain).proof)
-
-pub returns : goal.returns
-returns c = rw (rest, rest) at c.root_of.ensures

@@ -1,28 +1,28 @@
 -- `supertype_lossless::upcast_roots` meets its contract. Assumes nothing.
-use mathlib.Core.Path.{◌≡◌, sym, ap, ◌∙◌}
+use mathlib.Core.Path.{◌≡◌, ap, ◌∙◌}
+use Rattle.std.proofs.lemmas.Result.{err_from_is_err_and}
+use Rattle.flat.proofs.Truths.{handed_on}
 use Rattle.flat.specs.Tree.{head_kind}
-use Rattle.supertype_answer.specs.Join.{joining_roots}
+use native.Mathlib.Omega.{arith}
+use Rattle.std.proofs.lemmas.Grind.{common_steps}
+use Rattle.std.specs.Option.{option_map}
+use Rattle.supertype_answer.specs.Join.{node, found_of, result_of}
 use Rattle.supertype_answer.proofs.Joins.{left_refused, right_refused, both_roots}
 use Rattle.supertype_lossless.specs.Lossless.{found_upcast, root_upcast}
 use Rattle.supertype_lossless.proofs.upcast_roots.Goals as goal
-use Rattle.supertype_lossless.proofs.upcast_roots.Goals.{After-upcast_kinds}
 
-pub returns-in-Refused : goal.returns-in-Refused
-returns-in-Refused c = left_refused _ _ _ c.in-Refused.is
+pub returns-in_err-l : goal.returns-in_err-l
+returns-in_err-l c =
+    ap result_of (handed_on (err_from_is_err_and c.from_residual.result c.from_residual.ensures.1))
+    ∙ left_refused _ _ _ c.in_err-l.was
 
-pub returns-in-Refused-right : goal.returns-in-Refused-right
-returns-in-Refused-right c = right_refused _ _ c.in-Node.is c.in-Refused-right.is
+pub returns-in_err-r : goal.returns-in_err-r
+returns-in_err-r c =
+    ap result_of (handed_on (err_from_is_err_and c.from_residual-in_err-r.result c.from_residual-in_err-r.ensures.1))
+    ∙ right_refused _ _ c.in_ok-l.was c.in_err-r.was
 
--- where both are types
-types : (c : After-upcast_kinds)
-    → found_upcast c.upcast_kinds.result ≡ joining_roots root_upcast c.args.left c.args.right
+pub returns : goal.returns
 unfolding head_kind root_upcast
-types c =
-    ap found_upcast c.upcast_kinds.ensures
-    ∙ both_roots _ _ c.in-Node.is c.in-Node-right.is
-
-pub returns-in-To : goal.returns-in-To
-returns-in-To c = ap found_upcast (sym c.in-To.is) ∙ types (goal.at.returns-in-To c).After-upcast_kinds
-
-pub returns-in-Nothing : goal.returns-in-Nothing
-returns-in-Nothing c = ap found_upcast (sym c.in-Nothing.is) ∙ types (goal.at.returns-in-Nothing c).After-upcast_kinds
+returns c =
+    let m : c.map.result ≡ option_map (λ k. node k 0) c.upcast_kinds.result = grind (arith, common_steps) in
+    ap found_of m ∙ ap found_upcast c.upcast_kinds.ensures ∙ both_roots _ _ c.in_ok-l.was c.in_ok-r.was

@@ -6,10 +6,11 @@ use Rattle.supertype_report.specs.Report.{by_upcast, report_of}
 use Rattle.supertype_report.proofs.Keeping.{OfKind, no, keeps, listed, misses, rounds, lossy}
 use Rattle.supertype_report.proofs.Settled.{report_laws}
 use Rattle.supertype_report.proofs.report_integers.Goals as goal
-use Rattle.supertype_report.proofs.report_integers.Goals.{then-t-le-INT128+then-includes+else-includes-2}
-use Rattle.supertype_report.proofs.report_integers.Goals.{then-t-le-INT128+else-includes, else-t-le-INT128}
+use Rattle.supertype_report.proofs.report_integers.Goals.{else-t-le-INT128-via-then-t-le-INT128+then-includes+else-includes-2}
+use Rattle.supertype_report.proofs.report_integers.Goals.{else-t-le-INT128-via-then-t-le-INT128+else-includes}
+use Rattle.supertype_report.proofs.report_integers.Goals.{else-t-le-INT128-via-else-t-le-INT128}
 use Rattle.supertype_report.proofs.report_integers.Goals.{After-integer_supertype-t, After-upcast_kinds}
-use Rattle.supertype_report.proofs.report_integers.Goals.{Joined-t-le-INT128}
+use Rattle.supertype_report.proofs.report_integers.Goals.{Joined-else-t-le-INT128}
 
 -- the kind of the supertype
 joined : (c : After-integer_supertype-t)
@@ -30,16 +31,16 @@ returns-then-includes-2 c =
     report_laws.only _ _ _
     (w.integers, keeps w (c.includes.ensures.0 (cc)) (c.includes-then-includes.ensures.0 (cc)))
 
--- where the ways meet that don't return
-lost : (j : Joined-t-le-INT128) → let a = j.args in Kept a.a a.b → ⊥
+-- where the supertype doesn't keep both
+lost : (j : Joined-else-t-le-INT128) → let a = j.args in Kept a.a a.b → ⊥
 lost j =
-    let w = joined (goal.at.Joined-t-le-INT128 j).After-integer_supertype-t in
-    elim j.if-t-le-INT128.branch [
-      | then-t-le-INT128+then-includes+else-includes-2 x ↦
+    let w = joined (goal.at.Joined-else-t-le-INT128 j).After-integer_supertype-t in
+    elim j.else-t-le-INT128.branch [
+      | else-t-le-INT128-via-then-t-le-INT128+then-includes+else-includes-2 x ↦
           misses w x.if-t-le-INT128.true (λ f g. no x.includes-then-includes.ensures x.if-includes-2.false g)
-      | then-t-le-INT128+else-includes x ↦
+      | else-t-le-INT128-via-then-t-le-INT128+else-includes x ↦
           misses w x.if-t-le-INT128.true (λ f g. no x.includes.ensures x.if-includes.false f)
-      | else-t-le-INT128 x ↦ rounds w x.if-t-le-INT128.false
+      | else-t-le-INT128-via-else-t-le-INT128 x ↦ rounds w x.if-t-le-INT128.false
     ]
 
 by-upcast : (c : After-upcast_kinds)
@@ -48,10 +49,10 @@ by-upcast c =
     ap by_upcast c.upcast_kinds.ensures
     ∙ report_laws.only _ _ _
     (lossy (joined (goal.at.After-upcast_kinds c).After-integer_supertype-t).integers
-    (lost (goal.at.After-upcast_kinds c).Joined-t-le-INT128))
+    (lost (goal.at.After-upcast_kinds c).Joined-else-t-le-INT128))
 
-pub returns-in-To : goal.returns-in-To
-returns-in-To c = ap by_upcast (sym c.in-To.is) ∙ by-upcast (goal.at.returns-in-To c).After-upcast_kinds
+pub returns-in-Some : goal.returns-in-Some
+returns-in-Some c = ap by_upcast (sym c.in-Some.is) ∙ by-upcast (goal.at.returns-in-Some c).After-upcast_kinds
 
-pub returns-in-Nothing : goal.returns-in-Nothing
-returns-in-Nothing c = ap by_upcast (sym c.in-Nothing.is) ∙ by-upcast (goal.at.returns-in-Nothing c).After-upcast_kinds
+pub returns-in-None : goal.returns-in-None
+returns-in-None c = ap by_upcast (sym c.in-None.is) ∙ by-upcast (goal.at.returns-in-None c).After-upcast_kinds

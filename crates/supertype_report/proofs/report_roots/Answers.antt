@@ -1,20 +1,25 @@
 -- `supertype_report::report_roots` meets its contract. Assumes nothing.
-use mathlib.Core.Path.{◌∙◌}
+use mathlib.Core.Path.{ap, ◌∙◌}
+use Rattle.std.proofs.lemmas.Result.{err_from_is_err_and}
+use Rattle.std.specs.Prelude.{Ok}
 use Rattle.flat.specs.Tree.{head_kind}
+use Rattle.flat.proofs.Truths.{handed_on}
 use Rattle.supertype_answer.proofs.Joins.{left_refused, right_refused, both_roots}
 use Rattle.supertype_report.specs.Report.{types_report}
 use Rattle.supertype_report.proofs.report_roots.Goals as goal
 
-pub returns-in-Refused : goal.returns-in-Refused
+pub returns-in_err-l : goal.returns-in_err-l
 unfolding types_report
-returns-in-Refused c = left_refused _ _ _ c.in-Refused.is
+returns-in_err-l c =
+    handed_on (err_from_is_err_and c.from_residual.result c.from_residual.ensures.1)
+    ∙ left_refused _ _ _ c.in_err-l.was
 
-pub returns-in-Refused-right : goal.returns-in-Refused-right
+pub returns-in_err-r : goal.returns-in_err-r
 unfolding types_report
-returns-in-Refused-right c = right_refused _ _ c.in-Node.is c.in-Refused-right.is
+returns-in_err-r c =
+    handed_on (err_from_is_err_and c.from_residual-in_err-r.result c.from_residual-in_err-r.ensures.1)
+    ∙ right_refused _ _ c.in_ok-l.was c.in_err-r.was
 
-pub returns-in-Node-right : goal.returns-in-Node-right
+pub returns : goal.returns
 unfolding head_kind types_report
-returns-in-Node-right c =
-    c.report_kinds.ensures
-    ∙ both_roots _ _ c.in-Node.is c.in-Node-right.is
+returns c = ap Ok c.report_kinds.ensures ∙ both_roots _ _ c.in_ok-l.was c.in_ok-r.was

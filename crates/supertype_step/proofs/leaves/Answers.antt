@@ -3,11 +3,7 @@ use Rattle.supertype_step.proofs.Leaf.{by_leaves}
 use Rattle.supertype_step.proofs.leaves.Goals as goal
 
 pub returns-in-Some : goal.returns-in-Some
-returns-in-Some c =
-    by_leaves _ _ _ _ _ c.requires.0 c.requires.1 _ _ c.in-Some.is
-    c.node_supertype.ensures
+returns-in-Some c = by_leaves _ c.requires.0 c.requires.1 c.in-Some.is c.node_supertype.ensures
 
-pub returns-in-Nothing : goal.returns-in-Nothing
-returns-in-Nothing c =
-    by_leaves _ _ _ _ _ c.requires.0 c.requires.1 _ _ c.in-Nothing.is
-    c.node_supertype.ensures
+pub returns-in-None : goal.returns-in-None
+returns-in-None c = by_leaves _ c.requires.0 c.requires.1 c.in-None.is c.node_supertype.ensures

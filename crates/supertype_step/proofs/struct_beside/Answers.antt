@@ -4,26 +4,21 @@ use native.Mathlib.Omega.{arith}
 use Rattle.supertype_step.proofs.Sides.{at_each, at_empty, at_first, struct_nothing, struct_unknown}
 use Rattle.supertype_step.proofs.struct_beside.Goals as goal
 
-pub returns-then-leaf-lt-UNKNOWN_ANY : goal.returns-then-leaf-lt-UNKNOWN_ANY
-returns-then-leaf-lt-UNKNOWN_ANY c =
-    at_each _ _ c.requires (sym c.is_primitive_numeric.ensures ∙ c.if-is_primitive_numeric.true) (omega arith)
+pub returns-in-true : goal.returns-in-true
+returns-in-true c = at_each _ _ c.requires (sym c.is_primitive_numeric.ensures ∙ c.in-true.is) (omega arith)
 
-pub returns-then-count-eq0 : goal.returns-then-count-eq0
-returns-then-count-eq0 c =
-    at_empty _ _ c.requires (sym c.is_primitive_numeric.ensures ∙ c.if-is_primitive_numeric.true) (omega arith)
-    (omega arith)
+pub returns-in-true-2 : goal.returns-in-true-2
+returns-in-true-2 c =
+    at_empty _ _ c.requires (sym c.is_primitive_numeric.ensures ∙ c.in-true.is) (omega arith) (omega arith)
 
-pub returns-then-is_primitive_numeric : goal.returns-then-is_primitive_numeric
-returns-then-is_primitive_numeric c =
-    at_first _ _ c.requires (sym c.is_primitive_numeric.ensures ∙ c.if-is_primitive_numeric.true) (omega arith)
-    c.if-count-eq0.false
+pub returns-in-true-3 : goal.returns-in-true-3
+returns-in-true-3 c =
+    at_first _ _ c.requires (sym c.is_primitive_numeric.ensures ∙ c.in-true.is) (omega arith) c.if-count-eq0.false
 
-pub returns-then-leaf-lt-UNKNOWN_ANY-2 : goal.returns-then-leaf-lt-UNKNOWN_ANY-2
-returns-then-leaf-lt-UNKNOWN_ANY-2 c =
-    struct_nothing _ _ c.requires (sym c.is_primitive_numeric.ensures ∙ c.if-is_primitive_numeric.false)
-    (omega arith)
+pub returns-in-false : goal.returns-in-false
+returns-in-false c =
+    struct_nothing _ _ c.requires (sym c.is_primitive_numeric.ensures ∙ c.in-false.is) (omega arith)
 
-pub returns : goal.returns
-returns c =
-    struct_unknown _ _ c.requires (sym c.is_primitive_numeric.ensures ∙ c.if-is_primitive_numeric.false)
-    (omega arith)
+pub returns-in-false-2 : goal.returns-in-false-2
+returns-in-false-2 c =
+    struct_unknown _ _ c.requires (cc) (sym c.is_primitive_numeric.ensures ∙ c.in-false.is) (omega arith)

@@ -8,8 +8,8 @@ use Rattle.dtype.proofs.kind.is_integer.Goals as goal
 pub returns-in-2-to-11 : goal.returns-in-2-to-11
 returns-in-2-to-11 c = of_run is_integer true 2 10 (unfold says in tt) _ (omega arith)
 
-pub returns-in-26-to-27 : goal.returns-in-26-to-27
-returns-in-26-to-27 c = of_run is_integer true 26 2 (unfold says in tt) _ (omega arith)
+pub returns-in-2-to-11-2 : goal.returns-in-2-to-11-2
+returns-in-2-to-11-2 c = of_run is_integer true 26 2 (unfold says in tt) _ (omega arith)
 
 pub returns-in_default : goal.returns-in_default
 returns-in_default c = of_run is_integer false 0 2 (unfold says in tt) _ (omega arith)

@@ -8,11 +8,11 @@ use Rattle.dtype.proofs.kind.is_primitive.Goals as goal
 pub returns-in-1-to-14 : goal.returns-in-1-to-14
 returns-in-1-to-14 c = of_run is_primitive true 1 14 (unfold says in tt) _ (omega arith)
 
-pub returns-in-16-to-17 : goal.returns-in-16-to-17
-returns-in-16-to-17 c = of_run is_primitive true 16 2 (unfold says in tt) _ (omega arith)
+pub returns-in-1-to-14-2 : goal.returns-in-1-to-14-2
+returns-in-1-to-14-2 c = of_run is_primitive true 16 2 (unfold says in tt) _ (omega arith)
 
-pub returns-in-25-to-27 : goal.returns-in-25-to-27
-returns-in-25-to-27 c = of_run is_primitive true 25 3 (unfold says in tt) _ (omega arith)
+pub returns-in-1-to-14-3 : goal.returns-in-1-to-14-3
+returns-in-1-to-14-3 c = of_run is_primitive true 25 3 (unfold says in tt) _ (omega arith)
 
 pub returns-in_default : goal.returns-in_default
 returns-in_default c = of_run is_primitive false 0 1 (unfold says in tt) _ (omega arith)

@@ -8,8 +8,8 @@ use Rattle.dtype.proofs.kind.is_primitive_numeric.Goals as goal
 pub returns-in-2-to-14 : goal.returns-in-2-to-14
 returns-in-2-to-14 c = of_run is_primitive_numeric true 2 13 (unfold says in tt) _ (omega arith)
 
-pub returns-in-25-to-27 : goal.returns-in-25-to-27
-returns-in-25-to-27 c = of_run is_primitive_numeric true 25 3 (unfold says in tt) _ (omega arith)
+pub returns-in-2-to-14-2 : goal.returns-in-2-to-14-2
+returns-in-2-to-14-2 c = of_run is_primitive_numeric true 25 3 (unfold says in tt) _ (omega arith)
 
 pub returns-in_default : goal.returns-in_default
 returns-in_default c = of_run is_primitive_numeric false 0 2 (unfold says in tt) _ (omega arith)

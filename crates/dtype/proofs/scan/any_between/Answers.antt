@@ -1,16 +1,13 @@
--- `dtype::scan::any_between` meets its contract: what was found in the first i kinds, or stands in the rest, decides.
--- Assumes nothing.
-use Rattle.dtype.proofs.Scans.{any_on, any_found, any_end, is_between, is_above, is_below}
+-- `dtype::scan::any_between` meets its contract: what was found is what the kinds so far say. Assumes nothing.
+use mathlib.Core.Path.{◌∙◌}
+use Rattle.dtype.proofs.Scans.{any_more, from_low, below_low}
 use Rattle.dtype.proofs.scan.any_between.Goals as goal
-use Rattle.dtype.proofs.scan.any_between.Goals.{then-low-k+then-k-high, then-low-k+else-k-high, else-low-k}
+use Rattle.dtype.proofs.scan.any_between.Goals.{then-low-k, else-low-k}
 
-pub loop-i-preserved : goal.loop-i-preserved
-loop-i-preserved c =
+pub loop-k-preserved : goal.loop-k-preserved
+loop-k-preserved c =
+    any_more _ _ _ c.loop-k.invariant c.loop-k-test.true (
     elim c.if-low-k.branch [
-      | then-low-k+then-k-high w ↦ rw w.found-is (search (any_found, is_between))
-      | then-low-k+else-k-high w ↦ rw w.found-is (search (any_on, is_above))
-      | else-low-k w ↦ rw w.found-is (search (any_on, is_below))
-    ]
-
-pub returns : goal.returns
-returns c = search any_end
+      | then-low-k w ↦ w.found-is ∙ from_low _ _ _ w.if-low-k.true
+      | else-low-k w ↦ w.found-is ∙ below_low _ _ _ w.if-low-k.false
+    ])

@@ -1,13 +1,9 @@
--- `dtype::scan::any_between` meets its contract: what was found in the first i kinds, or stands in the rest, decides.
--- Assumes nothing.
-use Prim.Native.Nat.{◌-◌}
-use lib.ListN.{length}
-use Rattle.dtype.specs.Scan.{between}
-use Rattle.dtype.proofs.Scans.{Scanned}
+-- `dtype::scan::any_between` meets its contract: what was found is what the kinds so far say. Assumes nothing.
+use mathlib.Core.Path.{◌≡◌}
+use lib.ListN.{take}
+use Rattle.std.specs.List.{list_any}
+use Rattle.flat.specs.Kind.{between}
 use Rattle.dtype.proofs.scan.any_between.Given as goal
 
-abbrev pub invariant-loop-i : goal.invariant-loop-i
-invariant-loop-i l = Scanned (between l.low l.high) l.kinds l.found l.i
-
-abbrev pub decreases-loop-i : goal.decreases-loop-i
-decreases-loop-i l = length l.kinds - l.i
+abbrev pub invariant-loop-k : goal.invariant-loop-k
+invariant-loop-k l = l.found ≡ list_any (between l.low l.high) (take l.k-index l.kinds)

@@ -1,12 +1,18 @@
--- `encoded::bytes::write_args` meets its contract: the first i arguments are written. Assumes nothing.
+-- `encoded::bytes::write_args` meets its contract: one argument after the other. Assumes nothing.
+use mathlib.Core.Path.{refl, ◌∙◌}
 use native.Mathlib.Omega.{arith}
-use Rattle.std.proofs.lemmas.Grind.{common_steps}
-use Rattle.encoded.proofs.Laws.{copied_all, arg_bytes_length, args_next}
+use Rattle.encoded.specs.Encoding.{arg_bytes}
+use Rattle.encoded.proofs.Laws.{le_bytes, args_next, args_written}
 use Rattle.encoded.proofs.bytes.write_args.Goals as goal
+
+pub loop-i-init : goal.loop-i-init
+unfolding arg_bytes
+loop-i-init c = refl
 
 pub loop-i-preserved : goal.loop-i-preserved
 loop-i-preserved c =
-    (omega arith, args_next _ _ c.loop-i.invariant.1 (omega arith) c.put_word.ensures (grind (arith, common_steps)))
+    args_next _ _ _ (omega arith) (omega arith) c.loop-i.invariant
+    (c.copy_from_slice.ensures.after ∙ c.to_le_bytes.ensures ∙ le_bytes 8 _)
 
 pub returns : goal.returns
-returns c = rw arg_bytes_length at (copied_all c.loop-i.invariant.1 (rw arg_bytes_length (omega arith)))
+returns c = args_written c.args.args.now (omega arith) (omega arith) c.loop-i.invariant

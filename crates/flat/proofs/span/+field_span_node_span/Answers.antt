@@ -5,85 +5,87 @@
 -- Assumes nothing.
 use native.Mathlib.Omega.{arith}
 use borrow.Author.Rules.{rules}
-use mathlib.Core.Path.{refl}
-use Rattle.flat.proofs.Spans.{start, fields_done, no_level, type_call, TypeSaid, field_deep, field_done, AtBottom}
+use mathlib.Core.Path.{refl, ◌∙◌}
+use Rattle.flat.proofs.Spans.{SpansAlong, start, fields_done, no_level, type_call, TypeSaid, field_deep, field_done, AtBottom}
 use Rattle.flat.proofs.Spans.{at_bottom, node_deep, node_leaf, fields_call, FieldsSaid, fields_inside, node_fields}
 use Rattle.flat.proofs.Spans.{node_deeper}
+use Rattle.flat.proofs.Truths.{none_done, one_done}
 use Rattle.flat.proofs.span.+field_span_node_span.Goals as goal
 
 -- ---- the walk of fields
-pub field_span-loop-left-init : goal.field_span-loop-left-init
-field_span-loop-left-init t c = start (refl, c.requires)
+pub field_span-loop-init : goal.field_span-loop-init
+field_span-loop-init t c = none_done (SpansAlong _ _ _ _ _ _) _ (start (refl, c.requires))
 
-pub field_span-returns-then-levels-lt2 : goal.field_span-returns-then-levels-lt2
-field_span-returns-then-levels-lt2 t c = no_level c.loop-left.invariant (omega arith) c.if-levels-lt2.true
+pub field_span-returns-in_err-below : goal.field_span-returns-in_err-below
+field_span-returns-in_err-below t c =
+    c.from_residual.ensures ∙ no_level c.loop.invariant (omega arith) (omega (arith, c.in_err-below.ensures))
 
 pub field_span-node_span-requires : goal.field_span-node_span-requires
 field_span-node_span-requires t c =
-    let asks = type_call c.loop-left.invariant (omega arith) in (omega (arith, asks.0, c.decreases), asks.1)
+    let asks = type_call c.loop.invariant (omega arith) in (omega (arith, asks.0, c.decreases), asks.1)
 
-pub field_span-loop-left-preserved : goal.field_span-loop-left-preserved
-field_span-loop-left-preserved t c =
-    let field_span_said : TypeSaid c.loop-left.invariant c.node_span.result =
-    record { more = omega arith; room = omega arith; says = c.node_span.ensures } in
-    field_done field_span_said c.in-Ends.is
+pub field_span-returns-in_err-at : goal.field_span-returns-in_err-at
+field_span-returns-in_err-at t c =
+    let said : TypeSaid c.loop.invariant c.node_span.result =
+    record { more = omega arith; below = c.in_ok-below.below; room = omega (arith, c.in_ok-below.ensures); says = c.node_span.ensures } in
+    c.from_residual-in_err-at.ensures ∙ field_deep said (c.in_err-at.was)
+
+pub field_span-loop-preserved : goal.field_span-loop-preserved
+field_span-loop-preserved t c =
+    let said : TypeSaid c.loop.invariant c.node_span.result =
+    record { more = omega arith; below = c.in_ok-below.below; room = omega (arith, c.in_ok-below.ensures); says = c.node_span.ensures } in
+    one_done (SpansAlong _ _ _ _ _ _) _ _ (field_done said (c.in_ok-at.was))
 
 pub field_span-overflow_add-at : goal.field_span-overflow_add-at
-field_span-overflow_add-at t c = omega (arith, (field_span-loop-left-preserved t c).inside)
-
-pub field_span-returns-in-TooDeep : goal.field_span-returns-in-TooDeep
-field_span-returns-in-TooDeep t c =
-    let field_span_said : TypeSaid c.loop-left.invariant c.node_span.result =
-    record { more = omega arith; room = omega arith; says = c.node_span.ensures } in
-    field_deep field_span_said c.in-TooDeep.is
+field_span-overflow_add-at t c = omega (arith, (field_span-loop-preserved t c).inside)
 
 pub field_span-returns : goal.field_span-returns
-field_span-returns t c = fields_done c.loop-left.invariant (omega arith)
+field_span-returns t c = fields_done c.loop.invariant (omega arith)
 
 pub node_span-returns-then-at-levels : goal.node_span-returns-then-at-levels
 node_span-returns-then-at-levels t c =
-    let node_span_past : AtBottom t c.args.levels c.args.kinds.now c.args.args.now c.bottom-at.result =
-    at_bottom (c.decreases, c.requires) c.bottom-at.ensures.0 in
+    let node_span_past : AtBottom t c.args.levels c.args.kinds.now c.args.args.now c.leading-at.result =
+    at_bottom (c.decreases, c.requires) c.leading-at.ensures.0 in
     node_deep node_span_past c.if-at-levels.true
 
-pub node_span-returns-in-0-to-27 : goal.node_span-returns-in-0-to-27
-node_span-returns-in-0-to-27 t c =
-    let node_span_past : AtBottom t c.args.levels c.args.kinds.now c.args.args.now c.bottom-at.result =
-    at_bottom (c.decreases, c.requires) c.bottom-at.ensures.0 in
+pub node_span-returns-then-kinds-at-lt-LIST : goal.node_span-returns-then-kinds-at-lt-LIST
+node_span-returns-then-kinds-at-lt-LIST t c =
+    let node_span_past : AtBottom t c.args.levels c.args.kinds.now c.args.args.now c.leading-at.result =
+    at_bottom (c.decreases, c.requires) c.leading-at.ensures.0 in
     node_leaf node_span_past (omega arith) (omega arith)
 
 pub node_span-field_span-requires : goal.node_span-field_span-requires
 node_span-field_span-requires t c =
-    let node_span_past : AtBottom t c.args.levels c.args.kinds.now c.args.args.now c.bottom-at.result =
-    at_bottom (c.decreases, c.requires) c.bottom-at.ensures.0 in
+    let node_span_past : AtBottom t c.args.levels c.args.kinds.now c.args.args.now c.leading-at.result =
+    at_bottom (c.decreases, c.requires) c.leading-at.ensures.0 in
     fields_call node_span_past (omega arith)
+
+pub node_span-returns-in_err-fields : goal.node_span-returns-in_err-fields
+node_span-returns-in_err-fields t c =
+    let node_span_past : AtBottom t c.args.levels c.args.kinds.now c.args.args.now c.leading-at.result =
+    at_bottom (c.decreases, c.requires) c.leading-at.ensures.0 in
+    let node_span_said : FieldsSaid node_span_past c.field_span.result =
+    record { shallow = omega arith; struct = omega arith; says = c.field_span.ensures } in
+    c.from_residual.ensures ∙ node_deeper node_span_said (c.in_err-fields.was)
 
 pub node_span-overflow_add-result : goal.node_span-overflow_add-result
 node_span-overflow_add-result t c =
-    let node_span_past : AtBottom t c.args.levels c.args.kinds.now c.args.args.now c.bottom-at.result =
-    at_bottom (c.decreases, c.requires) c.bottom-at.ensures.0 in
+    let node_span_past : AtBottom t c.args.levels c.args.kinds.now c.args.args.now c.leading-at.result =
+    at_bottom (c.decreases, c.requires) c.leading-at.ensures.0 in
     let node_span_said : FieldsSaid node_span_past c.field_span.result =
     record { shallow = omega arith; struct = omega arith; says = c.field_span.ensures } in
-    omega (arith, fields_inside node_span_said c.in-Ends.is)
+    omega (arith, fields_inside node_span_said (c.in_ok-fields.was))
 
-pub node_span-returns-in-Ends : goal.node_span-returns-in-Ends
-node_span-returns-in-Ends t c =
-    let node_span_past : AtBottom t c.args.levels c.args.kinds.now c.args.args.now c.bottom-at.result =
-    at_bottom (c.decreases, c.requires) c.bottom-at.ensures.0 in
+pub node_span-returns : goal.node_span-returns
+node_span-returns t c =
+    let node_span_past : AtBottom t c.args.levels c.args.kinds.now c.args.args.now c.leading-at.result =
+    at_bottom (c.decreases, c.requires) c.leading-at.ensures.0 in
     let node_span_said : FieldsSaid node_span_past c.field_span.result =
     record { shallow = omega arith; struct = omega arith; says = c.field_span.ensures } in
-    node_fields node_span_said c.in-Ends.is
-
-pub node_span-returns-in-TooDeep : goal.node_span-returns-in-TooDeep
-node_span-returns-in-TooDeep t c =
-    let node_span_past : AtBottom t c.args.levels c.args.kinds.now c.args.args.now c.bottom-at.result =
-    at_bottom (c.decreases, c.requires) c.bottom-at.ensures.0 in
-    let node_span_said : FieldsSaid node_span_past c.field_span.result =
-    record { shallow = omega arith; struct = omega arith; says = c.field_span.ensures } in
-    node_deeper node_span_said c.in-TooDeep.is
+    node_fields node_span_said (c.in_ok-fields.was)
 
 pub node_span-bounds-kinds-at : goal.node_span-bounds-kinds-at
 node_span-bounds-kinds-at t c =
-    let node_span_past : AtBottom t c.args.levels c.args.kinds.now c.args.args.now c.bottom-at.result =
-    at_bottom (c.decreases, c.requires) c.bottom-at.ensures.0 in
+    let node_span_past : AtBottom t c.args.levels c.args.kinds.now c.args.args.now c.leading-at.result =
+    at_bottom (c.decreases, c.requires) c.leading-at.ensures.0 in
     search (rules, node_span_past)

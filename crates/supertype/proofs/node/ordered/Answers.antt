@@ -1,7 +1,7 @@
 -- `supertype::node::ordered` meets its contract. Assumes nothing.
-use mathlib.Core.Path.{◌≡◌, sym, ◌∙◌}
+use mathlib.Core.Path.{◌≡◌, sym, ap, ◌∙◌}
+use Rattle.std.specs.Prelude.{Some}
 use native.Mathlib.Omega.{arith}
-use Rattle.supertype_answer.specs.Join.{node}
 use Rattle.supertype_arms.specs.declared.plan.Plan.{Plan}
 use Rattle.supertype.proofs.ByPlan.{Planned, none, left, right, kind, decimals, decimal_kinds, decimal_integer}
 use Rattle.supertype.proofs.ByPlan.{dyn_decimal, datetime_duration, one_zone, two_zones, durations}
@@ -11,7 +11,7 @@ use Rattle.supertype.proofs.node.ordered.Goals.{After-planned}
 
 -- where the plan was told
 told : (c : After-planned) {p : Plan} → c.planned.result ≡ p
-    → let a = c.args in Planned a.to_string (node a.a a.x) (node a.b a.y) p
+    → let a = c.args in Planned a.to_string a.l a.r p
 told c e =
     let pre = c.requires in
     record { fits_left = pre.0; fits_right = pre.1; apart = pre.2; is = sym e ∙ c.planned.ensures }
@@ -32,7 +32,7 @@ pub returns-in-Right : goal.returns-in-Right
 returns-in-Right c = right (told (goal.at.returns-in-Right c).After-planned (cc))
 
 pub returns-in-Kind : goal.returns-in-Kind
-returns-in-Kind c = kind (told (goal.at.returns-in-Kind c).After-planned (cc))
+returns-in-Kind c = kind {k = c.in-Kind.k} (told (goal.at.returns-in-Kind c).After-planned (cc)) (cc)
 
 pub returns-in-Decimals : goal.returns-in-Decimals
 returns-in-Decimals c = decimals (told (goal.at.returns-in-Decimals c).After-planned (cc)) c.decimals.ensures
@@ -43,20 +43,21 @@ returns-in-DecimalInteger c = decimal_integer (told (goal.at.returns-in-DecimalI
 pub returns-in-DatetimeDuration : goal.returns-in-DatetimeDuration
 returns-in-DatetimeDuration c = datetime_duration (told (goal.at.returns-in-DatetimeDuration c).After-planned (cc)) c.datetime.ensures
 
-pub returns-then-x-y : goal.returns-then-x-y
-returns-then-x-y c = one_zone (told (goal.at.returns-then-x-y c).After-planned (cc)) (omega arith) c.datetime-then-x-y.ensures
+pub returns-in-Datetimes : goal.returns-in-Datetimes
+returns-in-Datetimes c =
+    one_zone (told (goal.at.returns-in-Datetimes c).After-planned (cc)) (omega arith) c.datetime-in-Datetimes.ensures
 
-pub returns-else-x-y : goal.returns-else-x-y
-returns-else-x-y c = two_zones (told (goal.at.returns-else-x-y c).After-planned (cc)) (omega arith)
+pub returns-in-Datetimes-2 : goal.returns-in-Datetimes-2
+returns-in-Datetimes-2 c = two_zones (told (goal.at.returns-in-Datetimes-2 c).After-planned (cc)) (omega arith)
 
 pub returns-in-Durations : goal.returns-in-Durations
-returns-in-Durations c = durations (told (goal.at.returns-in-Durations c).After-planned (cc)) c.larger.ensures
+returns-in-Durations c = durations (told (goal.at.returns-in-Durations c).After-planned (cc)) c.max.ensures
 
 pub returns-in-DynNumber : goal.returns-in-DynNumber
-returns-in-DynNumber c = number (told (goal.at.returns-in-DynNumber c).After-planned (cc)) c.dyn_number.ensures
+returns-in-DynNumber c = ap Some c.plain-in-DynNumber.ensures ∙ number (told (goal.at.returns-in-DynNumber c).After-planned (cc)) c.dyn_number.ensures
 
 pub returns-in-DynBoolean : goal.returns-in-DynBoolean
-returns-in-DynBoolean c = boolean (told (goal.at.returns-in-DynBoolean c).After-planned (cc)) c.materialize_dyn_int.ensures
+returns-in-DynBoolean c = ap Some c.plain-in-DynBoolean.ensures ∙ boolean (told (goal.at.returns-in-DynBoolean c).After-planned (cc)) c.materialize_dyn_int.ensures
 
 pub returns-in-DynDecimal : goal.returns-in-DynDecimal
 returns-in-DynDecimal c = dyn_decimal (told (goal.at.returns-in-DynDecimal c).After-planned (cc)) c.widened.ensures

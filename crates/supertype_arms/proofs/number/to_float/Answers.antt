@@ -8,13 +8,13 @@ use Rattle.supertype_arms.proofs.number.to_float.Goals as goal
 
 pub returns-in-3 : goal.returns-in-3
 returns-in-3 c s =
-    rw c.larger.ensures
-    (rule (λ s a b. Kind (max Float32 b)) UInt16 1 Float16 3 (unfold right in tt) s _ _ (omega arith))
+    rw c.max.ensures
+    (rule (λ s a b. Kind (max b Float32)) UInt16 1 Float16 3 (unfold right in tt) s _ _ (omega arith))
 
 pub returns-in-8 : goal.returns-in-8
 returns-in-8 c s =
-    rw c.larger-in-8.ensures
-    (rule (λ s a b. Kind (max Float32 b)) Int16 1 Float16 3 (unfold right in tt) s _ _ (omega arith))
+    rw c.max-in-8.ensures
+    (rule (λ s a b. Kind (max b Float32)) Int16 1 Float16 3 (unfold right in tt) s _ _ (omega arith))
 
 pub returns-in-4-to-6 : goal.returns-in-4-to-6
 returns-in-4-to-6 c s = rule (λ s a b. Kind Float64) UInt32 3 Float16 3 (unfold right in tt) s _ _ (omega arith)

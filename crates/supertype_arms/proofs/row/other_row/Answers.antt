@@ -1,35 +1,58 @@
 -- `supertype_arms::row::other_row` meets its contract. Assumes nothing.
-use mathlib.Core.Bool.{cond}
+use native.Mathlib.Decide.{dec_lt}
 use native.Mathlib.Omega.{arith}
-use lib.Dec.{ltb}
-use Rattle.flat.specs.Kind.{Binary, UnknownAny}
-use Rattle.supertype_arms.specs.declared.plan.Plan.TheVariants.{No, Kind}
-use Rattle.supertype_arms.proofs.Areas.{right_apart, rule_apart, apart_at, alone_right}
+use Rattle.flat.specs.Kind.{Binary, Date, Datetime, Duration, Time, UnknownAny}
+use Rattle.supertype_arms.specs.declared.plan.Plan.TheVariants.{No, Right, Kind, DatetimeDuration, Datetimes, Durations}
+use Rattle.supertype_arms.proofs.Areas.{right, right_apart, rule, rule_apart}
 use Rattle.supertype_arms.proofs.row.other_row.Goals as goal
 
-pub date_row-requires : goal.date_row-requires
-date_row-requires c = apart_at c.in-19.is c.requires.0
+pub returns-in-19-eq20 : goal.returns-in-19-eq20
+returns-in-19-eq20 c = rule (λ s a b. Right) Date 1 Datetime 1 (unfold right in tt) _ _ _ (omega arith)
 
-pub datetime_row-requires : goal.datetime_row-requires
-datetime_row-requires c = apart_at c.in-20.is c.requires.0
+pub returns-in-19-eq21 : goal.returns-in-19-eq21
+returns-in-19-eq21 c = rule (λ s a b. Kind Date) Date 1 Duration 1 (unfold right in tt) _ _ _ (omega arith)
 
-pub duration_row-requires : goal.duration_row-requires
-duration_row-requires c = apart_at c.in-21.is c.requires.0
+pub returns-in-20-eq20 : goal.returns-in-20-eq20
+returns-in-20-eq20 c = rule (λ s a b. Datetimes) Datetime 1 Datetime 1 (unfold right in tt) _ _ _ (omega arith)
 
-pub returns-in-19 : goal.returns-in-19
-returns-in-19 c = rw c.in-19.is c.date_row.ensures
+pub returns-in-20-eq21 : goal.returns-in-20-eq21
+returns-in-20-eq21 c = rule (λ s a b. DatetimeDuration) Datetime 1 Duration 1 (unfold right in tt) _ _ _ (omega arith)
 
-pub returns-in-20 : goal.returns-in-20
-returns-in-20 c = rw c.in-20.is c.datetime_row.ensures
+pub returns-in-21-eq21 : goal.returns-in-21-eq21
+returns-in-21-eq21 c = rule (λ s a b. Durations) Duration 1 Duration 1 (unfold right in tt) _ _ _ (omega arith)
 
-pub returns-in-21 : goal.returns-in-21
-returns-in-21 c = rw c.in-21.is c.duration_row.ensures
+pub returns-in_default-0-to-22 : goal.returns-in_default-0-to-22
+returns-in_default-0-to-22 c = rule (λ s a b. No) Date 1 Time 1 (unfold right in tt) _ _ _ (omega arith)
 
-pub returns-in-0-to-18 : goal.returns-in-0-to-18
-returns-in-0-to-18 c =
-    rw c.alone.ensures
-    (rule_apart (λ s a b. cond (ltb b UnknownAny) No (Kind UnknownAny)) Binary 2 Binary 11
-    (unfold right_apart in tt) _ _ _ (omega arith) (cc))
+pub returns-in_default-0-to-22-2 : goal.returns-in_default-0-to-22-2
+returns-in_default-0-to-22-2 c =
+    rule_apart (λ s a b. No) Date 1 Date 1 (unfold right_apart in tt) _ _ _ (omega arith) (cc)
+
+pub returns-in_default-0-to-22-3 : goal.returns-in_default-0-to-22-3
+returns-in_default-0-to-22-3 c = rule (λ s a b. No) Datetime 1 Time 1 (unfold right in tt) _ _ _ (omega arith)
+
+pub returns-in_default-0-to-22-5 : goal.returns-in_default-0-to-22-5
+returns-in_default-0-to-22-5 c = rule (λ s a b. No) Duration 1 Time 1 (unfold right in tt) _ _ _ (omega arith)
+
+pub returns-in_default-0-to-22-7 : goal.returns-in_default-0-to-22-7
+returns-in_default-0-to-22-7 c =
+    elim (dec_lt c.args.a Date) [
+      | yes h ↦ rule_apart (λ s a b. No) Binary 2 Binary 6 (unfold right_apart in tt) _ _ _ (omega arith) (cc)
+      | no h ↦ rule_apart (λ s a b. No) Time 1 Time 1 (unfold right_apart in tt) _ _ _ (omega arith) (cc)
+    ]
 
 pub returns-in_default : goal.returns-in_default
-returns-in_default c = rw c.alone-in_default.ensures (alone_right _ _ _ (omega arith) (cc))
+returns-in_default c =
+    rule_apart (λ s a b. Kind UnknownAny) Binary 6 UnknownAny 5 (unfold right_apart in tt) _ _ _ (omega arith) (cc)
+
+pub returns-in_default-2 : goal.returns-in_default-2
+returns-in_default-2 c =
+    rule_apart (λ s a b. Kind UnknownAny) Binary 6 UnknownAny 5 (unfold right_apart in tt) _ _ _ (omega arith) (cc)
+
+pub returns-in_default-3 : goal.returns-in_default-3
+returns-in_default-3 c =
+    rule_apart (λ s a b. Kind UnknownAny) Binary 6 UnknownAny 5 (unfold right_apart in tt) _ _ _ (omega arith) (cc)
+
+pub returns-in_default-4 : goal.returns-in_default-4
+returns-in_default-4 c =
+    rule_apart (λ s a b. Kind UnknownAny) Binary 6 UnknownAny 5 (unfold right_apart in tt) _ _ _ (omega arith) (cc)

@@ -1,5 +1,5 @@
 -- `supertype_arms::row::string_row` meets its contract. Assumes nothing.
-use mathlib.Core.Bool.{cond}
+use mathlib.Core.Bool.{true, false, cond}
 use native.Mathlib.Omega.{arith}
 use Rattle.flat.specs.Kind.{String, Binary, BinaryOffset, Date, UnknownAny, UnknownStr, UnknownFloat}
 use Rattle.supertype_arms.specs.declared.plan.Plan.TheVariants.{No, Left, Kind}
@@ -26,5 +26,10 @@ returns-in-19-to-22 c =
 
 pub returns-in_default : goal.returns-in_default
 returns-in_default c =
-    rw c.left_if.ensures
-    (rule (λ s a b. cond s Left No) String 1 UnknownFloat 3 (unfold right in tt) _ _ _ (omega arith))
+    rw c.if-to_string.true
+    (rule (λ s a b. cond s Left No) String 1 UnknownFloat 3 (unfold right in tt) true _ _ (omega arith))
+
+pub returns-in_default-2 : goal.returns-in_default-2
+returns-in_default-2 c =
+    rw c.if-to_string.false
+    (rule (λ s a b. cond s Left No) String 1 UnknownFloat 3 (unfold right in tt) false _ _ (omega arith))

@@ -4,19 +4,18 @@ use native.Mathlib.Omega.{arith}
 use Rattle.supertype_numbers.proofs.DynInts.{first, dyn_int_lem, if_any, if_pos, if_neg}
 use Rattle.supertype_numbers.proofs.dyn_int.materialize_dyn_int.Goals as goal
 
-pub returns-then-arg-lt-INT32_END : goal.returns-then-arg-lt-INT32_END
+pub returns-then-v-lt-INT32_END : goal.returns-then-v-lt-INT32_END
 unfolding first
-returns-then-arg-lt-INT32_END c = if_any dyn_int_lem 0 (2 ^ 31) _ _ _ (omega arith) (omega arith) tt tt
+returns-then-v-lt-INT32_END c = if_any dyn_int_lem 0 (2 ^ 31) _ _ _ (omega arith) (omega arith) tt tt
 
-pub returns-then-arg-lt-INT64_END : goal.returns-then-arg-lt-INT64_END
+pub returns-then-v-lt-INT64_END : goal.returns-then-v-lt-INT64_END
 unfolding first
-returns-then-arg-lt-INT64_END c = if_any dyn_int_lem (2 ^ 31) (2 ^ 63) _ _ _ (omega arith) (omega arith) tt tt
+returns-then-v-lt-INT64_END c = if_any dyn_int_lem (2 ^ 31) (2 ^ 63) _ _ _ (omega arith) (omega arith) tt tt
 
-pub returns-then-kind-eq-UNKNOWN_INT_POS : goal.returns-then-kind-eq-UNKNOWN_INT_POS
+pub returns-then-v-eq-UNKNOWN_INT_POS : goal.returns-then-v-eq-UNKNOWN_INT_POS
 unfolding first
-returns-then-kind-eq-UNKNOWN_INT_POS c =
-    if_pos dyn_int_lem (2 ^ 63) (2 ^ 64) _ _ _ (omega arith) (omega arith) (omega arith) tt
+returns-then-v-eq-UNKNOWN_INT_POS c = if_pos dyn_int_lem (2 ^ 63) (2 ^ 64) _ _ _ (omega arith) (omega arith) (omega arith) tt
 
-pub returns : goal.returns
+pub returns-else-v-eq-UNKNOWN_INT_POS : goal.returns-else-v-eq-UNKNOWN_INT_POS
 unfolding first
-returns c = if_neg dyn_int_lem (2 ^ 63) (2 ^ 64) _ _ _ (omega arith) (omega arith) (omega arith) tt
+returns-else-v-eq-UNKNOWN_INT_POS c = if_neg dyn_int_lem (2 ^ 63) (2 ^ 64) _ _ _ (omega arith) (omega arith) (omega arith) tt

@@ -4,24 +4,22 @@ use native.Mathlib.Omega.{arith}
 use Rattle.supertype_numbers.proofs.DynInts.{first, dyn_int_pos, if_pos, if_neg}
 use Rattle.supertype_numbers.proofs.dyn_int.materialize_dyn_int_pos.Goals as goal
 
-pub returns-then-kind-ne-UNKNOWN_INT_POS : goal.returns-then-kind-ne-UNKNOWN_INT_POS
+pub returns-then-v-ne-UNKNOWN_INT_POS : goal.returns-then-v-ne-UNKNOWN_INT_POS
 unfolding first
-returns-then-kind-ne-UNKNOWN_INT_POS c =
-    if_neg dyn_int_pos 0 (2 ^ 64) _ _ _ (omega arith) (omega arith) (omega arith) tt
+returns-then-v-ne-UNKNOWN_INT_POS c = if_neg dyn_int_pos 0 (2 ^ 64) _ _ _ (omega arith) (omega arith) (omega arith) tt
 
-pub returns-then-arg-lt256 : goal.returns-then-arg-lt256
+pub returns-then-v-lt256 : goal.returns-then-v-lt256
 unfolding first
-returns-then-arg-lt256 c = if_pos dyn_int_pos 0 (2 ^ 8) _ _ _ (omega arith) (omega arith) (omega arith) tt
+returns-then-v-lt256 c = if_pos dyn_int_pos 0 (2 ^ 8) _ _ _ (omega arith) (omega arith) (omega arith) tt
 
-pub returns-then-arg-lt65536 : goal.returns-then-arg-lt65536
+pub returns-then-v-lt65536 : goal.returns-then-v-lt65536
 unfolding first
-returns-then-arg-lt65536 c = if_pos dyn_int_pos (2 ^ 8) (2 ^ 16) _ _ _ (omega arith) (omega arith) (omega arith) tt
+returns-then-v-lt65536 c = if_pos dyn_int_pos (2 ^ 8) (2 ^ 16) _ _ _ (omega arith) (omega arith) (omega arith) tt
 
-pub returns-then-arg-lt4294967296 : goal.returns-then-arg-lt4294967296
+pub returns-then-v-lt4294967296 : goal.returns-then-v-lt4294967296
 unfolding first
-returns-then-arg-lt4294967296 c =
-    if_pos dyn_int_pos (2 ^ 16) (2 ^ 32) _ _ _ (omega arith) (omega arith) (omega arith) tt
+returns-then-v-lt4294967296 c = if_pos dyn_int_pos (2 ^ 16) (2 ^ 32) _ _ _ (omega arith) (omega arith) (omega arith) tt
 
-pub returns : goal.returns
+pub returns-else-v-lt4294967296 : goal.returns-else-v-lt4294967296
 unfolding first
-returns c = if_pos dyn_int_pos (2 ^ 32) (2 ^ 64) _ _ _ (omega arith) (omega arith) (omega arith) tt
+returns-else-v-lt4294967296 c = if_pos dyn_int_pos (2 ^ 32) (2 ^ 64) _ _ _ (omega arith) (omega arith) (omega arith) tt

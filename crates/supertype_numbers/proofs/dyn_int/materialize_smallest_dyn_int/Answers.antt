@@ -4,27 +4,26 @@ use native.Mathlib.Omega.{arith}
 use Rattle.supertype_numbers.proofs.DynInts.{first, smallest_dyn_int, if_any, if_pos, if_neg}
 use Rattle.supertype_numbers.proofs.dyn_int.materialize_smallest_dyn_int.Goals as goal
 
-pub returns-then-arg-lt128 : goal.returns-then-arg-lt128
+pub returns-then-v-lt128 : goal.returns-then-v-lt128
 unfolding first
-returns-then-arg-lt128 c = if_any smallest_dyn_int 0 (2 ^ 7) _ _ _ (omega arith) (omega arith) tt tt
+returns-then-v-lt128 c = if_any smallest_dyn_int 0 (2 ^ 7) _ _ _ (omega arith) (omega arith) tt tt
 
-pub returns-then-arg-lt32768 : goal.returns-then-arg-lt32768
+pub returns-then-v-lt32768 : goal.returns-then-v-lt32768
 unfolding first
-returns-then-arg-lt32768 c = if_any smallest_dyn_int (2 ^ 7) (2 ^ 15) _ _ _ (omega arith) (omega arith) tt tt
+returns-then-v-lt32768 c = if_any smallest_dyn_int (2 ^ 7) (2 ^ 15) _ _ _ (omega arith) (omega arith) tt tt
 
-pub returns-then-arg-lt-INT32_END : goal.returns-then-arg-lt-INT32_END
+pub returns-then-v-lt-INT32_END : goal.returns-then-v-lt-INT32_END
 unfolding first
-returns-then-arg-lt-INT32_END c = if_any smallest_dyn_int (2 ^ 15) (2 ^ 31) _ _ _ (omega arith) (omega arith) tt tt
+returns-then-v-lt-INT32_END c = if_any smallest_dyn_int (2 ^ 15) (2 ^ 31) _ _ _ (omega arith) (omega arith) tt tt
 
-pub returns-then-arg-lt-INT64_END : goal.returns-then-arg-lt-INT64_END
+pub returns-then-v-lt-INT64_END : goal.returns-then-v-lt-INT64_END
 unfolding first
-returns-then-arg-lt-INT64_END c = if_any smallest_dyn_int (2 ^ 31) (2 ^ 63) _ _ _ (omega arith) (omega arith) tt tt
+returns-then-v-lt-INT64_END c = if_any smallest_dyn_int (2 ^ 31) (2 ^ 63) _ _ _ (omega arith) (omega arith) tt tt
 
-pub returns-then-kind-eq-UNKNOWN_INT_POS : goal.returns-then-kind-eq-UNKNOWN_INT_POS
+pub returns-then-v-eq-UNKNOWN_INT_POS : goal.returns-then-v-eq-UNKNOWN_INT_POS
 unfolding first
-returns-then-kind-eq-UNKNOWN_INT_POS c =
-    if_pos smallest_dyn_int (2 ^ 63) (2 ^ 64) _ _ _ (omega arith) (omega arith) (omega arith) tt
+returns-then-v-eq-UNKNOWN_INT_POS c = if_pos smallest_dyn_int (2 ^ 63) (2 ^ 64) _ _ _ (omega arith) (omega arith) (omega arith) tt
 
-pub returns : goal.returns
+pub returns-else-v-eq-UNKNOWN_INT_POS : goal.returns-else-v-eq-UNKNOWN_INT_POS
 unfolding first
-returns c = if_neg smallest_dyn_int (2 ^ 63) (2 ^ 64) _ _ _ (omega arith) (omega arith) (omega arith) tt
+returns-else-v-eq-UNKNOWN_INT_POS c = if_neg smallest_dyn_int (2 ^ 63) (2 ^ 64) _ _ _ (omega arith) (omega arith) (omega arith) tt

@@ -4,6 +4,3 @@ use Rattle.supertype_place.proofs.run.first_of.Given as goal
 
 abbrev pub invariant-loop-left : goal.invariant-loop-left
 invariant-loop-left l = Seeking l.name l.count l.at l.kinds l.args l.here l.left
-
-abbrev pub decreases-loop-left : goal.decreases-loop-left
-decreases-loop-left l = l.left

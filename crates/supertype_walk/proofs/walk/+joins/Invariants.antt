@@ -1,6 +1,6 @@
 -- The cycle of joins: what each member's calls lessen, and what its loop keeps. The measure is the number of nodes left,
 -- and where a call hands on as many, the member's rank. Assumes nothing.
-use Prim.Native.Nat.{ℕ, ◌+◌, ◌*◌}
+use Prim.Native.Nat.{ℕ, ◌+◌, ◌-◌, ◌*◌}
 use Rattle.flat.specs.Tree.{size, sizes}
 use Rattle.supertype_nested.specs.Union as names
 use Rattle.supertype_place.specs.Place.{run_in, type_in}
@@ -83,34 +83,22 @@ decreases-zip l =
     weight (sizes (run_in l.count l.at l.lk.now l.la.now)
     + sizes (run_in l.count l.by l.rk.now l.ra.now)) 0
 
-abbrev pub invariant-each-loop-left : goal.invariant-each-loop-left
-invariant-each-loop-left l =
+abbrev pub invariant-each-loop : goal.invariant-each-loop
+invariant-each-loop l =
     Eaching (options_of l.i) l.count l.at l.nk l.na (type_in l.by l.lk l.la) l.to l.initial.ok l.initial.oa
-    l.here l.left l.end l.ok l.oa
+    l.here (l.count - l.counter) l.end l.ok l.oa
 
-abbrev pub decreases-each-loop-left : goal.decreases-each-loop-left
-decreases-each-loop-left l = l.left
-
-abbrev pub invariant-new-loop-left : goal.invariant-new-loop-left
-invariant-new-loop-left l =
+abbrev pub invariant-new-loop-rest : goal.invariant-new-loop-rest
+invariant-new-loop-rest l =
     Newing (options_of l.i) (run_in l.m l.at l.lk l.la) l.n l.by l.sk l.sa l.to l.initial.ok l.initial.oa
-    l.here l.end l.left l.names l.ok l.oa
+    l.here l.end l.rest l.names l.ok l.oa
 
-abbrev pub decreases-new-loop-left : goal.decreases-new-loop-left
-decreases-new-loop-left l = l.left
-
-abbrev pub invariant-old-loop-left : goal.invariant-old-loop-left
-invariant-old-loop-left l =
+abbrev pub invariant-old-loop-rest : goal.invariant-old-loop-rest
+invariant-old-loop-rest l =
     Olding (options_of l.i) l.m l.at l.lk l.la (run_in l.n l.by l.sk l.sa) l.to l.initial.ok l.initial.oa
-    l.here l.end l.left l.names l.ok l.oa
+    l.here l.end l.rest l.names l.ok l.oa
 
-abbrev pub decreases-old-loop-left : goal.decreases-old-loop-left
-decreases-old-loop-left l = l.left
-
-abbrev pub invariant-zip-loop-left : goal.invariant-zip-loop-left
-invariant-zip-loop-left l =
-    Zipping (options_of l.i) l.initial.left l.initial.here l.lk l.la l.initial.there l.rk l.ra
-    l.initial.end l.initial.ok l.initial.oa l.here l.there l.left l.end l.ok l.oa
-
-abbrev pub decreases-zip-loop-left : goal.decreases-zip-loop-left
-decreases-zip-loop-left l = l.left
+abbrev pub invariant-zip-loop : goal.invariant-zip-loop
+invariant-zip-loop l =
+    Zipping (options_of l.i) l.count l.at l.lk l.la l.by l.rk l.ra l.to l.fn.ok l.fn.oa
+    l.here l.there (l.count - l.counter) l.end l.ok l.oa

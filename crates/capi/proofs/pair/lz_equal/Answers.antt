@@ -1,7 +1,0 @@
--- `capi::pair::lz_equal` meets its contract. Assumes nothing.
-use mathlib.Core.Path.{ap, ◌∙◌}
-use Rattle.capi.specs.Reply.{answer_reply}
-use Rattle.capi.proofs.pair.lz_equal.Goals as goal
-
-pub returns : goal.returns
-returns c = c.answer_reply.ensures ∙ ap answer_reply c.equal.ensures

@@ -1,6 +1,0 @@
--- `channels::ChannelTypes::merge` meets its contract. Assumes nothing.
-use Rattle.channels.proofs.Arms.{by_root}
-use Rattle.channels.proofs.ChannelTypes.merge.Goals as goal
-
-pub returns : goal.returns
-returns c = by_root _ _ _ _ c.check_root.ensures.0 c.merge_codes-answer.ensures
