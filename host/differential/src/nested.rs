@@ -43,7 +43,7 @@ const INDENT: &str = "    ";
 /// What stands before the lists, behind the comment.
 const USES: &str = "\
 use Rattle.std.specs.Prelude.{true, false, List, [], ◌∷◌}
-use Rattle.std.specs.Prelude.{Some, None}
+use Rattle.std.specs.Prelude.{None, Some}
 use Rattle.flat.specs.Kind.{Null, Boolean, UInt8, UInt16, UInt32, UInt64, UInt128, Int8, Int16, Int32, Int64, Int128}
 use Rattle.flat.specs.Kind.{Float16, Float32, Float64, Decimal, String, Binary, BinaryOffset}
 use Rattle.flat.specs.Kind.{Date, Datetime, Duration, Time}
