@@ -26,7 +26,9 @@ fn check_pair(left: u8, right: u8) -> Result<(), Error>
     Ok(())
 }
 
-// What is found for the roots of two types: the refusal of the left, of the right, 6, or the rule.
+// What is found for the roots of two types: the refusal of the left, of the right, 6, or the rule. Behind a call of its
+// own the answer within the answer is copied in pieces, and a join takes half as long again.
+#[inline(always)]
 pub fn join_roots(
     to_string: bool,
     left: Result<Node, Error>,

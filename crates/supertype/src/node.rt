@@ -136,7 +136,9 @@ fn ordered(to_string: bool, l: Node, r: Node) -> Option<Node>
 }
 
 // The supertype of two types that are not nested: the implode flag has no part in it. The rule is symmetric except for
-// any with String, and for dyn float or a dyn int with str.
+// any with String, and for dyn float or a dyn int with str. Its answers return at once: a `match` whose value they are
+// copies them in pieces.
+#[inline(always)]
 pub fn node_supertype(to_string: bool, l: Node, r: Node) -> Option<Node>
     requires { (fits l ≡ true) × (fits r ≡ true) }
     ensures { result ≡ supertype false to_string l r }
@@ -148,8 +150,9 @@ pub fn node_supertype(to_string: bool, l: Node, r: Node) -> Option<Node>
         return ordered(to_string, l, r);
     }
     match (l.kind, r.kind) {
-        (_, Kind::UNKNOWN_STR) => Some(plain(Kind::UNKNOWN_ANY)),
-        (Kind::UNKNOWN_ANY, Kind::STRING) => Some(plain(Kind::STRING)),
-        _ => ordered(to_string, r, l),
+        (_, Kind::UNKNOWN_STR) => return Some(plain(Kind::UNKNOWN_ANY)),
+        (Kind::UNKNOWN_ANY, Kind::STRING) => return Some(plain(Kind::STRING)),
+        _ => {}
     }
+    ordered(to_string, r, l)
 }

@@ -10,6 +10,7 @@ use flat::Node;
 use flat::error::Error;
 
 // Writes the type that was found to the front of out_kinds and out_args: refusal 8.
+#[inline(always)]
 pub fn put(
     found: Result<Option<Node>, Error>,
     out_kinds: &mut [u8],

@@ -6,7 +6,7 @@ use Rattle.supertype_arms.proofs.Answers.{level, level_other}
 use Rattle.supertype.proofs.Orders.{Different, ready, ready_turned, equal, in_order, out_of_order, any_string}
 use Rattle.supertype.proofs.Orders.{dyn_str}
 use Rattle.supertype.proofs.node.node_supertype.Goals as goal
-use Rattle.supertype.proofs.node.node_supertype.Goals.{Else-equal_node, in_default-via-in-16+in_default, in_default-via-in_default}
+use Rattle.supertype.proofs.node.node_supertype.Goals.{Else-equal_node, in-16+in_default-1, in_default-1}
 
 -- where the two are not equal
 differ : (c : Else-equal_node) → Different c.args.l c.args.r
@@ -33,15 +33,14 @@ returns-in-23-eq16 c =
     ap Some c.plain-in-23-eq16.ensures
     ∙ any_string _ _ (differ (goal.at.returns-in-23-eq16 c).Else-equal_node) (omega arith) (omega arith)
 
-pub ordered-requires-in_default : goal.ordered-requires-in_default
-ordered-requires-in_default c =
-    ready_turned (differ (goal.at.ordered-requires-in_default c).Else-equal_node) (omega arith)
+pub ordered-requires-2 : goal.ordered-requires-2
+ordered-requires-2 c = ready_turned (differ (goal.at.ordered-requires-2 c).Else-equal_node) (omega arith)
 
-pub returns-in_default : goal.returns-in_default
-returns-in_default c =
-    let turned = out_of_order _ _ (differ (goal.at.returns-in_default c).Else-equal_node) (omega arith) in
-    c.ordered-in_default.ensures
-    ∙ elim c.in_default.branch [
-      | in_default-via-in-16+in_default w ↦ turned (level _ _ (omega arith) (omega arith))
-      | in_default-via-in_default w ↦ turned (level_other _ _ (λ e f. omega arith) (omega arith))
+pub returns : goal.returns
+returns c =
+    let turned = out_of_order _ _ (differ (goal.at.returns c).Else-equal_node) (omega arith) in
+    c.ordered-2.ensures
+    ∙ elim c.match-r.branch [
+      | in-16+in_default-1 w ↦ turned (level _ _ (omega arith) (omega arith))
+      | in_default-1 w ↦ turned (level_other _ _ (λ e f. omega arith) (omega arith))
     ]
