@@ -1,8 +1,8 @@
 -- What a row of the table asks of the definitions, and what they answer. Assumes nothing: these are definitions.
 use Rattle.std.specs.Prelude.{Bool, List, [], ◌∷◌, ℕ, ℤ, get_or, replicate}
 use Rattle.std.specs.Prelude.{Option, None, Some}
+use Rattle.std.specs.Prelude.{option_map}
 use Rattle.flat.specs.Tree.{DataType, kinds_of, args_of}
-use Rattle.flat.specs.Reader.{map_o}
 use Rattle.flat.specs.Reading.{Reading, refused, type, reading, checked_of}
 use Rattle.flat.specs.Reading.{root_of}
 use Rattle.flat.specs.Refusal.{answer_number}
@@ -113,7 +113,7 @@ merge_all l cs (t ∷ ts) =
 -- what the definitions answer
 abbrev pub answer_to : Limits → Asked → Answered
 answer_to l (supertype implode to_string t u) = joined (supertype_of implode to_string t u)
-answer_to l (nested_supertype o i t u) = joined (map_o type (supertype_tree o i t u))
+answer_to l (nested_supertype o i t u) = joined (option_map type (supertype_tree o i t u))
 answer_to l (lossless t u) = joined (lossless_of t u)
 answer_to l (smallest_dyn_int v) = kind (materialize_smallest_dyn_int v)
 answer_to l (can_cast from to) = verdict (can_cast_to from to)

@@ -4,6 +4,7 @@ use mathlib.Core.Path.{◌≡◌, refl, sym, ap, ap₂, subst, ◌∙◌}
 use mathlib.Core.Bool.{Bool, true, false, cond, not, ◌&&◌, ◌||◌, or_assoc}
 use mathlib.Core.List.{List, [], ◌∷◌, ◌++◌}
 use Rattle.std.specs.Prelude.{Option, None, Some}
+use Rattle.std.specs.Prelude.{option_map, option_and_then}
 use Prim.Native.Nat.{ℕ, suc, ◌+◌, max}
 use native.Mathlib.Omega.{arith}
 use lib.Dec.{eqb, leb}
@@ -12,7 +13,6 @@ use Rattle.std.specs.List.{list_any}
 use Rattle.flat.specs.Kind
 use Rattle.flat.specs.Tree.{DataType, leaf, list, array, struct, Fields, empty, field, size, sizes, depth, depths, count, kinds_of, kinds_ofs}
 use Rattle.flat.specs.Reading.{Ruled, RuledFields, IsType}
-use Rattle.flat.specs.Reader.{map_o, bind_o}
 use Rattle.flat.specs.Walk.{with_default}
 use Rattle.dtype.specs.Match.{among}
 use Rattle.dtype.specs.Predicate.{is_unknown, is_unknown_int}
@@ -49,11 +49,11 @@ any_append : (p : ℕ → Bool) (ks ls : List ℕ) → list_any p (ks ++ ls) ≡
 any_append p [] ls = refl
 any_append p (k ∷ ks) ls = ap (λ (b : Bool). p k || b) (any_append p ks ls) ∙ sym (or_assoc (p k) (list_any p ks) (list_any p ls))
 
-map_none : {A B : Type 0} (f : A → B) (b : Bool) (x : A) → map_o f (none_if b x) ≡ none_if b (f x)
+map_none : {A B : Type 0} (f : A → B) (b : Bool) (x : A) → option_map f (none_if b x) ≡ none_if b (f x)
 map_none f true x = refl
 map_none f false x = refl
 
-bind_none : {A B C : Type 0} (f : A → B → C) (b c d : Bool) (x : A) (y : B) → bind_o (none_if (b && d) x) (λ u. map_o (f u) (none_if (c && d) y)) ≡ none_if ((b || c) && d) (f x y)
+bind_none : {A B C : Type 0} (f : A → B → C) (b c d : Bool) (x : A) (y : B) → option_and_then (λ u. option_map (f u) (none_if (c && d) y)) (none_if (b && d) x) ≡ none_if ((b || c) && d) (f x y)
 bind_none f true c true x y = refl
 bind_none f false true true x y = refl
 bind_none f false false true x y = refl
@@ -101,9 +101,9 @@ mutual
 
   known_by_leaves : (allow : Bool) (t : DataType) → materialize_unknown allow t ≡ none_if (has_any (kinds_of t) && not allow) (map_leaves materialized_leaf t)
   known_by_leaves allow (leaf k a) = known_leaf allow k a
-  known_by_leaves allow (list t) = ap (map_o list) (known_by_leaves allow t) ∙ map_none list (has_any (kinds_of t) && not allow) (map_leaves materialized_leaf t)
-  known_by_leaves allow (array w t) = ap (map_o (array w)) (known_by_leaves allow t) ∙ map_none (array w) (has_any (kinds_of t) && not allow) (map_leaves materialized_leaf t)
-  known_by_leaves allow (struct fs) = ap (map_o struct) (knowns_are allow fs) ∙ map_none struct (has_any (kinds_ofs fs) && not allow) (map_fields materialized_leaf fs)
+  known_by_leaves allow (list t) = ap (option_map list) (known_by_leaves allow t) ∙ map_none list (has_any (kinds_of t) && not allow) (map_leaves materialized_leaf t)
+  known_by_leaves allow (array w t) = ap (option_map (array w)) (known_by_leaves allow t) ∙ map_none (array w) (has_any (kinds_of t) && not allow) (map_leaves materialized_leaf t)
+  known_by_leaves allow (struct fs) = ap (option_map struct) (knowns_are allow fs) ∙ map_none struct (has_any (kinds_ofs fs) && not allow) (map_fields materialized_leaf fs)
 
   knowns_are : (allow : Bool) (fs : Fields) → materialize_fields allow fs ≡ none_if (has_any (kinds_ofs fs) && not allow) (map_fields materialized_leaf fs)
   knowns_are allow empty = refl

@@ -2,9 +2,9 @@
 -- these are definitions.
 use Rattle.std.specs.Prelude.{Bool, true, false, cond, ℕ, eqb}
 use Rattle.std.specs.Prelude.{Option, None, Some}
+use Rattle.std.specs.Prelude.{option_map, option_and_then}
 use Rattle.flat.specs.Kind
 use Rattle.flat.specs.Tree.{DataType, leaf, list, array, struct, Fields, empty, field}
-use Rattle.flat.specs.Reader.{map_o, bind_o}
 use Rattle.dtype.specs.Predicate.{is_unknown, is_unknown_int}
 use Rattle.supertype_numbers.specs.DynInt.{value_of, materialize_dyn_int}
 
@@ -27,12 +27,12 @@ unfoldable mutual
   pub materialize_unknown : Bool → DataType → Option DataType
   materialize_unknown allow (leaf k a) =
       cond (is_unknown k) (or_kept allow (leaf k a) (materialize k a)) (Some (leaf k a))
-  materialize_unknown allow (list t) = map_o list (materialize_unknown allow t)
-  materialize_unknown allow (array w t) = map_o (array w) (materialize_unknown allow t)
-  materialize_unknown allow (struct fs) = map_o struct (materialize_fields allow fs)
+  materialize_unknown allow (list t) = option_map list (materialize_unknown allow t)
+  materialize_unknown allow (array w t) = option_map (array w) (materialize_unknown allow t)
+  materialize_unknown allow (struct fs) = option_map struct (materialize_fields allow fs)
 
   -- field after field: the first error is the whole call's
   pub materialize_fields : Bool → Fields → Option Fields
   materialize_fields allow empty = Some empty
   materialize_fields allow (field name t fs) =
-      bind_o (materialize_unknown allow t) (λ u. map_o (field name u) (materialize_fields allow fs))
+      option_and_then (λ u. option_map (field name u) (materialize_fields allow fs)) (materialize_unknown allow t)

@@ -3,6 +3,7 @@
 use mathlib.Core.Path.{◌≡◌, refl, sym, ap, ◌∙◌}
 use mathlib.Core.List.{List, []}
 use Rattle.std.specs.Prelude.{Option, None, Some, unwrap_or}
+use Rattle.std.specs.Prelude.{option_map}
 use Rattle.std.specs.List.{prefix_len}
 use Prim.Native.Nat.{ℕ, suc, ◌+◌, ◌-◌}
 use native.Mathlib.Omega.{arith}
@@ -10,7 +11,6 @@ use borrow.Author.Tests.{ne_eqb}
 use lib.ListN.{length, drop, drop_of_length-le}
 use Rattle.flat.specs.Kind
 use Rattle.flat.specs.Tree.{DataType, leaf, list, array, struct, size, kinds_of, args_of}
-use Rattle.flat.specs.Reader.{map_o}
 use Rattle.flat.specs.Reading.{Ruled}
 use Rattle.flat.proofs.Sizes.{length_kinds, length_args}
 use Rattle.dtype_inner.specs.Inner.{inner_dtype, leaf_dtype, past_arrays, array_leaf_dtype}
@@ -58,7 +58,7 @@ past_ends (struct fs) r = all
 
 -- What is found in t, if something is, has n nodes and stands at the end of the kinds and of the arguments.
 pub record Found (t : DataType) (o : Option DataType) (n : Option ℕ) : Type 0 where
-  pub nodes : n ≡ map_o size o
+  pub nodes : n ≡ option_map size o
   pub kinds : Last (unwrap_or n 0) (kinds_of t) (part_kinds o)
   pub args : Last (unwrap_or n 0) (args_of t) (part_args o)
 

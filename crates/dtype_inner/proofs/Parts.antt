@@ -2,24 +2,24 @@
 use mathlib.Core.Path.{◌≡◌, refl, sym, ap, ◌∙◌}
 use mathlib.Core.List.{List}
 use Rattle.std.specs.Prelude.{Option, None, Some, Ok, unwrap_or}
+use Rattle.std.specs.Prelude.{option_map}
 use Prim.Native.Nat.{ℕ, ◌-◌}
 use denote.Ref.{Bor}
 use lib.ListN.{length, drop}
 use Rattle.flat.specs.Tree.{DataType, size}
 use Rattle.flat.specs.Reading.{Reading, refused, type, reading}
 use Rattle.flat.proofs.Meaning.{Passed, holds}
-use Rattle.flat.specs.Reader.{map_o}
 use Rattle.flat.specs.Output.{optional_of}
 use Rattle.dtype_inner.specs.Part.{found, inner_of, nodes_told, part_kinds, part_args, Last, EndOf}
 use Rattle.dtype_inner.specs.Laws.{AtEnd, PartLaws}
 use Rattle.dtype_inner.proofs.Endings.{Finds, last_none, finds_inner, finds_leaf, finds_array_leaf}
 
 -- the number of nodes of what was found
-found_nodes : (o : Option DataType) → Ok (map_o size o) ≡ optional_of (map_o type o)
+found_nodes : (o : Option DataType) → Ok (option_map size o) ≡ optional_of (option_map type o)
 found_nodes None = refl
 found_nodes (Some t) = refl
 
-told_nodes : (o : Option DataType) → nodes_told (optional_of (map_o type o)) ≡ unwrap_or (map_o size o) 0
+told_nodes : (o : Option DataType) → nodes_told (optional_of (option_map type o)) ≡ unwrap_or (option_map size o) 0
 told_nodes None = refl
 told_nodes (Some t) = refl
 

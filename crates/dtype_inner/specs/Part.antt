@@ -1,9 +1,9 @@
 -- A part of a lent slice, as a result. Assumes nothing: these are definitions.
 use Rattle.std.specs.Prelude.{◌≡◌, List, [], ℕ, ◌+◌, ◌-◌, ◌*◌, ◌≤◌, length, drop}
 use Rattle.std.specs.Prelude.{Option, None, Some, unwrap_or, Result}
+use Rattle.std.specs.Prelude.{option_map}
 use Rattle.std.specs.Borrow.{Bor}
 use Rattle.flat.specs.Tree.{DataType, size, kinds_of, args_of}
-use Rattle.flat.specs.Reader.{map_o}
 use Rattle.flat.specs.Reading.{Reading, refused, type}
 use Rattle.flat.specs.Output.{optional_of}
 use Rattle.flat.specs.Reply.{value_in}
@@ -17,7 +17,7 @@ found part (type t) = part t
 -- the part of a type as a type, or the refusal; nothing where the type has no such part
 abbrev pub part_reading : (DataType → Option DataType) → Reading → Option Reading
 part_reading part (refused e) = Some (refused e)
-part_reading part (type t) = map_o type (part t)
+part_reading part (type t) = option_map type (part t)
 
 -- which of the three it is: Some with the part's number of nodes, None, or the refusal
 abbrev pub inner_of : (DataType → Option DataType) → Reading → Result (Option ℕ) Error

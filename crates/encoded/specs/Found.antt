@@ -2,8 +2,8 @@
 -- definitions.
 use Rattle.std.specs.Prelude.{◌≡◌, List, ℕ}
 use Rattle.std.specs.Prelude.{Option, None, Some, Result, Ok, Err}
+use Rattle.std.specs.Prelude.{option_map}
 use Rattle.flat.specs.Tree.{size}
-use Rattle.flat.specs.Reader.{map_o}
 use Rattle.flat.specs.Reading.{Reading, refused, type}
 use Rattle.flat.specs.declared.error.Error.{Error}
 use Rattle.encoded.specs.Encoding.{encoded_size}
@@ -11,7 +11,7 @@ use Rattle.encoded.specs.Answer.{fitting_bytes, bytes_over}
 
 -- 8 last of all, and only where there is a type to write to m bytes
 abbrev pub fitting_found_bytes : ℕ → ℕ → Option Reading → Option Reading
-fitting_found_bytes w m = map_o (fitting_bytes w m)
+fitting_found_bytes w m = option_map (fitting_bytes w m)
 
 -- the answer: the number of bytes
 abbrev pub optional_bytes : ℕ → Option Reading → Result (Option ℕ) Error

@@ -4,11 +4,11 @@ use mathlib.Core.Path.{◌≡◌, refl, sym, ap, ap₂, ◌∙◌}
 use mathlib.Core.Bool.{Bool, true, false, cond}
 use mathlib.Core.List.{List, [], ◌∷◌}
 use Rattle.std.specs.Prelude.{Option, None, Some, Result, Ok, Err}
+use Rattle.std.specs.Prelude.{option_map}
 use Prim.Native.Nat.{ℕ, ◌+◌, ◌-◌, ◌≤◌}
 use native.Mathlib.Omega.{arith}
 use lib.ListN.{length, take, drop, length-take}
 use Rattle.flat.specs.Tree.{DataType, kinds_of}
-use Rattle.flat.specs.Reader.{map_o}
 use Rattle.flat.specs.Reading.{Reading, refused, type}
 use Rattle.flat.specs.declared.error.Error.{Error}
 use Rattle.flat.proofs.Truths.{impossible}
@@ -111,7 +111,7 @@ module _ {w nodes deep n : ℕ} {s xs : List ℕ} (o : Opened w nodes deep n s x
       part_encodes = rw o.reads (go (part o.parts.tree) (rw o.reads at h))
         where
           go : (u : Option DataType) → LastOf o.parts.tree u (Some m)
-              → (r : Reading) × (map_o type u ≡ Some r) × Encodes w (fitting_bytes w (length out) r) out out' d
+              → (r : Reading) × (option_map type u ≡ Some r) × Encodes w (fitting_bytes w (length out) r) out out' d
           go None f = let c = f.count in impossible cc
           go (Some u) f =
               let k = length_kinds o.parts.tree ∙ o.tree_size in

@@ -5,6 +5,7 @@ use mathlib.Core.Path.{◌≡◌, refl, ap, ap₂, ◌∙◌}
 use mathlib.Core.Bool.{Bool, true, false}
 use mathlib.Core.List.{List, [], ◌∷◌}
 use Rattle.std.specs.Prelude.{Option, None, Some}
+use Rattle.std.specs.Prelude.{option_map, option_and_then}
 use Prim.Native.Nat.{ℕ, zero, suc, ◌+◌, ◌-◌, ◌≤◌, ◌<◌}
 use native.Mathlib.Omega.{arith}
 use native.Mathlib.Numerals.{sub-one, add-one}
@@ -14,7 +15,7 @@ use lib.Seq.{drop-cons, take_all}
 use borrow.Author.Tests.{le-leb, ne_eqb}
 use Rattle.flat.specs.Kind
 use Rattle.flat.specs.Tree.{DataType, list, array, struct, Fields, empty, field, size}
-use Rattle.flat.specs.Reader.{Children, no_child, under_list, under_array, fields, no_type, children, map_o, bind_o}
+use Rattle.flat.specs.Reader.{Children, no_child, under_list, under_array, fields, no_type, children}
 use Rattle.flat.specs.Reader.{Reads, under_node, step_node, under_field, step_fields, node_in, fields_in, node_at}
 use Rattle.flat.specs.Reader.{fields_at}
 
@@ -23,9 +24,9 @@ same_under :
     (p p' : Reads DataType) (f f' : ℕ → Reads Fields) (s : Children) (k a : ℕ) (ks xs : List ℕ) → p ks xs ≡ p' ks xs
     → f a ks xs ≡ f' a ks xs → under_node p f s k a ks xs ≡ under_node p' f' s k a ks xs
 same_under p p' f f' no_child k a ks xs e g = refl
-same_under p p' f f' under_list k a ks xs e g = ap (map_o list) e
-same_under p p' f f' under_array k a ks xs e g = ap (map_o (array a)) e
-same_under p p' f f' fields k a ks xs e g = ap (map_o struct) g
+same_under p p' f f' under_list k a ks xs e g = ap (option_map list) e
+same_under p p' f f' under_array k a ks xs e g = ap (option_map (array a)) e
+same_under p p' f f' fields k a ks xs e g = ap (option_map struct) g
 same_under p p' f f' no_type k a ks xs e g = refl
 
 -- Readers that agree on what stands under a field, and on the fields after it, agree on the fields.
@@ -36,9 +37,9 @@ same_under_field :
 same_under_field p p' f f' false m a ks xs e g = refl
 same_under_field p p' f f' true m a ks xs e g = rw e (go (p' ks xs))
   where
-    go : (r : Option DataType) → bind_o r (λ t. map_o (field a t) (f m (drop (size t) ks) (drop (size t) xs))) ≡ bind_o r (λ t. map_o (field a t) (f' m (drop (size t) ks) (drop (size t) xs)))
+    go : (r : Option DataType) → option_and_then (λ t. option_map (field a t) (f m (drop (size t) ks) (drop (size t) xs))) r ≡ option_and_then (λ t. option_map (field a t) (f' m (drop (size t) ks) (drop (size t) xs))) r
     go None = refl
-    go (Some t) = ap (map_o (field a t)) (g (size t))
+    go (Some t) = ap (option_map (field a t)) (g (size t))
 
 -- The bound does not matter, where it is as large as the list.
 mutual

@@ -4,6 +4,7 @@ use mathlib.Core.Path.{◌≡◌, refl, sym, ap, ap₂, ◌∙◌, subst}
 use mathlib.Core.Bool.{Bool, true, false, cond}
 use mathlib.Core.List.{List, [], ◌∷◌, ◌++◌, append_assoc}
 use Rattle.std.specs.Prelude.{Option, None, Some}
+use Rattle.std.specs.Prelude.{option_map, option_and_then}
 use Prim.Native.Nat.{ℕ, zero, suc, ◌+◌, ◌≤◌}
 use native.Mathlib.Omega.{arith}
 use lib.Dec.{leb, eqb}
@@ -13,7 +14,7 @@ use borrow.Author.Tests.{le-leb, leb-true, eqb-true}
 use Rattle.flat.specs.Kind
 use Rattle.flat.specs.Tree.{DataType, leaf, list, array, struct, Fields, empty, field, size, sizes, count}
 use Rattle.flat.specs.Tree.{kinds_of, kinds_ofs, args_of, args_ofs}
-use Rattle.flat.specs.Reader.{Children, no_child, under_list, under_array, fields, no_type, children, map_o, bind_o}
+use Rattle.flat.specs.Reader.{Children, no_child, under_list, under_array, fields, no_type, children}
 use Rattle.flat.specs.Reader.{Reads, under_node, step_node, under_field, step_fields, never, node_in, fields_in}
 use Rattle.flat.specs.Reader.{node_at, fields_at}
 use Rattle.flat.proofs.Sizes.{length_kinds, length_kindss, length_args, count_le}
@@ -40,11 +41,11 @@ mutual
   read_in (leaf k a) g zero ks xs h = absurd (omega arith)
   read_in (leaf k a) g (suc n) ks xs h = rw (le-leb k Kind.UnknownIntNeg g)
   read_in (list t) g zero ks xs h = absurd (omega arith)
-  read_in (list t) g (suc n) ks xs h = ap (map_o list) (read_in t g n ks xs (omega arith))
+  read_in (list t) g (suc n) ks xs h = ap (option_map list) (read_in t g n ks xs (omega arith))
   read_in (array w t) g zero ks xs h = absurd (omega arith)
-  read_in (array w t) g (suc n) ks xs h = ap (map_o (array w)) (read_in t g n ks xs (omega arith))
+  read_in (array w t) g (suc n) ks xs h = ap (option_map (array w)) (read_in t g n ks xs (omega arith))
   read_in (struct fs) g zero ks xs h = absurd (omega arith)
-  read_in (struct fs) g (suc n) ks xs h = ap (map_o struct) (reads_in fs g n ks xs (omega arith))
+  read_in (struct fs) g (suc n) ks xs h = ap (option_map struct) (reads_in fs g n ks xs (omega arith))
 
   pub reads_in :
       (fs : Fields) → Goods fs → (n : ℕ) (ks xs : List ℕ) → sizes fs ≤ n
@@ -113,19 +114,19 @@ Sounds m ks xs None = Unit {0}
 Sounds m ks xs (Some fs) =
     (ks ≡ kinds_ofs fs ++ drop (sizes fs) ks) × (xs ≡ args_ofs fs ++ drop (sizes fs) xs) × Goods fs × (count fs ≡ m)
 
-sound_list : (ks xs : List ℕ) (r : Option DataType) → Sound ks xs r → Sound (Kind.List ∷ ks) (0 ∷ xs) (map_o list r)
+sound_list : (ks xs : List ℕ) (r : Option DataType) → Sound ks xs r → Sound (Kind.List ∷ ks) (0 ∷ xs) (option_map list r)
 unfolding size kinds_of args_of Good
 sound_list ks xs None h = tt
 sound_list ks xs (Some t) h = (ap (λ (l : List ℕ). Kind.List ∷ l) h.0, ap (λ (l : List ℕ). 0 ∷ l) h.1, h.2)
 
 sound_array :
-    (a : ℕ) (ks xs : List ℕ) (r : Option DataType) → Sound ks xs r → Sound (Kind.Array ∷ ks) (a ∷ xs) (map_o (array a) r)
+    (a : ℕ) (ks xs : List ℕ) (r : Option DataType) → Sound ks xs r → Sound (Kind.Array ∷ ks) (a ∷ xs) (option_map (array a) r)
 unfolding size kinds_of args_of Good
 sound_array a ks xs None h = tt
 sound_array a ks xs (Some t) h = (ap (λ (l : List ℕ). Kind.Array ∷ l) h.0, ap (λ (l : List ℕ). a ∷ l) h.1, h.2)
 
 sound_struct :
-    (a : ℕ) (ks xs : List ℕ) (r : Option Fields) → Sounds a ks xs r → Sound (Kind.Struct ∷ ks) (a ∷ xs) (map_o struct r)
+    (a : ℕ) (ks xs : List ℕ) (r : Option Fields) → Sounds a ks xs r → Sound (Kind.Struct ∷ ks) (a ∷ xs) (option_map struct r)
 unfolding size kinds_of args_of Good
 sound_struct a ks xs None h = tt
 sound_struct a ks xs (Some fs) h = (ap (λ (l : List ℕ). Kind.Struct ∷ l) h.0, ap₂ ◌∷◌ (sym h.3) h.1, h.2)
@@ -147,7 +148,7 @@ module _ (node : Reads DataType) (fs : ℕ → Reads Fields) (node-sound : (ks x
 
   sound_field :
       (m k a : ℕ) → k ≡ Kind.Field → (ks xs : List ℕ) (t : DataType) → Sound ks xs (Some t) → (r : Option Fields)
-      → Sounds m (drop (size t) ks) (drop (size t) xs) r → Sounds (suc m) (k ∷ ks) (a ∷ xs) (map_o (field a t) r)
+      → Sounds m (drop (size t) ks) (drop (size t) xs) r → Sounds (suc m) (k ∷ ks) (a ∷ xs) (option_map (field a t) r)
   unfolding size kinds_of args_of Good count
   sound_field m k a e ks xs t h None g = tt
   sound_field m k a e ks xs t h (Some f) g =
@@ -159,7 +160,7 @@ module _ (node : Reads DataType) (fs : ℕ → Reads Fields) (node-sound : (ks x
   under_field_sound m k a false e ks xs = tt
   under_field_sound m k a true e ks xs = go (node ks xs) (node-sound ks xs)
     where
-      go : (r : Option DataType) → Sound ks xs r → Sounds (suc m) (k ∷ ks) (a ∷ xs) (bind_o r (λ t. map_o (field a t) (fs m (drop (size t) ks) (drop (size t) xs))))
+      go : (r : Option DataType) → Sound ks xs r → Sounds (suc m) (k ∷ ks) (a ∷ xs) (option_and_then (λ t. option_map (field a t) (fs m (drop (size t) ks) (drop (size t) xs))) r)
       go None h = tt
       go (Some t) h =
           sound_field m k a (eqb-true k Kind.Field e) ks xs t h (fs m (drop (size t) ks) (drop (size t) xs))

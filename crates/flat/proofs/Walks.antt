@@ -4,6 +4,7 @@ use mathlib.Core.Path.{◌≡◌, refl, sym, ap, ap₂, ◌∙◌, subst}
 use mathlib.Core.Bool.{Bool, true, false}
 use mathlib.Core.List.{List}
 use Rattle.std.specs.Prelude.{Option, None, Some}
+use Rattle.std.specs.Prelude.{option_map, option_and_then}
 use Prim.Native.Nat.{ℕ, zero, suc, ◌+◌, ◌-◌, ◌≤◌, ◌<◌}
 use native.Mathlib.Omega.{arith}
 use lib.Dec.{eqb}
@@ -13,7 +14,7 @@ use borrow.Author.Tests.{eqb-true}
 use Rattle.flat.specs.Kind
 use Rattle.flat.specs.Tree.{DataType, leaf, list, array, struct, Fields, empty, field, size, sizes, count}
 use Rattle.flat.specs.Tree.{head_kind, head_arg}
-use Rattle.flat.specs.Reader.{Children, no_child, under_list, under_array, fields, no_type, children, map_o, bind_o}
+use Rattle.flat.specs.Reader.{Children, no_child, under_list, under_array, fields, no_type, children}
 use Rattle.flat.specs.Reader.{under_node, under_field, node_at, fields_at}
 use Rattle.flat.specs.Walk.{FrontType, FrontFields, with_default, type_at, run_at, Valid, ValidRun}
 use Rattle.flat.proofs.Truths.{impossible}
@@ -57,7 +58,7 @@ pub data AtNode (ks xs : List ℕ) : DataType → Type 0 where
       {fs : Fields} → get_or ks 0 0 ≡ Kind.Struct → FrontFields (get_or xs 0 0) (from 1 ks) (from 1 xs) fs
       → AtNode ks xs (struct fs)
 
-some_of : {A B : Type 0} (f : A → B) (q : Option A) (b : B) → map_o f q ≡ Some b → (a : A) × (q ≡ Some a) × (b ≡ f a)
+some_of : {A B : Type 0} (f : A → B) (q : Option A) (b : B) → option_map f q ≡ Some b → (a : A) × (q ≡ Some a) × (b ≡ f a)
 some_of f None b e = impossible cc
 some_of f (Some a) b e = (a, refl, cc)
 
@@ -68,7 +69,7 @@ at_node ks xs t n =
   where
     one :
         (f : DataType → DataType) → Unary (get_or ks 0 0) (get_or xs 0 0) f
-        → map_o f (node_at (drop 1 ks) (drop 1 xs)) ≡ Some t → AtNode ks xs t
+        → option_map f (node_at (drop 1 ks) (drop 1 xs)) ≡ Some t → AtNode ks xs t
     one f u e = let s = some_of f (node_at (drop 1 ks) (drop 1 xs)) t e in
         subst (λ (z : DataType). AtNode ks xs z) (sym s.2)
         (at_one u (node_of (from 1 ks) (from 1 xs) s.0 (part_even 1 ks xs n.even) (rw (rest, rest) s.1)))
@@ -104,7 +105,7 @@ at_run (suc m) ks xs fs r = by_field (eqb (get_or ks 0 0) Kind.Field) refl (sym 
         rest l (n + 1) ∙ ap (λ (i : ℕ). drop i l) (let z : n + 1 ≡ 1 + size t = omega arith in z) ∙ sym
         (drop-drop (size t) 1 l)
 
-    at_type : get_or ks 0 0 ≡ Kind.Field → (q : Option DataType) → node_at (drop 1 ks) (drop 1 xs) ≡ q → bind_o q (λ t. map_o (field (get_or xs 0 0) t) (fields_at (suc m - 1) (drop (size t) (drop 1 ks)) (drop (size t) (drop 1 xs)))) ≡ Some fs → AtRun (suc m) ks xs fs
+    at_type : get_or ks 0 0 ≡ Kind.Field → (q : Option DataType) → node_at (drop 1 ks) (drop 1 xs) ≡ q → option_and_then (λ t. option_map (field (get_or xs 0 0) t) (fields_at (suc m - 1) (drop (size t) (drop 1 ks)) (drop (size t) (drop 1 xs)))) q ≡ Some fs → AtRun (suc m) ks xs fs
     at_type k None q e = impossible cc
     at_type k (Some t) q e =
         let s = some_of (field (get_or xs 0 0) t) (fields_at (suc m - 1) (drop (size t) (drop 1 ks)) (drop (size t) (drop 1 xs))) fs e in

@@ -1,8 +1,8 @@
 -- What a call that writes a type leaves in the two lent arrays. Assumes nothing: these are definitions.
 use Rattle.std.specs.Prelude.{◌≡◌, ◌&&◌, List, ◌++◌, ℕ, leb, length, drop}
 use Rattle.std.specs.Prelude.{Option, None, Some, Result, Ok, Err}
+use Rattle.std.specs.Prelude.{option_map}
 use Rattle.flat.specs.Tree.{size, kinds_of, args_of}
-use Rattle.flat.specs.Reader.{map_o}
 use Rattle.flat.specs.Reading.{Reading, refused, type, unless}
 use Rattle.flat.specs.declared.error.Error.TheVariants.{OutputTooShort}
 use Rattle.flat.specs.declared.error.Error.{Error}
@@ -43,7 +43,7 @@ pub record Writes (r : Reading) (ks xs ks' xs' : List ℕ) (answer : Result ℕ 
 
 -- 8 last of all, and only where there is a type to write
 abbrev pub fitting_found : ℕ → ℕ → Option Reading → Option Reading
-fitting_found k a = map_o (fitting k a)
+fitting_found k a = option_map (fitting k a)
 
 -- the answer of a call whose result may be None: the number of nodes
 abbrev pub optional_of : Option Reading → Result (Option ℕ) Error

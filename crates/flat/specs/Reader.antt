@@ -1,6 +1,7 @@
 -- Which tree stands at the front of two lists, if one does. Assumes nothing: these are definitions.
 use Rattle.std.specs.Prelude.{Bool, true, false, cond, List, [], ◌∷◌, ℕ, zero, suc, leb, eqb, length, drop}
 use Rattle.std.specs.Prelude.{Option, None, Some}
+use Rattle.std.specs.Prelude.{option_map, option_and_then}
 use Rattle.flat.specs.Kind
 use Rattle.flat.specs.Tree.{DataType, leaf, list, array, struct, Fields, empty, field, size}
 
@@ -18,16 +19,6 @@ children k a =
     (cond (eqb k Kind.Array) under_array
     (cond (eqb k Kind.Struct) fields no_type)))
 
--- f of what there is, if there is something
-abbrev pub map_o : {A B : Type 0} → (A → B) → Option A → Option B
-map_o f None = None
-map_o f (Some a) = Some (f a)
-
--- what f makes of what there is, if there is something
-abbrev pub bind_o : {A B : Type 0} → Option A → (A → Option B) → Option B
-bind_o None f = None
-bind_o (Some a) f = f a
-
 -- a reader of what stands at the front of the kinds and the arguments
 abbrev pub Reads : Type 0 → Type 0
 Reads A = List ℕ → List ℕ → Option A
@@ -35,9 +26,9 @@ Reads A = List ℕ → List ℕ → Option A
 -- a node of the kind k and the argument a, given readers for what stands under it
 abbrev pub under_node : Reads DataType → (ℕ → Reads Fields) → Children → ℕ → ℕ → Reads DataType
 under_node node fs no_child k a ks xs = Some (leaf k a)
-under_node node fs under_list k a ks xs = map_o list (node ks xs)
-under_node node fs under_array k a ks xs = map_o (array a) (node ks xs)
-under_node node fs fields k a ks xs = map_o struct (fs a ks xs)
+under_node node fs under_list k a ks xs = option_map list (node ks xs)
+under_node node fs under_array k a ks xs = option_map (array a) (node ks xs)
+under_node node fs fields k a ks xs = option_map struct (fs a ks xs)
 under_node node fs no_type k a ks xs = None
 
 -- the node at the front
@@ -49,7 +40,7 @@ step_node node fs (k ∷ ks) (a ∷ xs) = under_node node fs (children k a) k a 
 -- a field of the name a, where a field stands, its type at the front of ks and xs, and m fields after that
 abbrev pub under_field : Reads DataType → (ℕ → Reads Fields) → Bool → ℕ → ℕ → Reads Fields
 under_field node fs true m a ks xs =
-    bind_o (node ks xs) (λ t. map_o (field a t) (fs m (drop (size t) ks) (drop (size t) xs)))
+    option_and_then (λ t. option_map (field a t) (fs m (drop (size t) ks) (drop (size t) xs))) (node ks xs)
 under_field node fs false m a ks xs = None
 
 -- so many fields at the front

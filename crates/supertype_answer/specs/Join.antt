@@ -1,8 +1,8 @@
 -- What a call comes to that joins two types: Some type, None, or a refusal. The source's Option is the type that two
 -- types have in common, where there is one. Assumes nothing: these are definitions.
 use Rattle.std.specs.Prelude.{Option, Some, Result, Ok, Err, ℕ}
+use Rattle.std.specs.Prelude.{option_map}
 use Rattle.flat.specs.Tree.{DataType, leaf, head_kind, head_arg}
-use Rattle.flat.specs.Reader.{map_o}
 use Rattle.flat.specs.Reading.{Reading, refused, type}
 use Rattle.flat.specs.Both.{both_of, root_reading}
 use Rattle.flat.specs.declared.error.Error.{Error}
@@ -22,7 +22,7 @@ type_of n = leaf n.kind n.arg
 
 -- what was found: none is the source's None
 abbrev pub found_of : Option Node → Option Reading
-found_of = map_o (λ n. type (type_of n))
+found_of = option_map (λ n. type (type_of n))
 
 -- what was found, or the refusal of the call
 abbrev pub result_of : Result (Option Node) Error → Option Reading

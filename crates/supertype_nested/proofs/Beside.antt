@@ -3,13 +3,13 @@ use Rattle.std.specs.Option.{option_or}
 use mathlib.Core.Path.{◌≡◌, refl, sym, ap, ap₂, ◌∙◌}
 use mathlib.Core.Bool.{Bool, true, false, cond, ◌&&◌, ◌||◌}
 use Rattle.std.specs.Prelude.{Option, None, Some}
+use Rattle.std.specs.Prelude.{option_map}
 use Prim.Native.Nat.{ℕ, ◌≤◌}
 use native.Mathlib.Omega.{arith}
 use lib.Dec.{eqb}
 use borrow.Author.Tests.{eqb-true, ne_eqb}
 use Rattle.flat.specs.Kind as kind
 use Rattle.flat.specs.Tree.{DataType, leaf, list, array, struct, Fields, head_kind}
-use Rattle.flat.specs.Reader.{map_o}
 use Rattle.flat.proofs.Truths.{never}
 use Rattle.dtype.specs.Predicate.{is_unknown_int, is_primitive_numeric, is_unknown}
 use Rattle.dtype.specs.Equality.{equal}
@@ -204,7 +204,7 @@ module _ (c : TreeCall) (o : SuperTypeOptions) (k a : ℕ) (h : k ≤ kind.Unkno
 
   module _ (fair : Fair c) (on : o.allow_implode_list ≡ true) (t : DataType) where
     -- A List that takes in a leaf on its left which is no String: one call.
-    pub leaf_list : eqb k kind.String ≡ false → supertype_tree_with c o (leaf k a) (list t) ≡ map_o list (c t (leaf k a))
+    pub leaf_list : eqb k kind.String ≡ false → supertype_tree_with c o (leaf k a) (list t) ≡ option_map list (c t (leaf k a))
     unfolding head_kind run_tree inner_dtype plan_beside beside_arms plan_before
     leaf_list e =
         leaf_nested is_list ∙ ap₂ (tries (is kind.Null k)) e on ∙ go (is kind.Null k) refl (c t (leaf k a)) refl
@@ -218,16 +218,16 @@ module _ (c : TreeCall) (o : SuperTypeOptions) (k a : ℕ) (h : k ≤ kind.Unkno
             (list t) (leaf k a))
 
         go : (y : Bool) → is kind.Null k ≡ y → (q : Option DataType) → c t (leaf k a) ≡ q
-            → option_or (map_o list q) (run_tree c (takes y left_type implode_left) (list t) (leaf k a)) ≡ map_o list q
+            → option_or (option_map list q) (run_tree c (takes y left_type implode_left) (list t) (leaf k a)) ≡ option_map list q
         go y n (Some u) e = refl
         go true n None e =
             no_some (sym (fair.null t a) ∙ ap (λ (k : ℕ). c t (leaf k a)) (sym (eqb-true k kind.Null n)) ∙ e)
-        go false n None e = ap (map_o list) e
+        go false n None e = ap (option_map list) e
 
 -- String on the left of a List that takes it in: of a leaf, the one case in which both tries count.
 pub string_list : (c : TreeCall) (o : SuperTypeOptions) (a : ℕ) → o.allow_implode_list ≡ true → (t : DataType)
     → supertype_tree_with c o (leaf kind.String a) (list t)
-    ≡ option_or (map_o list (c t (leaf kind.String a))) (Some (leaf kind.String 0))
+    ≡ option_or (option_map list (c t (leaf kind.String a))) (Some (leaf kind.String 0))
 unfolding head_kind run_tree inner_dtype run plan_beside beside_arms plan_before
 string_list c o a on t =
     leaf_nested c o kind.String a (omega arith) is_list
@@ -246,7 +246,7 @@ null_nested c fair o a {n} v = leaf_nested c o kind.Null a (omega arith) v ∙ g
     go : (i : Bool) {n : DataType} → IsNested n
         → option_or (run_tree c (plan_before i (head_kind n)) (leaf kind.Null a) n) (Some n) ≡ Some n
     go true (is_list {t}) =
-        ap (λ (q : Option DataType). option_or (map_o list q) (Some (list t))) (fair.null t a)
+        ap (λ (q : Option DataType). option_or (option_map list q) (Some (list t))) (fair.null t a)
     go false is_list = refl
     go i is_array = refl
     go i is_struct = refl
@@ -256,7 +256,7 @@ null_nested c fair o a {n} v = leaf_nested c o kind.Null a (omega arith) v ∙ g
 module _ (c : TreeCall) (o : SuperTypeOptions) where
   -- what a List comes to that takes in another type, where Lists do
   abbrev pub taken_in : Bool → DataType → DataType → Option DataType
-  taken_in i t u = cond i (map_o list (c t u)) None
+  taken_in i t u = cond i (option_map list (c t u)) None
 
   left_in : (i : Bool) (t u : DataType) → run_tree c (takes i implode_left (roots No)) (list t) u ≡ taken_in i t u
   unfolding run_tree inner_dtype run

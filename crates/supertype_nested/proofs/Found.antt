@@ -3,8 +3,8 @@ use Rattle.std.specs.Option.{option_or}
 use mathlib.Core.Path.{◌≡◌, refl, subst}
 use mathlib.Core.Bool.{Bool, true, false, cond}
 use Rattle.std.specs.Prelude.{Option, None, Some}
+use Rattle.std.specs.Prelude.{option_map, option_and_then}
 use Rattle.flat.specs.Tree.{DataType}
-use Rattle.flat.specs.Reader.{map_o, bind_o}
 use Rattle.flat.proofs.Truths.{impossible}
 
 abbrev pub If : {A : Type 0} → (A → Type 0) → Option A → Type 0
@@ -24,11 +24,11 @@ module _ {A : Type 0} (P : A → Type 0) where
   if_weaken Q f (Some a) h = f a h
 
 module _ {A B : Type 0} (P : A → Type 0) (Q : B → Type 0) where
-  pub if_map : (f : A → B) → ((a : A) → P a → Q (f a)) → (q : Option A) → If P q → If Q (map_o f q)
+  pub if_map : (f : A → B) → ((a : A) → P a → Q (f a)) → (q : Option A) → If P q → If Q (option_map f q)
   if_map f g None h = tt
   if_map f g (Some a) h = g a h
 
-  pub if_bind : (f : A → Option B) → ((a : A) → P a → If Q (f a)) → (q : Option A) → If P q → If Q (bind_o q f)
+  pub if_bind : (f : A → Option B) → ((a : A) → P a → If Q (f a)) → (q : Option A) → If P q → If Q (option_and_then f q)
   if_bind f g None h = tt
   if_bind f g (Some a) h = g a h
 
@@ -37,7 +37,7 @@ if_or P None q h g = g
 if_or P (Some t) q h g = h
 
 -- the same of two ways on, where they agree on what was found
-pub bind_same : {A B : Type 0} (f g : A → Option B) (q : Option A) → If (λ a. f a ≡ g a) q → bind_o q f ≡ bind_o q g
+pub bind_same : {A B : Type 0} (f g : A → Option B) (q : Option A) → If (λ a. f a ≡ g a) q → option_and_then f q ≡ option_and_then g q
 bind_same f g None h = refl
 bind_same f g (Some a) h = h
 
@@ -50,6 +50,6 @@ cond_same false h g = g
 pub no_some : {A B : Type 0} {a : A} → Some a ≡ None → B
 no_some e = impossible cc
 
-pub map_none : {A B : Type 0} (f : A → B) (q : Option A) → map_o f q ≡ None → q ≡ None
+pub map_none : {A B : Type 0} (f : A → B) (q : Option A) → option_map f q ≡ None → q ≡ None
 map_none f None e = refl
 map_none f (Some a) e = no_some e

@@ -2,10 +2,10 @@
 use mathlib.Core.Path.{◌≡◌, refl}
 use mathlib.Core.Bool.{Bool, true, false, cond}
 use Rattle.std.specs.Prelude.{Option, None, Some}
+use Rattle.std.specs.Prelude.{option_map, option_and_then}
 use Prim.Native.Nat.{ℕ, zero, suc, ◌+◌}
 use lib.Dec.{leb, eqb}
 use Rattle.flat.specs.Tree.{DataType, leaf, list, array, struct, Fields, empty, field, count, size, head_kind, head_arg}
-use Rattle.flat.specs.Reader.{map_o, bind_o}
 use Rattle.dtype.specs.Equality.{equal}
 use Rattle.dtype_inner.specs.Inner.{inner_dtype}
 use Rattle.supertype_answer.specs.Join.{root_node}
@@ -62,8 +62,8 @@ module _ (P : ℕ → ℕ → Type 0) (Q : ℕ → Type 0) where
     unfolding Each enter
     enter_keeps name t empty q h g = (q, h, tt)
     enter_keeps name t (field other u map) q h g =
-        if_cond All (eqb other name) (map_o (λ st. field other st map) (join_held call t u))
-        (map_o (field other u) (enter call name t map))
+        if_cond All (eqb other name) (option_map (λ st. field other st map) (join_held call t u))
+        (option_map (field other u) (enter call name t map))
         (if_map One All (λ st. field other st map) (λ v e. (g.0, e, g.2)) (join_held call t u)
         (held_keeps t u h g.1))
         (if_map All All (field other u) (λ m e. (g.0, g.1, e)) (enter call name t map)
@@ -129,7 +129,7 @@ module _ (P : ℕ → ℕ → Type 0) (Q : ℕ → Type 0) where
     unfolding Each join_each
     each_keeps k a empty h g = tt
     each_keeps k a (field name t fs) h g =
-        if_bind One All (λ st. map_o (field name st) (join_each call fs (leaf k a)))
+        if_bind One All (λ st. option_map (field name st) (join_each call fs (leaf k a)))
         (λ v e. if_map All All (field name v) (λ hs d. (g.0, e, d)) (join_each call fs (leaf k a)) (each_keeps k a fs h g.2))
         (call t (leaf k a)) (s t (leaf k a) g.1 h)
 
@@ -143,14 +143,14 @@ module _ (P : ℕ → ℕ → Type 0) (Q : ℕ → Type 0) where
 
     -- through the inner type of l
     under : (l : DataType) → One l → (f : DataType → Option DataType) → ((t : DataType) → One t → If One (f t))
-        → If One (bind_o (inner_dtype l) f)
+        → If One (option_and_then f (inner_dtype l))
     under l h f g = if_bind One One f g (inner_dtype l) (inner_keeps l h)
 
-    in_list : (q : Option DataType) → If One q → If One (map_o list q)
+    in_list : (q : Option DataType) → If One q → If One (option_map list q)
     unfolding Each
     in_list q h = if_map One One list (λ t e. e) q h
 
-    in_width : (w v : ℕ) (q : Option DataType) → If One q → If One (map_o (of_widths w v) q)
+    in_width : (w v : ℕ) (q : Option DataType) → If One q → If One (option_map (of_widths w v) q)
     unfolding Each
     in_width w v q h = if_map One One (of_widths w v) (λ t e. go t (eqb w v) e) q h
       where

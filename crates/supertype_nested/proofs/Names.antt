@@ -3,11 +3,11 @@ use mathlib.Core.Path.{◌≡◌, refl, sym, ap, ap₂, ◌∙◌}
 use mathlib.Core.Bool.{Bool, true, false, cond, ◌||◌}
 use mathlib.Core.List.{List, [], ◌∷◌}
 use Rattle.std.specs.Prelude.{Option, None, Some}
+use Rattle.std.specs.Prelude.{option_map, option_and_then}
 use Prim.Native.Nat.{ℕ, ◌≤◌, ◌<◌}
 use lib.Dec.{eqb}
 use borrow.Author.Tests.{eqb-true, le-leb, lt-leb}
 use Rattle.flat.specs.Tree.{DataType, struct, Fields, empty, field, count, append}
-use Rattle.flat.specs.Reader.{map_o, bind_o}
 use Rattle.flat.proofs.Truths.{never}
 use Rattle.supertype_nested.specs.Nested.{TreeCall, insert, from_iter, join_held, enter, enter_all, union_fields}
 use Rattle.supertype_nested.specs.Nested.{union_struct_fields}
@@ -17,12 +17,12 @@ use Rattle.supertype_nested.specs.Union.{by_names}
 -- ---- the longest
 
 pub left_longest : (c : TreeCall) (fs gs : Fields) → count gs ≤ count fs
-    → union_struct_fields c fs gs ≡ map_o struct (union_fields c fs gs)
+    → union_struct_fields c fs gs ≡ option_map struct (union_fields c fs gs)
 unfolding union_struct_fields
 left_longest c fs gs h = rw (le-leb (count gs) (count fs) h) refl
 
 pub right_longest : (c : TreeCall) (fs gs : Fields) → count fs < count gs
-    → union_struct_fields c fs gs ≡ map_o struct (union_fields c gs fs)
+    → union_struct_fields c fs gs ≡ option_map struct (union_fields c gs fs)
 unfolding union_struct_fields
 right_longest c fs gs h = rw (lt-leb (count gs) (count fs) h) refl
 
@@ -53,7 +53,7 @@ from_first name t map (field other u fs) =
     go false h g = g
 
 module _ (c : TreeCall) where
-  pub nothing_after : {A B : Type 0} (q : Option A) → bind_o {A = A} {B = B} q (λ a. None) ≡ None
+  pub nothing_after : {A B : Type 0} (q : Option A) → option_and_then {T = A} {U = B} (λ a. None) q ≡ None
   nothing_after None = refl
   nothing_after (Some a) = refl
 
@@ -61,7 +61,7 @@ module _ (c : TreeCall) where
   abbrev Split : ℕ → DataType → Fields → Fields → Type 0
   Split name u map fs =
       enter_all c (field name u map) fs
-      ≡ bind_o (join_named c name u fs) (λ v. map_o (field name v) (enter_all c map (without name fs)))
+      ≡ option_and_then (λ v. option_map (field name v) (enter_all c map (without name fs))) (join_named c name u fs)
 
   enter_first : (name : ℕ) (u : DataType) (map fs : Fields) → Split name u map fs
   unfolding enter_all enter join_named without
@@ -70,22 +70,22 @@ module _ (c : TreeCall) where
       go (eqb name other) (λ v. enter_first name v map fs) (λ m. enter_first name u m fs)
     where
       on_held : (q : Option DataType) → ((v : DataType) → Split name v map fs)
-          → bind_o (map_o (λ st. field name st map) q) (λ m. enter_all c m fs)
-          ≡ bind_o (bind_o q (λ st. join_named c name st fs)) (λ v. map_o (field name v) (enter_all c map (without name fs)))
+          → option_and_then (λ m. enter_all c m fs) (option_map (λ st. field name st map) q)
+          ≡ option_and_then (λ v. option_map (field name v) (enter_all c map (without name fs))) (option_and_then (λ st. join_named c name st fs) q)
       on_held None h = refl
       on_held (Some v) h = h v
 
       on_other : (q : Option Fields) → ((m : Fields) → Split name u m fs)
-          → bind_o (map_o (field name u) q) (λ m. enter_all c m fs)
-          ≡ bind_o (join_named c name u fs) (λ v. map_o (field name v) (bind_o q (λ m. enter_all c m (without name fs))))
+          → option_and_then (λ m. enter_all c m fs) (option_map (field name u) q)
+          ≡ option_and_then (λ v. option_map (field name v) (option_and_then (λ m. enter_all c m (without name fs)) q)) (join_named c name u fs)
       on_other None g = sym (nothing_after (join_named c name u fs))
       on_other (Some m) g = g m
 
       go : (b : Bool) → ((v : DataType) → Split name v map fs) → ((m : Fields) → Split name u m fs)
-          → bind_o (cond b (map_o (λ st. field name st map) (join_held c t u)) (map_o (field name u) (enter c other t map)))
-          (λ m. enter_all c m fs)
-          ≡ bind_o (cond b (bind_o (join_held c t u) (λ st. join_named c name st fs)) (join_named c name u fs))
-          (λ v. map_o (field name v) (enter_all c map (cond b (without name fs) (field other t (without name fs)))))
+          → option_and_then (λ m. enter_all c m fs)
+          (cond b (option_map (λ st. field name st map) (join_held c t u)) (option_map (field name u) (enter c other t map)))
+          ≡ option_and_then (λ v. option_map (field name v) (enter_all c map (cond b (without name fs) (field other t (without name fs)))))
+          (cond b (option_and_then (λ st. join_named c name st fs) (join_held c t u)) (join_named c name u fs))
       go true h g = on_held (join_held c t u) h
       go false h g = on_other (enter c other t map) g
 
@@ -93,8 +93,8 @@ module _ (c : TreeCall) where
   -- both.
   pub old_name : (name : ℕ) (t : DataType) (fs gs : Fields)
       → enter_all c (from_iter empty (field name t fs)) gs
-      ≡ bind_o (join_named c name (last_or name t fs) gs)
-      (λ v. map_o (field name v) (enter_all c (from_iter empty (without name fs)) (without name gs)))
+      ≡ option_and_then (λ v. option_map (field name v) (enter_all c (from_iter empty (without name fs)) (without name gs)))
+      (join_named c name (last_or name t fs) gs)
   unfolding from_iter insert
   old_name name t fs gs =
       ap (λ (m : Fields). enter_all c m gs) (from_first name t empty fs)
@@ -103,7 +103,7 @@ module _ (c : TreeCall) where
   -- No name of the longest is left: the shortest's first name, with its first type; then the others.
   pub new_name : (name : ℕ) (t : DataType) (gs : Fields)
       → enter_all c empty (field name t gs)
-      ≡ bind_o (join_named c name t gs) (λ v. map_o (field name v) (enter_all c empty (without name gs)))
+      ≡ option_and_then (λ v. option_map (field name v) (enter_all c empty (without name gs))) (join_named c name t gs)
   unfolding enter_all enter
   new_name name t gs = enter_first name t empty gs
 
@@ -170,17 +170,17 @@ module _ (c : TreeCall) where
   named_out n ns u (field m t fs) e = go (eqb n m) (seen ns m) refl refl (λ v. named_out n ns v fs e)
     where
       step : Bool → Option DataType
-      step b = cond b (bind_o (join_held c t u) (λ st. join_named c n st (outside ns fs))) (join_named c n u (outside ns fs))
+      step b = cond b (option_and_then (λ st. join_named c n st (outside ns fs)) (join_held c t u)) (join_named c n u (outside ns fs))
 
       on_held : (q : Option DataType) → ((v : DataType) → join_named c n v (outside ns fs) ≡ join_named c n v fs)
-          → bind_o q (λ st. join_named c n st (outside ns fs)) ≡ bind_o q (λ st. join_named c n st fs)
+          → option_and_then (λ st. join_named c n st (outside ns fs)) q ≡ option_and_then (λ st. join_named c n st fs) q
       on_held None h = refl
       on_held (Some v) h = h v
 
       go : (a b : Bool) → eqb n m ≡ a → seen ns m ≡ b
           → ((v : DataType) → join_named c n v (outside ns fs) ≡ join_named c n v fs)
           → join_named c n u (cond b (outside ns fs) (field m t (outside ns fs)))
-          ≡ cond a (bind_o (join_held c t u) (λ st. join_named c n st fs)) (join_named c n u fs)
+          ≡ cond a (option_and_then (λ st. join_named c n st fs) (join_held c t u)) (join_named c n u fs)
       go true true q r h = never (sym e ∙ one_seen ns n m q ∙ r)
       go true false q r h = ap step q ∙ on_held (join_held c t u) h
       go false true q r h = h u
@@ -190,7 +190,7 @@ module _ (c : TreeCall) where
 
   -- a field of the name n, where its type is found, and the fields behind it, where they are
   abbrev before : ℕ → Option DataType → Option Fields → Option Fields
-  before n p q = bind_o p (λ st. map_o (field n st) q)
+  before n p q = option_and_then (λ st. option_map (field n st) q) p
 
   new_names_lem : (ns : List ℕ) (gs : Fields) → enter_all c empty (outside ns gs) ≡ new_names c ns gs
   unfolding outside new_names enter_all
@@ -207,7 +207,7 @@ module _ (c : TreeCall) where
 
   -- fields, then others
   abbrev followed : Option Fields → Option Fields → Option Fields
-  followed p q = bind_o p (λ old. map_o (append old) q)
+  followed p q = option_and_then (λ old. option_map (append old) q) p
 
   after_none : (q : Option Fields) → q ≡ followed (Some empty) q
   unfolding append

@@ -5,11 +5,11 @@ use mathlib.Core.Path.{◌≡◌, refl, sym, ap, ap₂, ◌∙◌, subst}
 use mathlib.Core.Bool.{Bool, true, false, cond, ◌&&◌, ◌||◌}
 use mathlib.Core.List.{List, [], ◌∷◌}
 use Rattle.std.specs.Prelude.{Option, None, Some}
+use Rattle.std.specs.Prelude.{option_map, option_and_then}
 use Prim.Native.Nat.{ℕ}
 use lib.Dec.{eqb}
 use borrow.Author.Tests.{eqb-true, eq-eqb}
 use Rattle.flat.specs.Tree.{DataType, struct, Fields, empty, field, count}
-use Rattle.flat.specs.Reader.{map_o, bind_o}
 use Rattle.flat.proofs.Truths.{impossible, never}
 use Rattle.dtype.specs.Equality.{equal}
 use Rattle.supertype_nested.specs.Nested.{SuperTypeOptions, TreeCall, from_iter, join_held, enter_all, union_fields}
@@ -155,7 +155,7 @@ module _ (c : TreeCall) (fair : Fair c) where
   unfolding join_named
   named_missing n u empty d = refl
   named_missing n u (field other t fs) d =
-      ap (λ (b : Bool). cond b (bind_o (join_held c t u) (λ st. join_named c n st fs)) (join_named c n u fs)) d.0
+      ap (λ (b : Bool). cond b (option_and_then (λ st. join_named c n st fs) (join_held c t u)) (join_named c n u fs)) d.0
       ∙ named_missing n u fs d.1
 
   -- a held type has no join with the one field of its name
@@ -164,11 +164,11 @@ module _ (c : TreeCall) (fair : Fair c) where
   unfolding join_named
   named_has n u t empty d h e = elim h [ ]
   named_has n u t (field other v fs) d here e =
-      ap (λ (b : Bool). cond b (bind_o (join_held c t u) (λ st. join_named c n st fs)) (join_named c n u fs))
+      ap (λ (b : Bool). cond b (option_and_then (λ st. join_named c n st fs) (join_held c t u)) (join_named c n u fs))
       (eq-eqb n n refl)
-      ∙ ap (λ (q : Option DataType). bind_o q (λ st. join_named c n st fs)) (none_held t u e)
+      ∙ ap (λ (q : Option DataType). option_and_then (λ st. join_named c n st fs) q) (none_held t u e)
   named_has n u t (field other v fs) d (there h) e =
-      ap (λ (b : Bool). cond b (bind_o (join_held c v u) (λ st. join_named c n st fs)) (join_named c n u fs))
+      ap (λ (b : Bool). cond b (option_and_then (λ st. join_named c n st fs) (join_held c v u)) (join_named c n u fs))
       (turned_false other n (other_name other n t fs d.0 h))
       ∙ named_has n u t fs d.1 h e
 
@@ -179,14 +179,14 @@ module _ (c : TreeCall) (fair : Fair c) where
   named_clash n u empty d e = no_some e
   named_clash n u (field other t fs) d e = go (eqb n other) refl e (named_clash n u fs d.1)
     where
-      one : (q : Option DataType) → join_held c t u ≡ q → n ≡ other → bind_o q (λ st. join_named c n st fs) ≡ None
+      one : (q : Option DataType) → join_held c t u ≡ q → n ≡ other → option_and_then (λ st. join_named c n st fs) q ≡ None
           → (v : DataType) × Has n v (field other t fs) × (c v u ≡ None)
       one None h b e = (t, subst (λ (m : ℕ). Has m t (field other t fs)) (sym b) here, held_none t u h)
       one (Some v) h b e =
           no_some (sym (named_missing n v fs (subst (λ (m : ℕ). Missing m fs) (sym b) d.0)) ∙ e)
 
       go : (b : Bool) → eqb n other ≡ b
-          → cond b (bind_o (join_held c t u) (λ st. join_named c n st fs)) (join_named c n u fs) ≡ None
+          → cond b (option_and_then (λ st. join_named c n st fs) (join_held c t u)) (join_named c n u fs) ≡ None
           → (join_named c n u fs ≡ None → (v : DataType) × Has n v fs × (c v u ≡ None))
           → (v : DataType) × Has n v (field other t fs) × (c v u ≡ None)
       go true b e h = one (join_held c t u) refl (eqb-true n other b) e
@@ -197,13 +197,13 @@ module _ (c : TreeCall) (fair : Fair c) where
   -- the first name of the longest, then the others
   first_name : (n : ℕ) (t : DataType) (fs gs : Fields) → Missing n fs
       → union_fields c (field n t fs) gs
-      ≡ bind_o (join_named c n t gs) (λ v. map_o (field n v) (union_fields c fs (without n gs)))
+      ≡ option_and_then (λ v. option_map (field n v) (union_fields c fs (without n gs))) (join_named c n t gs)
   unfolding union_fields
   first_name n t fs gs d =
       old_name c n t fs gs
       ∙ ap₂
       (λ (u : DataType) (hs : Fields).
-      bind_o (join_named c n u gs) (λ v. map_o (field n v) (enter_all c (from_iter empty hs) (without n gs))))
+      option_and_then (λ v. option_map (field n v) (enter_all c (from_iter empty hs) (without n gs))) (join_named c n u gs))
       (last_missing n t fs d) (without_missing n fs d)
 
   -- two Structs clash: a name of both whose types have no supertype
@@ -218,11 +218,11 @@ module _ (c : TreeCall) (fair : Fair c) where
   clash_none empty gs d e k = let h = k.3 in elim h [ ]
   clash_none (field m v fs) gs d e (n, t, u, here, g, q) =
       first_name n t fs gs d.0
-      ∙ ap (λ (z : Option DataType). bind_o z (λ v. map_o (field n v) (union_fields c fs (without n gs))))
+      ∙ ap (λ (z : Option DataType). option_and_then (λ v. option_map (field n v) (union_fields c fs (without n gs))) z)
       (named_has n t u gs e g q)
   clash_none (field m v fs) gs d e (n, t, u, there h, g, q) =
       first_name m v fs gs d.0
-      ∙ ap (λ (z : Option Fields). bind_o (join_named c m v gs) (λ v. map_o (field m v) z))
+      ∙ ap (λ (z : Option Fields). option_and_then (λ v. option_map (field m v) z) (join_named c m v gs))
       (clash_none fs (without m gs) d.1 (distinct_without m gs e)
       (n, t, u, h, has_without n m u gs (other_name m n t fs d.0 h) g, q))
       ∙ nothing_after c (join_named c m v gs)
@@ -233,7 +233,7 @@ module _ (c : TreeCall) (fair : Fair c) where
   new_some empty d = refl
   new_some (field n t gs) d =
       new_name c n t gs
-      ∙ ap₂ (λ (p : Option DataType) (q : Option Fields). bind_o p (λ v. map_o (field n v) q))
+      ∙ ap₂ (λ (p : Option DataType) (q : Option Fields). option_and_then (λ v. option_map (field n v) q) p)
       (named_missing n t gs d.0)
       (ap (λ (z : Fields). enter_all c empty z) (without_missing n gs d.0) ∙ new_some gs d.1)
 
@@ -245,7 +245,7 @@ module _ (c : TreeCall) (fair : Fair c) where
       (none_clash fs (without n gs) d.1 (distinct_without n gs e))
     where
       go : (p : Option DataType) → join_named c n t gs ≡ p
-          → bind_o p (λ v. map_o (field n v) (union_fields c fs (without n gs))) ≡ None
+          → option_and_then (λ v. option_map (field n v) (union_fields c fs (without n gs))) p ≡ None
           → (union_fields c fs (without n gs) ≡ None → Clash fs (without n gs)) → Clash (field n t fs) gs
       go None h q r = let s = named_clash n t gs e h in (n, t, s.0, here, s.1, s.2)
       go (Some v) h q r =
@@ -340,5 +340,5 @@ module _ (c : TreeCall) (fair : Fair c) where
 
   -- As an answer for the two Structs, with as many fields.
   pub plain_structs : (o : SuperTypeOptions) (fs gs : Fields) → count fs ≡ count gs → Distinct fs → Distinct gs
-      → in_place fs gs ≡ false → supertype_tree_with c o (struct fs) (struct gs) ≡ map_o struct (union_fields c fs gs)
-  plain_structs o fs gs n d e p = same_count c fair o fs gs n ∙ ap (map_o struct) (plain_union fs gs d e p)
+      → in_place fs gs ≡ false → supertype_tree_with c o (struct fs) (struct gs) ≡ option_map struct (union_fields c fs gs)
+  plain_structs o fs gs n d e p = same_count c fair o fs gs n ∙ ap (option_map struct) (plain_union fs gs d e p)

@@ -3,13 +3,13 @@ use Rattle.std.specs.Option.{option_or}
 use mathlib.Core.Path.{◌≡◌, refl, sym, ap, ap₂, ◌∙◌}
 use mathlib.Core.Bool.{Bool, true, false, not, cond, ◌||◌}
 use Rattle.std.specs.Prelude.{Option, None, Some}
+use Rattle.std.specs.Prelude.{option_map, option_and_then}
 use Prim.Native.Nat.{ℕ, zero, suc, ◌+◌, ◌≤◌, ◌<◌}
 use native.Mathlib.Omega.{arith}
 use lib.Dec.{T, leb, eqb}
 use Rattle.flat.specs.Kind.{Decimal}
 use Rattle.flat.specs.Tree.{DataType, leaf, list, array, struct, Fields, empty, field, count, size, sizes}
 use Rattle.flat.specs.Tree.{head_kind, head_arg}
-use Rattle.flat.specs.Reader.{map_o, bind_o}
 use Rattle.flat.proofs.Sizes.{size_pos}
 use Rattle.flat.proofs.Truths.{impossible}
 use Rattle.dtype.specs.Match.{if_leaf, if_struct, if_field}
@@ -79,8 +79,8 @@ module _ (c d : TreeCall) (s : Smaller c) (n : ℕ) (g : Agree n c d) where
   enter_same name t empty h = refl
   enter_same name t (field other u map) h =
       cond_same (eqb other name)
-      (ap (map_o (λ st. field other st map)) (ap (cond (equal t u) (Some u)) (g.fewer t u (omega arith))))
-      (ap (map_o (field other u)) (enter_same name t map (omega arith)))
+      (ap (option_map (λ st. field other st map)) (ap (cond (equal t u) (Some u)) (g.fewer t u (omega arith))))
+      (ap (option_map (field other u)) (enter_same name t map (omega arith)))
 
   all_same : (map fs : Fields) → sizes map + sizes fs < n → enter_all c map fs ≡ enter_all d map fs
   unfolding enter_all size
@@ -89,7 +89,7 @@ module _ (c d : TreeCall) (s : Smaller c) (n : ℕ) (g : Agree n c d) where
       bind_same (λ m. enter_all c m fs) (λ m. enter_all d m fs) (enter c name t map)
       (if_weaken (AtMost (suc (size t + sizes map))) (λ m. enter_all c m fs ≡ enter_all d m fs)
       (λ m e. all_same m fs (omega arith)) (enter c name t map) (enter_sizes c s name t map))
-      ∙ ap (λ q. bind_o q (λ m. enter_all d m fs)) (enter_same name t map (omega arith))
+      ∙ ap (λ q. option_and_then (λ m. enter_all d m fs) q) (enter_same name t map (omega arith))
 
   fields_same : (fs gs : Fields) → sizes fs + sizes gs < n → union_fields c fs gs ≡ union_fields d fs gs
   unfolding union_fields size
@@ -98,7 +98,7 @@ module _ (c d : TreeCall) (s : Smaller c) (n : ℕ) (g : Agree n c d) where
   union_same : (fs gs : Fields) → sizes fs + sizes gs < n → union_struct_fields c fs gs ≡ union_struct_fields d fs gs
   unfolding union_struct_fields
   union_same fs gs h =
-      ap (map_o struct)
+      ap (option_map struct)
       (cond_same (leb (count gs) (count fs)) (fields_same fs gs h) (fields_same gs fs (omega arith)))
 
   zip_same : (fs gs : Fields) → sizes fs + sizes gs < n → zip_fields c fs gs ≡ zip_fields d fs gs
@@ -117,12 +117,12 @@ module _ (c d : TreeCall) (s : Smaller c) (n : ℕ) (g : Agree n c d) where
   unfolding join_each size
   each_same k a empty h = refl
   each_same k a (field name t fs) h =
-      ap₂ (λ (p : Option DataType) (q : Option Fields). bind_o p (λ st. map_o (field name st) q))
+      ap₂ (λ (p : Option DataType) (q : Option Fields). option_and_then (λ st. option_map (field name st) q) p)
       (g.fewer t (leaf k a) (omega arith)) (each_same k a fs (omega arith))
 
   -- through the inner type of l
   under_same : (l : DataType) (f f' : DataType → Option DataType)
-      → ((t : DataType) → size t < size l → f t ≡ f' t) → bind_o (inner_dtype l) f ≡ bind_o (inner_dtype l) f'
+      → ((t : DataType) → size t < size l → f t ≡ f' t) → option_and_then f (inner_dtype l) ≡ option_and_then f' (inner_dtype l)
   under_same l f f' h =
       bind_same f f' (inner_dtype l)
       (if_weaken (Below (size l)) (λ t. f t ≡ f' t) h (inner_dtype l) (inner_size l))
@@ -149,13 +149,13 @@ module _ (c d : TreeCall) (s : Smaller c) (n : ℕ) (g : Agree n c d) where
   both_same (struct fs) (struct gs) h = structs_same fs gs (omega arith)
 
   with_leaf_same : (l r : DataType) → size l + size r ≤ n
-      → if_struct None (λ fs. if_leaf None (λ k a. map_o struct (join_each c fs (leaf k a))) r) l
-      ≡ if_struct None (λ fs. if_leaf None (λ k a. map_o struct (join_each d fs (leaf k a))) r) l
+      → if_struct None (λ fs. if_leaf None (λ k a. option_map struct (join_each c fs (leaf k a))) r) l
+      ≡ if_struct None (λ fs. if_leaf None (λ k a. option_map struct (join_each d fs (leaf k a))) r) l
   unfolding size
   with_leaf_same (leaf k a) r h = refl
   with_leaf_same (list t) r h = refl
   with_leaf_same (array w t) r h = refl
-  with_leaf_same (struct fs) (leaf k a) h = ap (map_o struct) (each_same k a fs (omega arith))
+  with_leaf_same (struct fs) (leaf k a) h = ap (option_map struct) (each_same k a fs (omega arith))
   with_leaf_same (struct fs) (list t) h = refl
   with_leaf_same (struct fs) (array w t) h = refl
   with_leaf_same (struct fs) (struct gs) h = refl
@@ -179,12 +179,12 @@ module _ (c d : TreeCall) (s : Smaller c) (n : ℕ) (g : Agree n c d) where
   run_same l r h right_type t = refl
   run_same l r h (roots p) t = ap tree_of (roots_same (root_node l) (root_node r) p t)
   run_same l r h lists t =
-      under_same l _ _ (λ v a. under_same r _ _ (λ u b. ap (map_o list) (g.fewer v u (omega arith))))
+      under_same l _ _ (λ v a. under_same r _ _ (λ u b. ap (option_map list) (g.fewer v u (omega arith))))
   run_same l r h arrays t =
       under_same l _ _
-      (λ v a. under_same r _ _ (λ u b. ap (map_o (of_widths (head_arg l) (head_arg r))) (g.fewer v u (omega arith))))
-  run_same l r h implode_left t = under_same l _ _ (λ v a. ap (map_o list) (g.fewer v r (omega arith)))
-  run_same l r h implode_right t = under_same r _ _ (λ u a. ap (map_o list) (g.fewer u l (omega arith)))
+      (λ v a. under_same r _ _ (λ u b. ap (option_map (of_widths (head_arg l) (head_arg r))) (g.fewer v u (omega arith))))
+  run_same l r h implode_left t = under_same l _ _ (λ v a. ap (option_map list) (g.fewer v r (omega arith)))
+  run_same l r h implode_right t = under_same r _ _ (λ u a. ap (option_map list) (g.fewer u l (omega arith)))
   run_same l r h first_field t = first_same l r h
   run_same l r h structs t = both_same l r h
   run_same l r h each_field t = with_leaf_same l r h

@@ -1,12 +1,12 @@
 -- An answer has fewer nodes than both types together. Assumes nothing.
 use mathlib.Core.Bool.{Bool, true, false, cond}
 use Rattle.std.specs.Prelude.{Option, None, Some}
+use Rattle.std.specs.Prelude.{option_map, option_and_then}
 use Prim.Native.Nat.{ℕ, zero, suc, ◌+◌, ◌≤◌, ◌<◌}
 use native.Mathlib.Omega.{arith}
 use lib.Dec.{leb, eqb}
 use Rattle.flat.specs.Tree.{DataType, leaf, list, array, struct, Fields, empty, field, count, size, sizes}
 use Rattle.flat.specs.Tree.{head_kind, head_arg}
-use Rattle.flat.specs.Reader.{map_o, bind_o}
 use Rattle.flat.proofs.Sizes.{size_pos}
 use Rattle.dtype.specs.Match.{if_leaf, if_struct, if_field}
 use Rattle.dtype.specs.Equality.{equal}
@@ -68,8 +68,8 @@ module _ (call : TreeCall) (s : Smaller call) where
   unfolding size enter
   enter_sizes name t empty = omega arith
   enter_sizes name t (field other u map) =
-      if_cond whole (eqb other name) (map_o (λ st. field other st map) (join_held call t u))
-      (map_o (field other u) (enter call name t map))
+      if_cond whole (eqb other name) (option_map (λ st. field other st map) (join_held call t u))
+      (option_map (field other u) (enter call name t map))
       (if_map (Below (size t + size u)) whole (λ st. field other st map) (λ v h. omega arith) (join_held call t u)
       (held_sizes t u))
       (if_map (AtMost (suc (size t + sizes map))) whole (field other u) (λ fs h. omega arith) (enter call name t map)
@@ -153,7 +153,7 @@ module _ (call : TreeCall) (s : Smaller call) where
   each_sizes k a empty = omega arith
   each_sizes k a (field name t fs) =
       if_bind (Below (size t + 1)) (AtMost (suc (size t + sizes fs)))
-      (λ st. map_o (field name st) (join_each call fs (leaf k a)))
+      (λ st. option_map (field name st) (join_each call fs (leaf k a)))
       (λ v h.
       if_map (AtMost (sizes fs)) (AtMost (suc (size t + sizes fs))) (field name v) (λ gs g. omega arith)
       (join_each call fs (leaf k a)) (each_sizes k a fs))
@@ -167,14 +167,14 @@ module _ (call : TreeCall) (s : Smaller call) where
 
   -- through the inner type of l
   under : (n : ℕ) (l : DataType) (f : DataType → Option DataType)
-      → ((t : DataType) → Below (size l) t → If (Below n) (f t)) → If (Below n) (bind_o (inner_dtype l) f)
+      → ((t : DataType) → Below (size l) t → If (Below n) (f t)) → If (Below n) (option_and_then f (inner_dtype l))
   under n l f h = if_bind (Below (size l)) (Below n) f h (inner_dtype l) (inner_size l)
 
-  in_list : (n m : ℕ) → n < m → (q : Option DataType) → If (Below n) q → If (Below m) (map_o list q)
+  in_list : (n m : ℕ) → n < m → (q : Option DataType) → If (Below n) q → If (Below m) (option_map list q)
   unfolding size
   in_list n m h q b = if_map (Below n) (Below m) list (λ t e. omega arith) q b
 
-  in_width : (w v n m : ℕ) → n < m → (q : Option DataType) → If (Below n) q → If (Below m) (map_o (of_widths w v) q)
+  in_width : (w v n m : ℕ) → n < m → (q : Option DataType) → If (Below n) q → If (Below m) (option_map (of_widths w v) q)
   unfolding size
   in_width w v n m h q b = if_map (Below n) (Below m) (of_widths w v) (λ t e. go t (eqb w v) e) q b
     where
@@ -207,7 +207,7 @@ module _ (call : TreeCall) (s : Smaller call) where
 
   with_leaf_sizes : (l r : DataType)
       → If (Below (size l + size r))
-      (if_struct None (λ fs. if_leaf None (λ k a. map_o struct (join_each call fs (leaf k a))) r) l)
+      (if_struct None (λ fs. if_leaf None (λ k a. option_map struct (join_each call fs (leaf k a))) r) l)
   unfolding size
   with_leaf_sizes (leaf k a) r = tt
   with_leaf_sizes (list t) r = tt

@@ -4,13 +4,13 @@ use Rattle.std.specs.Option.{option_or}
 use mathlib.Core.Path.{◌≡◌, refl, sym, ap, ap₂, ◌∙◌}
 use mathlib.Core.Bool.{Bool, true, false, cond, ◌&&◌}
 use Rattle.std.specs.Prelude.{Option, None, Some}
+use Rattle.std.specs.Prelude.{option_map}
 use Prim.Native.Nat.{ℕ, suc, ◌<◌}
 use native.Mathlib.Omega.{arith}
 use lib.Dec.{eqb}
 use borrow.Author.Tests.{eq-eqb, ne_eqb}
 use Rattle.flat.specs.Kind as kind
 use Rattle.flat.specs.Tree.{DataType, leaf, list, array, struct, Fields, empty, field, count, head_kind, head_arg}
-use Rattle.flat.specs.Reader.{map_o}
 use Rattle.flat.proofs.Truths.{never, both_true}
 use Rattle.dtype.specs.Equality.{equal, equal_fields}
 use Rattle.dtype_inner.specs.Inner.{inner_dtype}
@@ -126,23 +126,23 @@ module _ (c : TreeCall) (fair : Fair c) (o : SuperTypeOptions) where
   -- ---- Lists and Arrays: one call on the inner types
 
   -- the call the other way round is None where this one is
-  turned : (f g : DataType → DataType) (t u : DataType) → map_o f (c t u) ≡ None → map_o g (c u t) ≡ None
-  turned f g t u e = ap (map_o g) (fair.turn t u (map_none f (c t u) e))
+  turned : (f g : DataType → DataType) (t u : DataType) → option_map f (c t u) ≡ None → option_map g (c u t) ≡ None
+  turned f g t u e = ap (option_map g) (fair.turn t u (map_none f (c t u) e))
 
   -- a List of what the inner types come to
-  pub two_lists : (t u : DataType) → supertype_tree_with c o (list t) (list u) ≡ map_o list (c t u)
+  pub two_lists : (t u : DataType) → supertype_tree_with c o (list t) (list u) ≡ option_map list (c t u)
   unfolding head_kind equal run_tree inner_dtype
   two_lists t u =
-      settle c o (list t) (list u) lists lists (list_list o) (list_list o) (λ e. ap (map_o list) (fair.same t u e))
-      (λ e. ap (map_o list) (fair.same u t e)) (turned list list t u)
+      settle c o (list t) (list u) lists lists (list_list o) (list_list o) (λ e. ap (option_map list) (fair.same t u e))
+      (λ e. ap (option_map list) (fair.same u t e)) (turned list list t u)
 
-  pub list_with_array : (w : ℕ) (t u : DataType) → supertype_tree_with c o (list t) (array w u) ≡ map_o list (c t u)
+  pub list_with_array : (w : ℕ) (t u : DataType) → supertype_tree_with c o (list t) (array w u) ≡ option_map list (c t u)
   unfolding head_kind equal run_tree inner_dtype
   list_with_array w t u =
       settle c o (list t) (array w u) lists lists (list_array o) (array_list o) (λ e. never e) (λ e. never e)
       (turned list list t u)
 
-  pub array_with_list : (w : ℕ) (t u : DataType) → supertype_tree_with c o (array w t) (list u) ≡ map_o list (c t u)
+  pub array_with_list : (w : ℕ) (t u : DataType) → supertype_tree_with c o (array w t) (list u) ≡ option_map list (c t u)
   unfolding head_kind equal run_tree inner_dtype
   array_with_list w t u =
       settle c o (array w t) (list u) lists lists (array_list o) (list_array o) (λ e. never e) (λ e. never e)
@@ -150,17 +150,17 @@ module _ (c : TreeCall) (fair : Fair c) (o : SuperTypeOptions) where
 
   -- equal Arrays have one width
   width_same : (w v : ℕ) (t u : DataType) → equal (array w t) (array v u) ≡ true
-      → map_o (of_widths w v) (c t u) ≡ Some (array w t)
+      → option_map (of_widths w v) (c t u) ≡ Some (array w t)
   unfolding equal
   width_same w v t u e = go (eqb w v) e
     where
-      go : (b : Bool) → (b && equal t u) ≡ true → map_o (λ z. cond b (array w z) (list z)) (c t u) ≡ Some (array w t)
-      go true e = ap (map_o (array w)) (fair.same t u e)
+      go : (b : Bool) → (b && equal t u) ≡ true → option_map (λ z. cond b (array w z) (list z)) (c t u) ≡ Some (array w t)
+      go true e = ap (option_map (array w)) (fair.same t u e)
       go false e = never e
 
   -- an Array of it where the widths are one, else a List
   pub two_arrays : (w v : ℕ) (t u : DataType)
-      → supertype_tree_with c o (array w t) (array v u) ≡ map_o (of_widths w v) (c t u)
+      → supertype_tree_with c o (array w t) (array v u) ≡ option_map (of_widths w v) (c t u)
   unfolding head_kind head_arg run_tree inner_dtype
   two_arrays w v t u =
       settle c o (array w t) (array v u) arrays arrays (array_array o) (array_array o) (width_same w v t u)
@@ -231,17 +231,17 @@ module _ (c : TreeCall) (fair : Fair c) (o : SuperTypeOptions) where
   equal_counts (field n t fs) (field m u gs) e = ap suc (equal_counts fs gs (both_true (eqb n m && equal t u) _ e).1)
 
   -- the unions of either order, as types
-  struct_or : (p q : Option Fields) → option_or (map_o struct p) (map_o struct q) ≡ map_o struct (option_or p q)
+  struct_or : (p q : Option Fields) → option_or (option_map struct p) (option_map struct q) ≡ option_map struct (option_or p q)
   struct_or None q = refl
   struct_or (Some fs) q = refl
 
   -- both tries, by what the loop comes to in each
   two_zips : (fs gs : Fields) (p q : Option Fields) (x y : Bool) (z w : Zip) → came z ≡ came w
       → (x ≡ true → z ≡ joined fs) → (y ≡ true → w ≡ joined gs)
-      → option_or (cond x (Some (struct fs)) (zip_end (map_o struct p) z))
-      (cond y (Some (struct gs)) (zip_end (map_o struct q) w))
-      ≡ map_o struct (zip_either p q z)
-  two_zips fs gs p q true y z w e h g = ap (λ (z : Zip). map_o struct (zip_either p q z)) (sym (h refl))
+      → option_or (cond x (Some (struct fs)) (zip_end (option_map struct p) z))
+      (cond y (Some (struct gs)) (zip_end (option_map struct q) w))
+      ≡ option_map struct (zip_either p q z)
+  two_zips fs gs p q true y z w e h g = ap (λ (z : Zip). option_map struct (zip_either p q z)) (sym (h refl))
   two_zips fs gs p q false y (joined hs) w e h g = refl
   two_zips fs gs p q false true names_differ w e h g = absurd (omega (arith, e ∙ ap came (g refl)))
   two_zips fs gs p q false true no_join w e h g = absurd (omega (arith, e ∙ ap came (g refl)))
@@ -255,7 +255,7 @@ module _ (c : TreeCall) (fair : Fair c) (o : SuperTypeOptions) where
   -- Structs with as many fields: the unions of both orders count where names differ at a place, and there alone.
   pub same_count : (fs gs : Fields) → count fs ≡ count gs
       → supertype_tree_with c o (struct fs) (struct gs)
-      ≡ map_o struct (zip_either (union_fields c fs gs) (union_fields c gs fs) (zip_fields c fs gs))
+      ≡ option_map struct (zip_either (union_fields c fs gs) (union_fields c gs fs) (zip_fields c fs gs))
   unfolding supertype_tree_with inner_tree head_kind run_tree equal
   same_count fs gs e =
       ap₂
@@ -267,7 +267,7 @@ module _ (c : TreeCall) (fair : Fair c) (o : SuperTypeOptions) where
     where
       one : (fs gs : Fields) → count fs ≡ count gs
           → run_tree c (tree_plan o kind.Struct kind.Struct) (struct fs) (struct gs)
-          ≡ zip_end (map_o struct (union_fields c fs gs)) (zip_fields c fs gs)
+          ≡ zip_end (option_map struct (union_fields c fs gs)) (zip_fields c fs gs)
       one fs gs e =
           ap (λ (p : TreePlan). run_tree c p (struct fs) (struct gs)) (struct_struct o)
           ∙ (unfold super_type_structs in rw (eq-eqb (count fs) (count gs) e)
@@ -275,17 +275,17 @@ module _ (c : TreeCall) (fair : Fair c) (o : SuperTypeOptions) where
 
   -- ---- Structs with another number of fields: one union, the longer one's, in either try
 
-  longer : (fs gs : Fields) → count gs < count fs → super_type_structs c fs gs ≡ map_o struct (union_fields c fs gs)
+  longer : (fs gs : Fields) → count gs < count fs → super_type_structs c fs gs ≡ option_map struct (union_fields c fs gs)
   unfolding super_type_structs
   longer fs gs h = rw (ne_eqb (count fs) (count gs) (λ e. omega arith)) (left_longest c fs gs (omega arith))
 
-  shorter : (fs gs : Fields) → count fs < count gs → super_type_structs c fs gs ≡ map_o struct (union_fields c gs fs)
+  shorter : (fs gs : Fields) → count fs < count gs → super_type_structs c fs gs ≡ option_map struct (union_fields c gs fs)
   unfolding super_type_structs
   shorter fs gs h = rw (ne_eqb (count fs) (count gs) (λ e. omega arith)) (right_longest c fs gs h)
 
   -- The left is the longer one, and the right.
   pub left_longer : (fs gs : Fields) → count gs < count fs
-      → supertype_tree_with c o (struct fs) (struct gs) ≡ map_o struct (union_fields c fs gs)
+      → supertype_tree_with c o (struct fs) (struct gs) ≡ option_map struct (union_fields c fs gs)
   unfolding head_kind run_tree equal
   left_longer fs gs h =
       settle c o (struct fs) (struct gs) structs structs (struct_struct o) (struct_struct o)
@@ -295,7 +295,7 @@ module _ (c : TreeCall) (fair : Fair c) (o : SuperTypeOptions) where
       ∙ longer fs gs h
 
   pub right_longer : (fs gs : Fields) → count fs < count gs
-      → supertype_tree_with c o (struct fs) (struct gs) ≡ map_o struct (union_fields c gs fs)
+      → supertype_tree_with c o (struct fs) (struct gs) ≡ option_map struct (union_fields c gs fs)
   unfolding head_kind run_tree equal
   right_longer fs gs h =
       settle c o (struct fs) (struct gs) structs structs (struct_struct o) (struct_struct o)

@@ -2,11 +2,11 @@
 use mathlib.Core.Path.{◌≡◌, refl, sym, ap, ◌∙◌, subst}
 use mathlib.Core.Bool.{Bool, true, false, cond}
 use Rattle.std.specs.Prelude.{Option, None, Some}
+use Rattle.std.specs.Prelude.{option_map, option_and_then}
 use Prim.Native.Nat.{ℕ}
 use lib.Dec.{eqb}
 use borrow.Author.Tests.{eqb-true, eqb-false, eq-eqb, ne_eqb}
 use Rattle.flat.specs.Tree.{DataType, Fields, empty, field}
-use Rattle.flat.specs.Reader.{map_o, bind_o}
 use Rattle.supertype_nested.specs.Nested.{TreeCall, insert, from_iter, join_held, enter, enter_all, union_fields}
 use Rattle.supertype_nested.specs.Union.{named}
 use Rattle.supertype_nested.proofs.Found.{If, if_told}
@@ -62,23 +62,23 @@ from_named n map (field m t fs) = go (eqb n m) refl (from_named n (insert m t ma
 
 module _ (c : TreeCall) (n : ℕ) where
   -- a field of the name
-  enter_one : (t : DataType) (map : Fields) → map_o (named n) (enter c n t map) ≡ enter c n t (named n map)
+  enter_one : (t : DataType) (map : Fields) → option_map (named n) (enter c n t map) ≡ enter c n t (named n map)
   unfolding named enter
   enter_one t empty = rw (eq-eqb n n refl) refl
   enter_one t (field other u map) = go (eqb n other) refl (enter_one t map)
     where
       held : eqb n other ≡ true → (q : Option DataType)
-          → map_o (named n) (map_o (λ st. field other st map) q) ≡ map_o (λ st. field other st (named n map)) q
+          → option_map (named n) (option_map (λ st. field other st map) q) ≡ option_map (λ st. field other st (named n map)) q
       held e None = refl
       held e (Some v) = rw e refl
 
-      skipped : eqb n other ≡ false → (q : Option Fields) → map_o (named n) (map_o (field other u) q) ≡ map_o (named n) q
+      skipped : eqb n other ≡ false → (q : Option Fields) → option_map (named n) (option_map (field other u) q) ≡ option_map (named n) q
       skipped e None = refl
       skipped e (Some fs) = rw e refl
 
-      go : (b : Bool) → eqb n other ≡ b → map_o (named n) (enter c n t map) ≡ enter c n t (named n map)
-          → map_o (named n)
-          (cond (eqb other n) (map_o (λ st. field other st map) (join_held c t u)) (map_o (field other u) (enter c n t map)))
+      go : (b : Bool) → eqb n other ≡ b → option_map (named n) (enter c n t map) ≡ enter c n t (named n map)
+          → option_map (named n)
+          (cond (eqb other n) (option_map (λ st. field other st map) (join_held c t u)) (option_map (field other u) (enter c n t map)))
           ≡ enter c n t (cond b (field other u (named n map)) (named n map))
       go true e h = rw (turned_true n other e) (held e (join_held c t u))
       go false e h = rw (turned_false n other e) (skipped e (enter c n t map) ∙ h)
@@ -91,18 +91,18 @@ module _ (c : TreeCall) (n : ℕ) where
   enter_other m t (field other u map) h = go (eqb other m) refl (enter_other m t map h)
     where
       held : eqb other m ≡ true → (q : Option DataType)
-          → If (λ to. named n to ≡ named n (field other u map)) (map_o (λ st. field other st map) q)
+          → If (λ to. named n to ≡ named n (field other u map)) (option_map (λ st. field other st map) q)
       held e None = tt
       held e (Some v) = rw (ap (eqb n) (eqb-true other m e) ∙ h) refl
 
       skipped : (q : Option Fields) → If (λ to. named n to ≡ named n map) q
-          → If (λ to. named n to ≡ named n (field other u map)) (map_o (field other u) q)
+          → If (λ to. named n to ≡ named n (field other u map)) (option_map (field other u) q)
       skipped None g = tt
       skipped (Some fs) g = ap (λ (fs : Fields). cond (eqb n other) (field other u fs) fs) g
 
       go : (b : Bool) → eqb other m ≡ b → If (λ to. named n to ≡ named n map) (enter c m t map)
           → If (λ to. named n to ≡ named n (field other u map))
-          (cond b (map_o (λ st. field other st map) (join_held c t u)) (map_o (field other u) (enter c m t map)))
+          (cond b (option_map (λ st. field other st map) (join_held c t u)) (option_map (field other u) (enter c m t map)))
       go true e g = held e (join_held c t u)
       go false e g = skipped (enter c m t map) g
 
@@ -116,13 +116,13 @@ module _ (c : TreeCall) (n : ℕ) where
   all_named (field m t fs) map = go (eqb n m) refl (all_named fs)
     where
       one : (q : Option Fields) → ((map : Fields) → Parted fs map)
-          → If (λ to. bind_o (map_o (named n) q) (λ map. enter_all c map (named n fs)) ≡ Some (named n to))
-          (bind_o q (λ map. enter_all c map fs))
+          → If (λ to. option_and_then (λ map. enter_all c map (named n fs)) (option_map (named n) q) ≡ Some (named n to))
+          (option_and_then (λ map. enter_all c map fs) q)
       one None h = tt
       one (Some map) h = h map
 
       other : (q : Option Fields) → ((map : Fields) → Parted fs map) → If (λ to. named n to ≡ named n map) q
-          → If (λ to. enter_all c (named n map) (named n fs) ≡ Some (named n to)) (bind_o q (λ map. enter_all c map fs))
+          → If (λ to. enter_all c (named n map) (named n fs) ≡ Some (named n to)) (option_and_then (λ map. enter_all c map fs) q)
       other None h g = tt
       other (Some to) h g =
           subst (λ (from : Fields). If (λ to. enter_all c from (named n fs) ≡ Some (named n to)) (enter_all c to fs)) g
@@ -130,17 +130,17 @@ module _ (c : TreeCall) (n : ℕ) where
 
       go : (b : Bool) → eqb n m ≡ b → ((map : Fields) → Parted fs map)
           → If (λ to. enter_all c (named n map) (cond b (field m t (named n fs)) (named n fs)) ≡ Some (named n to))
-          (bind_o (enter c m t map) (λ map. enter_all c map fs))
+          (option_and_then (λ map. enter_all c map fs) (enter c m t map))
       go true e h =
           subst
           (λ (k : ℕ).
-          If (λ to. bind_o (enter c k t (named n map)) (λ map. enter_all c map (named n fs)) ≡ Some (named n to))
-          (bind_o (enter c k t map) (λ map. enter_all c map fs)))
+          If (λ to. option_and_then (λ map. enter_all c map (named n fs)) (enter c k t (named n map)) ≡ Some (named n to))
+          (option_and_then (λ map. enter_all c map fs) (enter c k t map)))
           (eqb-true n m e)
           (subst
           (λ (q : Option Fields).
-          If (λ to. bind_o q (λ map. enter_all c map (named n fs)) ≡ Some (named n to))
-          (bind_o (enter c n t map) (λ map. enter_all c map fs)))
+          If (λ to. option_and_then (λ map. enter_all c map (named n fs)) q ≡ Some (named n to))
+          (option_and_then (λ map. enter_all c map fs) (enter c n t map)))
           (enter_one t map) (one (enter c n t map) h))
       go false e h = other (enter c m t map) h (enter_other m t map e)
 

@@ -1,10 +1,10 @@
 -- What holds of the supertype of any two types. Assumes nothing: these are statements, proved in proofs/.
 use Rattle.std.specs.Prelude.{◌≡◌, true, ℕ, ◌+◌, ◌*◌, ◌≤◌, ◌<◌}
 use Rattle.std.specs.Prelude.{None, Some}
+use Rattle.std.specs.Prelude.{option_map}
 use Rattle.flat.specs.Kind.{UnknownIntNeg, Struct, Field}
 use Rattle.flat.specs.Argument.{argument_fits, leaf_fits}
 use Rattle.flat.specs.Tree.{DataType, leaf, list, array, struct, Fields, empty, field, count, size, depth}
-use Rattle.flat.specs.Reader.{map_o}
 use Rattle.flat.specs.Reading.{Ruled, IsType}
 use Rattle.supertype_answer.specs.Join.{node}
 use Rattle.supertype_arms.specs.Supertype.{supertype}
@@ -42,9 +42,9 @@ AnswersValid nodes deep =
 pub record UnionLaws : Type 0 where
   -- the longest is the one with more fields, and of two with as many the left
   pub left_longest : (c : TreeCall) (fs gs : Fields) → count gs ≤ count fs
-      → union_struct_fields c fs gs ≡ map_o struct (union_fields c fs gs)
+      → union_struct_fields c fs gs ≡ option_map struct (union_fields c fs gs)
   pub right_longest : (c : TreeCall) (fs gs : Fields) → count fs < count gs
-      → union_struct_fields c fs gs ≡ map_o struct (union_fields c gs fs)
+      → union_struct_fields c fs gs ≡ option_map struct (union_fields c gs fs)
   -- the union is the longest's names, each at its first place with its last type, then the new names of the shortest
   pub by_names_lem : (c : TreeCall) (longest shortest : Fields)
       → union_fields c longest shortest ≡ by_names c longest shortest

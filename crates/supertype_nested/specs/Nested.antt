@@ -4,8 +4,8 @@
 use Rattle.std.specs.Option.{option_or}
 use Rattle.std.specs.Prelude.{Bool, cond, ℕ, zero, suc, ◌+◌, leb, eqb}
 use Rattle.std.specs.Prelude.{Option, None, Some}
+use Rattle.std.specs.Prelude.{option_map, option_and_then}
 use Rattle.flat.specs.Tree.{DataType, leaf, list, array, struct, Fields, empty, field, count, size, head_kind, head_arg}
-use Rattle.flat.specs.Reader.{map_o, bind_o}
 use Rattle.dtype.specs.Match.{if_leaf, if_struct, if_field}
 use Rattle.dtype.specs.Equality.{equal}
 use Rattle.dtype_inner.specs.Inner.{inner_dtype}
@@ -48,14 +48,14 @@ join_held get_supertype t held = cond (equal t held) (Some held) (get_supertype 
 unfoldable pub enter : TreeCall → ℕ → DataType → Fields → Option Fields
 enter get_supertype name t empty = Some (field name t empty)
 enter get_supertype name t (field other u map) =
-    cond (eqb other name) (map_o (λ st. field other st map) (join_held get_supertype t u))
-    (map_o (field other u) (enter get_supertype name t map))
+    cond (eqb other name) (option_map (λ st. field other st map) (join_held get_supertype t u))
+    (option_map (field other u) (enter get_supertype name t map))
 
 -- `for field in shortest`
 unfoldable pub enter_all : TreeCall → Fields → Fields → Option Fields
 enter_all get_supertype map empty = Some map
 enter_all get_supertype map (field name t fs) =
-    bind_o (enter get_supertype name t map) (λ map. enter_all get_supertype map fs)
+    option_and_then (λ map. enter_all get_supertype map fs) (enter get_supertype name t map)
 
 -- the fields of the longest and the shortest as one map
 unfoldable pub union_fields : TreeCall → Fields → Fields → Option Fields
@@ -64,7 +64,7 @@ union_fields get_supertype longest shortest = enter_all get_supertype (from_iter
 -- `union_struct_fields`: of two with as many fields the left is the longest
 unfoldable pub union_struct_fields : TreeCall → Fields → Fields → Option DataType
 union_struct_fields get_supertype fs gs =
-    map_o struct (cond (leb (count gs) (count fs)) (union_fields get_supertype fs gs)
+    option_map struct (cond (leb (count gs) (count fs)) (union_fields get_supertype fs gs)
     (union_fields get_supertype gs fs))
 
 -- ---- Structs field by field
@@ -107,7 +107,7 @@ super_type_structs get_supertype fs gs =
 unfoldable pub join_each : TreeCall → Fields → DataType → Option Fields
 join_each get_supertype empty r = Some empty
 join_each get_supertype (field name t fs) r =
-    bind_o (get_supertype t r) (λ st. map_o (field name st) (join_each get_supertype fs r))
+    option_and_then (λ st. option_map (field name st) (join_each get_supertype fs r)) (get_supertype t r)
 
 -- an Array of the width, where both have it, else a List
 abbrev pub of_widths : ℕ → ℕ → DataType → DataType
@@ -115,11 +115,11 @@ of_widths w v t = cond (eqb w v) (array w t) (list t)
 
 -- what was found of two roots, as a type
 abbrev pub tree_of : Option Node → Option DataType
-tree_of = map_o type_of
+tree_of = option_map type_of
 
 -- what was found, as a root: two types that are not nested have no nested one in common
 abbrev pub root_found : Option DataType → Option Node
-root_found found = bind_o found (if_leaf None (λ k a. Some (node k a)))
+root_found found = option_and_then (if_leaf None (λ k a. Some (node k a))) found
 
 -- a call with two roots: the dyn arms make one with the left type and an integer type
 abbrev pub at_roots : TreeCall → Call
@@ -131,16 +131,16 @@ run_tree get_supertype left_type l r = Some l
 run_tree get_supertype right_type l r = Some r
 run_tree get_supertype (roots p) l r = tree_of (run (at_roots get_supertype) p (root_node l) (root_node r))
 run_tree get_supertype lists l r =
-    bind_o (inner_dtype l) (λ t. bind_o (inner_dtype r) (λ u. map_o list (get_supertype t u)))
+    option_and_then (λ t. option_and_then (λ u. option_map list (get_supertype t u)) (inner_dtype r)) (inner_dtype l)
 run_tree get_supertype arrays l r =
-    bind_o (inner_dtype l) (λ t. bind_o (inner_dtype r) (λ u.
-    map_o (of_widths (head_arg l) (head_arg r)) (get_supertype t u)))
-run_tree get_supertype implode_left l r = bind_o (inner_dtype l) (λ t. map_o list (get_supertype t r))
-run_tree get_supertype implode_right l r = bind_o (inner_dtype r) (λ u. map_o list (get_supertype u l))
+    option_and_then (λ t. option_and_then (λ u.
+    option_map (of_widths (head_arg l) (head_arg r)) (get_supertype t u)) (inner_dtype r)) (inner_dtype l)
+run_tree get_supertype implode_left l r = option_and_then (λ t. option_map list (get_supertype t r)) (inner_dtype l)
+run_tree get_supertype implode_right l r = option_and_then (λ u. option_map list (get_supertype u l)) (inner_dtype r)
 run_tree get_supertype first_field l r = if_struct None (if_field None (λ name t fs. get_supertype t r)) l
 run_tree get_supertype structs l r = if_struct None (λ fs. if_struct None (super_type_structs get_supertype fs) r) l
 run_tree get_supertype each_field l r =
-    if_struct None (λ fs. if_leaf None (λ k a. map_o struct (join_each get_supertype fs (leaf k a))) r) l
+    if_struct None (λ fs. if_leaf None (λ k a. option_map struct (join_each get_supertype fs (leaf k a))) r) l
 
 -- ---- the function
 

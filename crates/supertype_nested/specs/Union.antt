@@ -1,8 +1,8 @@
 -- The union of fields name by name: what `union_fields` comes to. Assumes nothing: these are definitions.
 use Rattle.std.specs.Prelude.{Bool, false, cond, ◌||◌, List, [], ◌∷◌, ℕ, eqb}
 use Rattle.std.specs.Prelude.{Option, Some}
+use Rattle.std.specs.Prelude.{option_map, option_and_then}
 use Rattle.flat.specs.Tree.{DataType, Fields, empty, field, append}
-use Rattle.flat.specs.Reader.{map_o, bind_o}
 use Rattle.supertype_nested.specs.Nested.{TreeCall, join_held}
 
 -- the fields of one name
@@ -19,7 +19,7 @@ last_or name t (field other u fs) = cond (eqb name other) (last_or name u fs) (l
 unfoldable pub join_named : TreeCall → ℕ → DataType → Fields → Option DataType
 join_named get_supertype name held empty = Some held
 join_named get_supertype name held (field other t fs) =
-    cond (eqb name other) (bind_o (join_held get_supertype t held) (λ st. join_named get_supertype name st fs))
+    cond (eqb name other) (option_and_then (λ st. join_named get_supertype name st fs) (join_held get_supertype t held))
     (join_named get_supertype name held fs)
 
 -- a name is among these
@@ -43,8 +43,8 @@ unfoldable pub old_names : TreeCall → Fields → List ℕ → Fields → Optio
 old_names get_supertype shortest ns empty = Some empty
 old_names get_supertype shortest ns (field name t fs) =
     cond (seen ns name) (old_names get_supertype shortest (name ∷ ns) fs)
-    (bind_o (join_named get_supertype name (last_or name t fs) shortest)
-    (λ st. map_o (field name st) (old_names get_supertype shortest (name ∷ ns) fs)))
+    (option_and_then (λ st. option_map (field name st) (old_names get_supertype shortest (name ∷ ns) fs))
+    (join_named get_supertype name (last_or name t fs) shortest))
 
 -- of the shortest: each new name at its first place with its first type, joined with its later fields of that name; ns
 -- are the names before, those of the longest among them
@@ -52,10 +52,10 @@ unfoldable pub new_names : TreeCall → List ℕ → Fields → Option Fields
 new_names get_supertype ns empty = Some empty
 new_names get_supertype ns (field name t gs) =
     cond (seen ns name) (new_names get_supertype (name ∷ ns) gs)
-    (bind_o (join_named get_supertype name t gs) (λ st. map_o (field name st) (new_names get_supertype (name ∷ ns) gs)))
+    (option_and_then (λ st. option_map (field name st) (new_names get_supertype (name ∷ ns) gs)) (join_named get_supertype name t gs))
 
 -- the longest's names, then the new ones of the shortest
 unfoldable pub by_names : TreeCall → Fields → Fields → Option Fields
 by_names get_supertype longest shortest =
-    bind_o (old_names get_supertype shortest [] longest)
-    (λ old. map_o (append old) (new_names get_supertype (with_names longest []) shortest))
+    option_and_then (λ old. option_map (append old) (new_names get_supertype (with_names longest []) shortest))
+    (old_names get_supertype shortest [] longest)

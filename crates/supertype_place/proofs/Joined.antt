@@ -3,6 +3,7 @@ use mathlib.Core.Path.{◌≡◌, refl, sym, ap, ap₂, ◌∙◌, subst}
 use mathlib.Core.Bool.{Bool, true, false}
 use mathlib.Core.List.{List, [], ◌∷◌}
 use Rattle.std.specs.Prelude.{Option, None, Some}
+use Rattle.std.specs.Prelude.{option_map, option_and_then}
 use Prim.Native.Nat.{ℕ, zero, suc, ◌+◌}
 use native.Mathlib.Omega.{arith}
 use lib.Dec.{eqb}
@@ -10,7 +11,7 @@ use lib.ListN.{drop}
 use lib.Seq.{drop-drop}
 use Rattle.flat.specs.Kind
 use Rattle.flat.specs.Tree.{DataType, Fields, empty, field, append, size, sizes}
-use Rattle.flat.specs.Reader.{map_o, bind_o, under_field, node_at, fields_at}
+use Rattle.flat.specs.Reader.{under_field, node_at, fields_at}
 use Rattle.flat.proofs.Truths.{impossible}
 use Rattle.flat.proofs.Positions.{fields_step, fields_zero}
 
@@ -40,20 +41,20 @@ joined_run (suc j) k (h ∷ ks) (a ∷ xs) fs gs p q =
     past t hs l = sym (drop-drop (sizes hs) (size t) l)
 
     at_others : (t : DataType) (r : Option Fields) → fields_at j (drop (size t) ks) (drop (size t) xs) ≡ r
-        → map_o (field a t) r ≡ Some fs → Again
-        → map_o (field a t) (fields_at (j + k) (drop (size t) ks) (drop (size t) xs)) ≡ Some (append fs gs)
+        → option_map (field a t) r ≡ Some fs → Again
+        → option_map (field a t) (fields_at (j + k) (drop (size t) ks) (drop (size t) xs)) ≡ Some (append fs gs)
     at_others t None s e again = impossible cc
     at_others t (Some hs) s e again =
         let d : fs ≡ field a t hs = cc in
         let q' =
         subst (λ (z : Fields). fields_at k (drop (sizes z) (h ∷ ks)) (drop (sizes z) (a ∷ xs)) ≡ Some gs) d q
         in
-        ap (map_o (field a t)) (again (size t) hs s (sym (ap₂ (fields_at k) (past t hs ks) (past t hs xs)) ∙ q'))
+        ap (option_map (field a t)) (again (size t) hs s (sym (ap₂ (fields_at k) (past t hs ks) (past t hs xs)) ∙ q'))
         ∙ ap (λ (z : Fields). Some (append z gs)) (sym d)
 
     at_type : (r : Option DataType)
-        → bind_o r (λ t. map_o (field a t) (fields_at j (drop (size t) ks) (drop (size t) xs))) ≡ Some fs → Again
-        → bind_o r (λ t. map_o (field a t) (fields_at (j + k) (drop (size t) ks) (drop (size t) xs))) ≡ Some (append fs gs)
+        → option_and_then (λ t. option_map (field a t) (fields_at j (drop (size t) ks) (drop (size t) xs))) r ≡ Some fs → Again
+        → option_and_then (λ t. option_map (field a t) (fields_at (j + k) (drop (size t) ks) (drop (size t) xs))) r ≡ Some (append fs gs)
     at_type None e again = impossible cc
     at_type (Some t) e again = at_others t (fields_at j (drop (size t) ks) (drop (size t) xs)) refl e again
 
@@ -71,16 +72,16 @@ one_read (suc m) (h ∷ ks) [] name t fs p = let h = sym p ∙ fields_step (suc 
 one_read (suc m) (h ∷ ks) (a ∷ xs) name t fs p =
     fields_step 1 (h ∷ ks) (a ∷ xs) ∙ at_kind (eqb h Kind.Field) (sym (fields_step (suc m) (h ∷ ks) (a ∷ xs)) ∙ p)
   where
-    at_others : (u : DataType) (r : Option Fields) → map_o (field a u) r ≡ Some (field name t fs)
-        → map_o (field a u) (fields_at 0 (drop (size u) ks) (drop (size u) xs)) ≡ Some (field name t empty)
+    at_others : (u : DataType) (r : Option Fields) → option_map (field a u) r ≡ Some (field name t fs)
+        → option_map (field a u) (fields_at 0 (drop (size u) ks) (drop (size u) xs)) ≡ Some (field name t empty)
     at_others u None e = impossible cc
     at_others u (Some gs) e =
-        ap (map_o (field a u)) (fields_zero (drop (size u) ks) (drop (size u) xs))
+        ap (option_map (field a u)) (fields_zero (drop (size u) ks) (drop (size u) xs))
         ∙ (let d : name ≡ a = cc in let g : t ≡ u = cc in cc)
 
     at_type : (r : Option DataType)
-        → bind_o r (λ u. map_o (field a u) (fields_at m (drop (size u) ks) (drop (size u) xs))) ≡ Some (field name t fs)
-        → bind_o r (λ u. map_o (field a u) (fields_at 0 (drop (size u) ks) (drop (size u) xs))) ≡ Some (field name t empty)
+        → option_and_then (λ u. option_map (field a u) (fields_at m (drop (size u) ks) (drop (size u) xs))) r ≡ Some (field name t fs)
+        → option_and_then (λ u. option_map (field a u) (fields_at 0 (drop (size u) ks) (drop (size u) xs))) r ≡ Some (field name t empty)
     at_type None e = impossible cc
     at_type (Some u) e = at_others u (fields_at m (drop (size u) ks) (drop (size u) xs)) e
 

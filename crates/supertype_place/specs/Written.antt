@@ -1,9 +1,9 @@
 -- What a join leaves in the two lent arrays from a place on. Assumes nothing: these are definitions.
 use Rattle.std.specs.Prelude.{◌≡◌, List, [], ◌∷◌, ◌++◌, ℕ, suc, ◌+◌, ◌≤◌, ◌<◌, length, take, set}
 use Rattle.std.specs.Prelude.{Option, None, Some}
+use Rattle.std.specs.Prelude.{option_map}
 use Rattle.flat.specs.Kind as kind
 use Rattle.flat.specs.Tree.{DataType, Fields, count, size, sizes, kinds_of, kinds_ofs, args_of, args_ofs}
-use Rattle.flat.specs.Reader.{map_o}
 use Rattle.flat.specs.declared.Node.{Node}
 use Rattle.supertype_place.specs.declared.node.Filled.{Filled}
 
@@ -43,8 +43,8 @@ WroteNodes to (Some x) K A K' A' = Wrote to x.number x.kinds x.args K A K' A'
 -- What a join comes to: its answer, which is the number of the nodes that f makes of its type, and these nodes.
 pub record Joins (f : DataType → Nodes) (q : Option DataType) (to : ℕ) (K A K' A' : List ℕ) (r : Option ℕ)
     : Type 0 where
-  pub answers : r ≡ map_o (λ t. (f t).number) q
-  pub wrote : WroteNodes to (map_o f q) K A K' A'
+  pub answers : r ≡ option_map (λ t. (f t).number) q
+  pub wrote : WroteNodes to (option_map f q) K A K' A'
 
 -- how many fields there are, and their nodes
 abbrev pub filled : Fields → Filled
@@ -52,8 +52,8 @@ filled fs = record { names = count fs; nodes = sizes fs }
 
 -- What a loop over fields comes to: fields, or None.
 pub record Fills (q : Option Fields) (to : ℕ) (K A K' A' : List ℕ) (r : Option Filled) : Type 0 where
-  pub answers : r ≡ map_o filled q
-  pub wrote : WroteNodes to (map_o field_nodes q) K A K' A'
+  pub answers : r ≡ option_map filled q
+  pub wrote : WroteNodes to (option_map field_nodes q) K A K' A'
 
 -- A Struct's node put before its fields.
 pub record Closed (f : Filled) (to : ℕ) (K A K' A' : List ℕ) (r : ℕ) : Type 0 where

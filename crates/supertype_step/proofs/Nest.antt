@@ -1,4 +1,5 @@
 -- The steps of two nested types. Assumes nothing.
+use Rattle.std.specs.Prelude.{option_map}
 use mathlib.Core.Path.{◌≡◌, refl, sym, ap, ◌∙◌}
 use mathlib.Core.Bool.{Bool, true, false, cond, ◌&&◌}
 use Prim.Native.Nat.{ℕ, ◌≤◌, ◌<◌}
@@ -7,7 +8,6 @@ use native.Mathlib.Decide.{dec_lt}
 use borrow.Author.Tests.{lt-ltb, le-ltb, eq-eqb, ne_eqb}
 use Rattle.flat.specs.Kind as kind
 use Rattle.flat.specs.Tree.{DataType, list, array, struct, Fields, count, head_kind, head_arg}
-use Rattle.flat.specs.Reader.{map_o}
 use Rattle.flat.proofs.Truths.{never}
 use Rattle.dtype_inner.specs.Inner.{inner_dtype}
 use Rattle.flat.specs.declared.Node.{Node}
@@ -28,12 +28,12 @@ use Rattle.supertype_step.proofs.Roots.{IsStruct, fields_of_lem, wraps_root, str
 
 module _ (c : TreeCall) (fair : Fair c) (o : SuperTypeOptions) where
   -- Structs: the unions, by the number of fields
-  either : (fs gs : Fields) → supertype_tree_with c o (struct fs) (struct gs) ≡ map_o struct (either_fields c fs gs)
+  either : (fs gs : Fields) → supertype_tree_with c o (struct fs) (struct gs) ≡ option_map struct (either_fields c fs gs)
   unfolding either_fields
   either fs gs = go (dec_lt (count fs) (count gs)) (dec_lt (count gs) (count fs))
     where
       go : Dec (count fs < count gs) → Dec (count gs < count fs)
-          → supertype_tree_with c o (struct fs) (struct gs) ≡ map_o struct (either_fields c fs gs)
+          → supertype_tree_with c o (struct fs) (struct gs) ≡ option_map struct (either_fields c fs gs)
       go (yes h) q = rw (lt-ltb (count fs) (count gs) h) (right_longer c fair o fs gs h)
       go (no h) (yes g) =
           rw (le-ltb (count fs) (count gs) (omega arith), lt-ltb (count gs) (count fs) g) (left_longer c fair o fs gs g)
@@ -103,7 +103,7 @@ module _ (c : TreeCall) (fair : Fair c) (o : SuperTypeOptions) where
   wrap_list (array_wraps {w} {t}) (array_wraps {w = v} {t = u}) n =
       record {
         answers = two_arrays c fair o w v t u
-            ∙ ap (λ (b : Bool). map_o (λ z. cond b (array w z) (list z)) (c t u)) (ne_eqb w v (λ e. n (refl, refl, e)));
+            ∙ ap (λ (b : Bool). option_map (λ z. cond b (array w z) (list z)) (c t u)) (ne_eqb w v (λ e. n (refl, refl, e)));
         parts = (is_list, array_wraps, array_wraps);
       }
 
@@ -115,7 +115,7 @@ module _ (c : TreeCall) (fair : Fair c) (o : SuperTypeOptions) where
   wrap_array (array_wraps {w} {t}) (array_wraps {w = v} {t = u}) e =
       record {
         answers = two_arrays c fair o w v t u
-            ∙ ap (λ (b : Bool). map_o (λ z. cond b (array w z) (list z)) (c t u)) (eq-eqb w v e.2);
+            ∙ ap (λ (b : Bool). option_map (λ z. cond b (array w z) (list z)) (c t u)) (eq-eqb w v e.2);
         parts = (is_array, array_wraps, array_wraps);
       }
 

@@ -2,11 +2,11 @@
 -- nothing: these are definitions.
 use Rattle.std.specs.Prelude.{◌≡◌, true, cond, ℕ, ◌≤◌, ◌<◌, ltb, eqb}
 use Rattle.std.specs.Prelude.{Option, None, Some}
+use Rattle.std.specs.Prelude.{option_map, option_and_then}
 use Rattle.std.specs.Option.{option_or}
 use Rattle.flat.specs.Kind as kind
 use Rattle.flat.specs.Argument.{argument_fits}
 use Rattle.flat.specs.Tree.{DataType, leaf, list, array, struct, Fields, count, size, head_kind, head_arg}
-use Rattle.flat.specs.Reader.{map_o, bind_o}
 use Rattle.flat.specs.declared.Node.{Node}
 use Rattle.dtype.specs.Match.{if_struct, if_field}
 use Rattle.dtype_inner.specs.Inner.{inner_dtype}
@@ -31,7 +31,7 @@ above n t = cond (eqb n.kind kind.Array) (array n.arg t) (list t)
 
 -- a List of what the inner type of l comes to with r
 abbrev pub within : TreeCall → DataType → DataType → Option DataType
-within c l r = bind_o (inner_dtype l) (λ t. map_o list (c t r))
+within c l r = option_and_then (λ t. option_map list (c t r)) (inner_dtype l)
 
 -- the first field of the Struct l with r
 abbrev pub first : TreeCall → DataType → DataType → Option DataType
@@ -39,7 +39,7 @@ first c l r = if_struct None (if_field None (λ name t fs. c t r)) l
 
 -- each field of the Struct l with r
 abbrev pub each : TreeCall → DataType → DataType → Option DataType
-each c l r = if_struct None (λ fs. map_o struct (join_each c fs r)) l
+each c l r = if_struct None (λ fs. option_map struct (join_each c fs r)) l
 
 -- what a step answers for two types, by the calls c on their parts
 unfoldable pub run_step : TreeCall → Step → DataType → DataType → Option DataType
@@ -47,7 +47,7 @@ run_step c Step.Nothing l r = None
 run_step c (Step.Node n) l r = Some (type_of n)
 run_step c Step.Left l r = Some l
 run_step c Step.Right l r = Some r
-run_step c (Step.Under n) l r = bind_o (inner_dtype l) (λ t. bind_o (inner_dtype r) (λ u. map_o (above n) (c t u)))
+run_step c (Step.Under n) l r = option_and_then (λ t. option_and_then (λ u. option_map (above n) (c t u)) (inner_dtype r)) (inner_dtype l)
 run_step c Step.WithinLeft l r = within c l r
 run_step c Step.WithinRight l r = within c r l
 run_step c Step.StringWithin l r = option_or (within c r l) (Some (leaf kind.String 0))
@@ -55,7 +55,7 @@ run_step c Step.FirstLeft l r = first c l r
 run_step c Step.FirstRight l r = first c r l
 run_step c Step.EachLeft l r = each c l r
 run_step c Step.EachRight l r = each c r l
-run_step c Step.Fields l r = if_struct None (λ fs. if_struct None (λ gs. map_o struct (either_fields c fs gs)) r) l
+run_step c Step.Fields l r = if_struct None (λ fs. if_struct None (λ gs. option_map struct (either_fields c fs gs)) r) l
 
 -- ---- what the code promises of a step
 

@@ -2,6 +2,7 @@
 use mathlib.Core.Path.{◌≡◌, sym, ap, ◌∙◌}
 use mathlib.Core.List.{List, [], ◌∷◌, ◌++◌, append_assoc, append-nil}
 use Rattle.std.specs.Prelude.{Option, None, Some}
+use Rattle.std.specs.Prelude.{option_map}
 use native.Mathlib.Nat.{add-zero}
 use native.Mathlib.Numerals.{add-one}
 use Prim.Native.Nat.{ℕ, suc, ◌+◌, ◌<◌}
@@ -10,7 +11,6 @@ use lib.ListN.{length, take, set, length-append, length-take}
 use lib.Seq.{length-take-le, take-take, take-set-lt, take-suc-set, set-append_left}
 use Rattle.flat.specs.Kind as kind
 use Rattle.flat.specs.Tree.{struct, Fields, count, size, sizes, kinds_of, kinds_ofs, args_of, args_ofs}
-use Rattle.flat.specs.Reader.{map_o}
 use Rattle.flat.proofs.Sizes.{length_kindss}
 use Rattle.supertype_place.specs.declared.node.Filled.{Filled}
 use Rattle.supertype_place.specs.Written.{Wrote, type_nodes, Joins, filled, Fills, Closed, ClosedFits}
@@ -80,11 +80,11 @@ module _ {q : Option Fields} {to : ℕ} {K A K' A' : List ℕ} {r : Option Fille
 
     -- the fields closed
     pub closed_joins : {K'' A'' : List ℕ} {a : ℕ} → Closed f to K' A' K'' A'' a
-        → Joins type_nodes (map_o struct q) to K A K'' A'' (Some a)
+        → Joins type_nodes (option_map struct q) to K A K'' A'' (Some a)
     unfolding size kinds_of args_of
     closed_joins {K''} {A''} {a} d =
         let fs : Fields = told.0 in
-        joins_is (ap (map_o struct) (sym told.1)) record {
+        joins_is (ap (option_map struct) (sym told.1)) record {
           answers = ap Some (d.number ∙ ap (λ (f : Filled). f.nodes + 1) told.2 ∙ add-one (sizes fs));
           wrote = record {
             kinds =
@@ -97,10 +97,10 @@ module _ {q : Option Fields} {to : ℕ} {K A K' A' : List ℕ} {r : Option Fille
         }
 
   -- no fields
-  pub closed_none : r ≡ None → Joins type_nodes (map_o struct q) to K A K' A' None
+  pub closed_none : r ≡ None → Joins type_nodes (option_map struct q) to K A K' A' None
   closed_none e =
       let x = (fills_is (was_none w e) w).wrote in
-      joins_none (ap (map_o struct) (was_none w e)) record {
+      joins_none (ap (option_map struct) (was_none w e)) record {
         kinds = one_back to K K' x.kinds;
         args = one_back to A A' x.args;
       }

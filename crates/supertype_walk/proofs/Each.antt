@@ -2,12 +2,12 @@
 use mathlib.Core.Path.{◌≡◌, refl, sym, ap, ◌∙◌, subst}
 use mathlib.Core.List.{List, ◌∷◌}
 use Rattle.std.specs.Prelude.{Option, None, Some, Ok, Err}
+use Rattle.std.specs.Prelude.{option_map, option_and_then}
 use Prim.Native.Nat.{ℕ, suc, ◌+◌, ◌-◌, ◌≤◌, ◌<◌}
 use native.Mathlib.Omega.{arith}
 use lib.ListN.{length, get_or}
 use Rattle.flat.specs.Kind as kind
 use Rattle.flat.specs.Tree.{DataType, Fields, empty, field, size, sizes, kinds_of, args_of}
-use Rattle.flat.specs.Reader.{map_o, bind_o}
 use Rattle.supertype_answer.specs.Join.{node}
 use Rattle.supertype_nested.specs.Nested.{SuperTypeOptions, TreeCall, joined, zip_on, join_each}
 use Rattle.supertype_nested.proofs.Found.{If}
@@ -28,7 +28,7 @@ unfolding join_each
 each_step c name t fs r = go (c t r) (join_each c fs r)
   where
     go : (p : Option DataType) (q : Option Fields)
-        → zip_o (bind_o p (λ st. map_o (field name st) q)) ≡ zip_on name p (zip_o q)
+        → zip_o (option_and_then (λ st. option_map (field name st) q) p) ≡ zip_on name p (zip_o q)
     go None q = refl
     go (Some st) None = refl
     go (Some st) (Some fs) = refl

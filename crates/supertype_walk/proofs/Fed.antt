@@ -3,6 +3,7 @@ use mathlib.Core.Path.{◌≡◌, refl, sym, ap, ap₂, ◌∙◌, subst}
 use mathlib.Core.Bool.{Bool, true, false, cond}
 use mathlib.Core.List.{List, [], ◌++◌, append-nil}
 use Rattle.std.specs.Prelude.{Option, None, Some}
+use Rattle.std.specs.Prelude.{option_and_then}
 use Prim.Native.Nat.{ℕ, suc, ◌+◌, ◌-◌, ◌≤◌, ◌<◌}
 use native.Mathlib.Omega.{arith}
 use native.Mathlib.Nat.{zero-add}
@@ -12,7 +13,7 @@ use lib.Seq.{take_all, take-add, take_at}
 use borrow.Author.Tests.{eq-eqb, leb-true}
 use Rattle.flat.specs.Kind as kind
 use Rattle.flat.specs.Tree.{DataType, leaf, list, array, struct, Fields, empty, field, size, sizes, kinds_of, args_of}
-use Rattle.flat.specs.Reader.{node_at, bind_o}
+use Rattle.flat.specs.Reader.{node_at}
 use Rattle.flat.specs.Walk.{FrontType, Valid, type_at}
 use Rattle.flat.proofs.Truths.{both_true}
 use Rattle.flat.proofs.Sizes.{length_kinds, length_args}
@@ -166,7 +167,7 @@ module _ {to n : ℕ} {K A : List ℕ} (h : HeldAt to n K A) where
 -- a held type's joins rest on the fields of its name alone
 module _ (c : TreeCall) (name : ℕ) where
   on_held : (fs gs : Fields) → ((v : DataType) → join_named c name v fs ≡ join_named c name v gs)
-      → (q : Option DataType) → bind_o q (λ st. join_named c name st fs) ≡ bind_o q (λ st. join_named c name st gs)
+      → (q : Option DataType) → option_and_then (λ st. join_named c name st fs) q ≡ option_and_then (λ st. join_named c name st gs) q
   on_held fs gs h None = refl
   on_held fs gs h (Some v) = h v
 
@@ -178,20 +179,20 @@ module _ (c : TreeCall) (name : ℕ) where
       go : (b : Bool) → eqb name other ≡ b
           → ((v : DataType) → join_named c name v (named name fs) ≡ join_named c name v fs)
           → join_named c name u (cond b (field other t (named name fs)) (named name fs))
-          ≡ cond b (bind_o (join_held c t u) (λ st. join_named c name st fs)) (join_named c name u fs)
+          ≡ cond b (option_and_then (λ st. join_named c name st fs) (join_held c t u)) (join_named c name u fs)
       go true e h = rw e (on_held (named name fs) fs h (join_held c t u))
       go false e h = h u
 
   -- the first of them
   first_named : (u t : DataType) (fs others : Fields) → named name fs ≡ field name t (named name others)
-      → join_named c name u fs ≡ bind_o (join_held c t u) (λ st. join_named c name st others)
+      → join_named c name u fs ≡ option_and_then (λ st. join_named c name st others) (join_held c t u)
   unfolding join_named
   first_named u t fs others e =
       sym (by_name u fs) ∙ ap (join_named c name u) e ∙ one
       ∙ on_held (named name others) others (λ v. by_name v others) (join_held c t u)
     where
       one : join_named c name u (field name t (named name others))
-          ≡ bind_o (join_held c t u) (λ st. join_named c name st (named name others))
+          ≡ option_and_then (λ st. join_named c name st (named name others)) (join_held c t u)
       one = rw (eq-eqb name name refl) refl
 
   -- none of them
@@ -258,13 +259,13 @@ module _ (i : SuperTypeOptions) (u : DataType) (gu : LeavesFit u) {name : ℕ} {
       (w : Joins type_nodes (join_held (get_supertype i) (type_in p ks xs) u) to K A K' A' r) (m : NameRoom to name u fs K A)
     where
       split : join_named (get_supertype i) name u fs
-          ≡ bind_o (join_held (get_supertype i) t u) (λ st. join_named (get_supertype i) name st others)
+          ≡ option_and_then (λ st. join_named (get_supertype i) name st others) (join_held (get_supertype i) t u)
       split = first_named (get_supertype i) name u t fs others f.found
 
       after_held : (q : Option DataType) → join_held (get_supertype i) t u ≡ q
-          → join_named (get_supertype i) name u fs ≡ bind_o q (λ st. join_named (get_supertype i) name st others)
+          → join_named (get_supertype i) name u fs ≡ option_and_then (λ st. join_named (get_supertype i) name st others) q
       after_held q e =
-          split ∙ ap (λ (q : Option DataType). bind_o q (λ st. join_named (get_supertype i) name st others)) e
+          split ∙ ap (λ (q : Option DataType). option_and_then (λ st. join_named (get_supertype i) name st others) q) e
 
       kept : Wrote to 0 [] [] K A K' A'
       kept = still_joins w (omega (arith, m.kinds)) (omega (arith, m.args))

@@ -2,13 +2,13 @@
 use mathlib.Core.Path.{◌≡◌, refl, sym, ap, ap₂, ◌∙◌, subst}
 use mathlib.Core.List.{List}
 use Rattle.std.specs.Prelude.{Option, None, Some}
+use Rattle.std.specs.Prelude.{option_map, option_and_then}
 use Rattle.std.specs.Option.{option_or}
 use Prim.Native.Nat.{ℕ, suc, ◌+◌, ◌≤◌, ◌<◌}
 use native.Mathlib.Omega.{arith}
 use lib.ListN.{length, get_or}
 use Rattle.flat.specs.Kind as kind
 use Rattle.flat.specs.Tree.{DataType, leaf, list, struct, Fields, size, sizes, kinds_of, args_of}
-use Rattle.flat.specs.Reader.{map_o, bind_o}
 use Rattle.flat.proofs.Sizes.{size_pos}
 use Rattle.dtype.specs.Match.{if_struct}
 use Rattle.dtype_inner.specs.Inner.{inner_dtype}
@@ -66,7 +66,7 @@ module _ {o : SuperTypeOptions} {at : ℕ} {ks xs : List ℕ} {by : ℕ} {ls ys 
 -- ---- a node over a type
 
 over_nodes : {n : Node} {to : ℕ} {K A K' A' : List ℕ} {r : Option ℕ} → IsOver n → (q : Option DataType)
-    → Joins (headed n) q to K A K' A' r → Joins type_nodes (map_o (above n) q) to K A K' A' r
+    → Joins (headed n) q to K A K' A' r → Joins type_nodes (option_map (above n) q) to K A K' A' r
 unfolding size kinds_of args_of
 over_nodes is_list None w = record { answers = w.answers; wrote = w.wrote }
 over_nodes is_list (Some t) w = record { answers = w.answers; wrote = w.wrote }
@@ -74,7 +74,7 @@ over_nodes is_array None w = record { answers = w.answers; wrote = w.wrote }
 over_nodes is_array (Some t) w = record { answers = w.answers; wrote = w.wrote }
 
 list_nodes : {to : ℕ} {K A K' A' : List ℕ} {r : Option ℕ} (q : Option DataType)
-    → Joins (headed (node kind.List 0)) q to K A K' A' r → Joins type_nodes (map_o list q) to K A K' A' r
+    → Joins (headed (node kind.List 0)) q to K A K' A' r → Joins type_nodes (option_map list q) to K A K' A' r
 list_nodes q w = over_nodes is_list q w
 
 -- ---- the steps
@@ -117,8 +117,8 @@ module _ (o i : SuperTypeOptions) where
       joins_under {n} d t u e h w =
           joins_is
           (sym
-          (settled d (map_o (above n) (c t u))
-          (ap₂ (λ (p q : Option DataType). bind_o p (λ t. bind_o q (λ u. map_o (above n) (c t u)))) e h)))
+          (settled d (option_map (above n) (c t u))
+          (ap₂ (λ (p q : Option DataType). option_and_then (λ t. option_and_then (λ u. option_map (above n) (c t u)) q) p) e h)))
           (over_nodes d.parts.0 (c t u) w)
 
       pub joins_within_left : Decided (get_supertype i) o l r Step.WithinLeft → (t : DataType) → inner_dtype l ≡ Some t
@@ -127,7 +127,7 @@ module _ (o i : SuperTypeOptions) where
       unfolding run_step
       joins_within_left d t e w =
           joins_is
-          (sym (settled d (map_o list (c t r)) (ap (λ (p : Option DataType). bind_o p (λ t. map_o list (c t r))) e)))
+          (sym (settled d (option_map list (c t r)) (ap (λ (p : Option DataType). option_and_then (λ t. option_map list (c t r)) p) e)))
           (list_nodes (c t r) w)
 
       pub joins_within_right : Decided (get_supertype i) o l r Step.WithinRight → (u : DataType) → inner_dtype r ≡ Some u
@@ -136,7 +136,7 @@ module _ (o i : SuperTypeOptions) where
       unfolding run_step
       joins_within_right d u e w =
           joins_is
-          (sym (settled d (map_o list (c u l)) (ap (λ (p : Option DataType). bind_o p (λ u. map_o list (c u l))) e)))
+          (sym (settled d (option_map list (c u l)) (ap (λ (p : Option DataType). option_and_then (λ u. option_map list (c u l)) p) e)))
           (list_nodes (c u l) w)
 
       -- the first field
@@ -157,11 +157,11 @@ module _ (o i : SuperTypeOptions) where
       -- a List of the right one's inner type with String, if there is one
       module _ (d : Decided (get_supertype i) o l r Step.StringWithin) (u : DataType) (e : inner_dtype r ≡ Some u)
           (w : Joins (headed (node kind.List 0)) (get_supertype i u l) to K A K' A' a) where
-        string_is : supertype_tree o i l r ≡ option_or (map_o list (c u l)) (Some (leaf kind.String 0))
+        string_is : supertype_tree o i l r ≡ option_or (option_map list (c u l)) (Some (leaf kind.String 0))
         unfolding run_step
         string_is =
-            settled d (option_or (map_o list (c u l)) (Some (leaf kind.String 0)))
-            (ap (λ (p : Option DataType). option_or (bind_o p (λ u. map_o list (c u l))) (Some (leaf kind.String 0))) e)
+            settled d (option_or (option_map list (c u l)) (Some (leaf kind.String 0)))
+            (ap (λ (p : Option DataType). option_or (option_and_then (λ u. option_map list (c u l)) p) (Some (leaf kind.String 0))) e)
 
         pub joins_string_list : (n : ℕ) → a ≡ Some n
             → Joins type_nodes (supertype_tree o i l r) to K A K' A' (Some n)
@@ -169,8 +169,8 @@ module _ (o i : SuperTypeOptions) where
             joins_is
             (sym
             (string_is
-            ∙ ap (λ (q : Option DataType). option_or (map_o list q) (Some (leaf kind.String 0))) (told_some w n h).1))
-            (joins_is (ap (map_o list) (told_some w n h).1)
+            ∙ ap (λ (q : Option DataType). option_or (option_map list q) (Some (leaf kind.String 0))) (told_some w n h).1))
+            (joins_is (ap (option_map list) (told_some w n h).1)
             (list_nodes (c u l) (subst (Joins (headed (node kind.List 0)) (c u l) to K A K' A') h w)))
 
         pub joins_string : {K'' A'' : List ℕ} {b : Option ℕ} → a ≡ None → to ≤ length K → to ≤ length A
@@ -180,16 +180,16 @@ module _ (o i : SuperTypeOptions) where
             joins_is
             (sym
             (string_is
-            ∙ ap (λ (q : Option DataType). option_or (map_o list q) (Some (leaf kind.String 0))) (told_none w h)))
+            ∙ ap (λ (q : Option DataType). option_or (option_map list q) (Some (leaf kind.String 0))) (told_none w h)))
             (front_of x (still_joins w p q))
 
     -- fields, closed as a Struct, or None
     module _ {to : ℕ} {K A K' A' : List ℕ} {a : Option Filled} (m : to < length K) (n : to < length A) where
       module _ (d : Decided (get_supertype i) o l r Step.EachLeft) (fs : Fields) (e : l ≡ struct fs)
           (w : Fills (join_each (get_supertype i) fs r) (to + 1) K A K' A' a) where
-        each_left : map_o struct (join_each c fs r) ≡ supertype_tree o i l r
+        each_left : option_map struct (join_each c fs r) ≡ supertype_tree o i l r
         unfolding run_step
-        each_left = sym (settled d (map_o struct (join_each c fs r)) (ap (λ (l : DataType). each c l r) e))
+        each_left = sym (settled d (option_map struct (join_each c fs r)) (ap (λ (l : DataType). each c l r) e))
 
         pub none_each_left : a ≡ None → Joins type_nodes (supertype_tree o i l r) to K A K' A' None
         none_each_left h = joins_is each_left (closed_none w m n h)
@@ -200,9 +200,9 @@ module _ (o i : SuperTypeOptions) where
 
       module _ (d : Decided (get_supertype i) o l r Step.EachRight) (gs : Fields) (e : r ≡ struct gs)
           (w : Fills (join_each (get_supertype i) gs l) (to + 1) K A K' A' a) where
-        each_right : map_o struct (join_each c gs l) ≡ supertype_tree o i l r
+        each_right : option_map struct (join_each c gs l) ≡ supertype_tree o i l r
         unfolding run_step
-        each_right = sym (settled d (map_o struct (join_each c gs l)) (ap (λ (r : DataType). each c r l) e))
+        each_right = sym (settled d (option_map struct (join_each c gs l)) (ap (λ (r : DataType). each c r l) e))
 
         pub none_each_right : a ≡ None → Joins type_nodes (supertype_tree o i l r) to K A K' A' None
         none_each_right h = joins_is each_right (closed_none w m n h)
@@ -213,13 +213,13 @@ module _ (o i : SuperTypeOptions) where
 
       module _ (d : Decided (get_supertype i) o l r Step.Fields) (fs gs : Fields) (e : l ≡ struct fs) (h : r ≡ struct gs)
           (w : Fills (either_fields (get_supertype i) fs gs) (to + 1) K A K' A' a) where
-        both_fields : map_o struct (either_fields c fs gs) ≡ supertype_tree o i l r
+        both_fields : option_map struct (either_fields c fs gs) ≡ supertype_tree o i l r
         unfolding run_step
         both_fields =
             sym
-            (settled d (map_o struct (either_fields c fs gs))
+            (settled d (option_map struct (either_fields c fs gs))
             (ap₂
-            (λ (l r : DataType). if_struct None (λ fs. if_struct None (λ gs. map_o struct (either_fields c fs gs)) r) l)
+            (λ (l r : DataType). if_struct None (λ fs. if_struct None (λ gs. option_map struct (either_fields c fs gs)) r) l)
             e h))
 
         pub none_fields : a ≡ None → Joins type_nodes (supertype_tree o i l r) to K A K' A' None

@@ -2,11 +2,11 @@
 use mathlib.Core.Path.{◌≡◌, refl, sym, ap, ap₂, ◌∙◌, subst}
 use mathlib.Core.List.{List, [], ◌++◌}
 use Rattle.std.specs.Prelude.{Option, None, Some}
+use Rattle.std.specs.Prelude.{option_map, option_and_then}
 use Prim.Native.Nat.{ℕ, ◌+◌, ◌≤◌}
 use native.Mathlib.Omega.{arith}
 use lib.ListN.{length, take}
 use Rattle.flat.specs.Tree.{Fields, append, count, sizes, kinds_ofs, args_ofs}
-use Rattle.flat.specs.Reader.{map_o, bind_o}
 use Rattle.flat.proofs.Sizes.{count_le}
 use Rattle.supertype_nested.specs.Nested.{SuperTypeOptions, union_fields}
 use Rattle.supertype_nested.specs.Union.{with_names, old_names, new_names, by_names, outside}
@@ -24,7 +24,7 @@ use Rattle.supertype_walk.proofs.Unions.{old_sizes, new_sizes}
 
 -- fields, then others
 abbrev followed : Option Fields → Option Fields → Option Fields
-followed p q = bind_o p (λ old. map_o (append old) q)
+followed p q = option_and_then (λ old. option_map (append old) q) p
 
 module _ (i : SuperTypeOptions) (fs gs : Fields) where
   abbrev olds : Option Fields

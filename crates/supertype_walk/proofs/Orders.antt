@@ -3,6 +3,7 @@ use mathlib.Core.Path.{◌≡◌, refl, sym, ap, ◌∙◌, subst}
 use mathlib.Core.Bool.{Bool, true, false, not}
 use mathlib.Core.List.{List, []}
 use Rattle.std.specs.Prelude.{Option, None, Some, ok_or, Result, Ok, Err}
+use Rattle.std.specs.Prelude.{option_map}
 use Rattle.std.specs.Option.{option_or}
 use Rattle.std.specs.Result.{result_ok}
 use Prim.Native.Nat.{ℕ, ◌≤◌, ◌<◌}
@@ -10,7 +11,6 @@ use native.Mathlib.Omega.{arith}
 use lib.ListN.{length}
 use borrow.Author.Tests.{lt-ltb, le-ltb, not-true}
 use Rattle.flat.specs.Tree.{Fields, count, sizes, kinds_ofs, args_ofs}
-use Rattle.flat.specs.Reader.{map_o}
 use Rattle.flat.proofs.Truths.{impossible}
 use Rattle.supertype_nested.specs.Nested.{TreeCall, Zip, names_differ, no_join, joined, zip_fields, union_fields}
 use Rattle.supertype_nested.specs.Step.{Fair, zip_either, in_place, repeats}
@@ -36,7 +36,7 @@ module _ {q : Option Fields} {to : ℕ} {K A K' A' : List ℕ} {r : Option Fille
   pub was_none : r ≡ None → q ≡ None
   was_none e = go q (sym w.answers ∙ e)
     where
-      go : (q : Option Fields) → map_o filled q ≡ None → q ≡ None
+      go : (q : Option Fields) → option_map filled q ≡ None → q ≡ None
       go None e = refl
       go (Some fs) e = impossible cc
 
@@ -45,7 +45,7 @@ module _ {q : Option Fields} {to : ℕ} {K A K' A' : List ℕ} {r : Option Fille
       → (fs : Fields) × (q ≡ Some fs) × (f ≡ filled fs) × Wrote to (sizes fs) (kinds_ofs fs) (args_ofs fs) K A K' A'
   told_fields f e = go q refl (sym w.answers ∙ e) w.wrote
     where
-      go : (p : Option Fields) → q ≡ p → map_o filled p ≡ Some f → WroteNodes to (map_o field_nodes p) K A K' A'
+      go : (p : Option Fields) → q ≡ p → option_map filled p ≡ Some f → WroteNodes to (option_map field_nodes p) K A K' A'
           → (fs : Fields) × (q ≡ Some fs) × (f ≡ filled fs)
           × Wrote to (sizes fs) (kinds_ofs fs) (args_ofs fs) K A K' A'
       go None h e v = impossible cc
@@ -59,7 +59,7 @@ module _ {q : Option Fields} {to : ℕ} {K A K' A' : List ℕ} {r : Option Fille
   pub fills_front : to ≤ length K → to ≤ length A → Wrote to 0 [] [] K A K' A'
   fills_front h g = go q w.wrote
     where
-      go : (q : Option Fields) → WroteNodes to (map_o field_nodes q) K A K' A' → Wrote to 0 [] [] K A K' A'
+      go : (q : Option Fields) → WroteNodes to (option_map field_nodes q) K A K' A' → Wrote to 0 [] [] K A K' A'
       go None v = v
       go (Some fs) v = still h g v
 
@@ -114,8 +114,8 @@ pub over : {q : Option Fields} {to : ℕ} {K A K' A' K'' A'' : List ℕ} {r : Op
     → Fills q to K' A' K'' A'' r → Fills q to K A K'' A'' r
 over {q} {to} {K} {A} {K'} {A'} {K''} {A''} {r} v w = record { answers = w.answers; wrote = go q w.wrote }
   where
-    go : (q : Option Fields) → WroteNodes to (map_o field_nodes q) K' A' K'' A''
-        → WroteNodes to (map_o field_nodes q) K A K'' A''
+    go : (q : Option Fields) → WroteNodes to (option_map field_nodes q) K' A' K'' A''
+        → WroteNodes to (option_map field_nodes q) K A K'' A''
     go None x = written_over v x
     go (Some fs) x = written_over v x
 

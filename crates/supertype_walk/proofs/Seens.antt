@@ -4,11 +4,11 @@ use mathlib.Core.Path.{◌≡◌, refl, sym, ap, ◌∙◌}
 use mathlib.Core.Bool.{true, false}
 use mathlib.Core.List.{List, ◌∷◌}
 use Rattle.std.specs.Prelude.{Option, None, Some}
+use Rattle.std.specs.Prelude.{option_map, option_and_then}
 use Prim.Native.Nat.{ℕ, suc, ◌+◌, ◌-◌}
 use native.Mathlib.Omega.{arith}
 use lib.ListN.{get_or}
 use Rattle.flat.specs.Tree.{DataType, Fields, field, size, sizes}
-use Rattle.flat.specs.Reader.{map_o, bind_o}
 use Rattle.supertype_nested.specs.Nested.{zip_on}
 use Rattle.supertype_nested.specs.Union.{seen, with_names, outside}
 use Rattle.supertype_nested.proofs.Names.{out_same}
@@ -34,7 +34,7 @@ names_next {m} {at} {ks} {xs} {here} {left} a p ns =
 
 -- a field before fields, as what a loop comes to
 pub zip_before : (name : ℕ) (p : Option DataType) (q : Option Fields)
-    → zip_o (bind_o p (λ st. map_o (field name st) q)) ≡ zip_on name p (zip_o q)
+    → zip_o (option_and_then (λ st. option_map (field name st) q) p) ≡ zip_on name p (zip_o q)
 zip_before name None q = refl
 zip_before name (Some st) None = refl
 zip_before name (Some st) (Some fs) = refl

@@ -4,13 +4,13 @@ use mathlib.Core.Bool.{Bool, true, false, cond}
 use mathlib.Core.List.{List, [], ◌∷◌, ◌++◌, append-nil}
 use native.Mathlib.Nat.{add-zero}
 use Rattle.std.specs.Prelude.{Option, None, Some}
+use Rattle.std.specs.Prelude.{option_map, option_and_then}
 use Prim.Native.Nat.{ℕ, suc, ◌+◌, ◌≤◌, ◌<◌}
 use native.Mathlib.Omega.{arith}
 use native.Mathlib.Numerals.{add-one}
 use lib.ListN.{length, take}
 use Rattle.flat.specs.Tree.{DataType, Fields, empty, field, size, sizes}
 use Rattle.flat.specs.declared.Node.{Node}
-use Rattle.flat.specs.Reader.{map_o, bind_o}
 use Rattle.flat.proofs.Truths.{impossible}
 use Rattle.dtype.specs.Equality.{equal}
 use Rattle.supertype_nested.specs.Nested.{SuperTypeOptions, TreeCall, join_held, supertype_tree}
@@ -28,7 +28,7 @@ module _ {f : DataType → Nodes} {q : Option DataType} {to : ℕ} {K A K' A' : 
   pub told_none : r ≡ None → q ≡ None
   told_none e = go q (sym w.answers ∙ e)
     where
-      go : (q : Option DataType) → map_o (λ t. (f t).number) q ≡ None → q ≡ None
+      go : (q : Option DataType) → option_map (λ t. (f t).number) q ≡ None → q ≡ None
       go None e = refl
       go (Some t) e = impossible cc
 
@@ -37,7 +37,7 @@ module _ {f : DataType → Nodes} {q : Option DataType} {to : ℕ} {K A K' A' : 
       → (t : DataType) × (q ≡ Some t) × (n ≡ (f t).number) × Wrote to (f t).number (f t).kinds (f t).args K A K' A'
   told_some n e = go q refl (sym w.answers ∙ e) w.wrote
     where
-      go : (p : Option DataType) → q ≡ p → map_o (λ t. (f t).number) p ≡ Some n → WroteNodes to (map_o f p) K A K' A'
+      go : (p : Option DataType) → q ≡ p → option_map (λ t. (f t).number) p ≡ Some n → WroteNodes to (option_map f p) K A K' A'
           → (t : DataType) × (q ≡ Some t) × (n ≡ (f t).number)
           × Wrote to (f t).number (f t).kinds (f t).args K A K' A'
       go None h e s = impossible cc
@@ -50,7 +50,7 @@ module _ {f : DataType → Nodes} {q : Option DataType} {to : ℕ} {K A K' A' : 
   pub still_joins : Wrote to 0 [] [] K A K' A'
   still_joins = go q w.wrote
     where
-      go : (q : Option DataType) → WroteNodes to (map_o f q) K A K' A' → Wrote to 0 [] [] K A K' A'
+      go : (q : Option DataType) → WroteNodes to (option_map f q) K A K' A' → Wrote to 0 [] [] K A K' A'
       go None v = v
       go (Some t) v = still h g v
 
@@ -126,7 +126,7 @@ module _ (i : SuperTypeOptions) (name : ℕ) where
           → ((st : DataType) → If (λ v. size v ≤ size st + sizes (named name fs))
           (join_named (get_supertype i) name st fs))
           → If (λ v. size v ≤ size u + suc (size t + sizes (named name fs)))
-          (bind_o q (λ st. join_named (get_supertype i) name st fs))
+          (option_and_then (λ st. join_named (get_supertype i) name st fs) q)
       on None h r = tt
       on (Some st) h r =
           if_weaken (λ v. size v ≤ size st + sizes (named name fs))
@@ -137,7 +137,7 @@ module _ (i : SuperTypeOptions) (name : ℕ) where
           → ((st : DataType) → If (λ v. size v ≤ size st + sizes (named name fs))
           (join_named (get_supertype i) name st fs))
           → If (λ v. size v ≤ size u + sizes (cond b (field other t (named name fs)) (named name fs)))
-          (cond b (bind_o (join_held (get_supertype i) t u) (λ st. join_named (get_supertype i) name st fs))
+          (cond b (option_and_then (λ st. join_named (get_supertype i) name st fs) (join_held (get_supertype i) t u))
           (join_named (get_supertype i) name u fs))
       go true h r = on (join_held (get_supertype i) t u) held r
       go false h r = h
@@ -170,6 +170,6 @@ pub front_of : {f : DataType → Nodes} {q : Option DataType} {to : ℕ} {K A K'
     → Joins f q to K' A' K'' A'' r → Wrote to 0 [] [] K A K' A' → Joins f q to K A K'' A'' r
 front_of {f} {q} {to} {K} {A} {K'} {A'} {K''} {A''} {r} w v = record { answers = w.answers; wrote = go q w.wrote }
   where
-    go : (q : Option DataType) → WroteNodes to (map_o f q) K' A' K'' A'' → WroteNodes to (map_o f q) K A K'' A''
+    go : (q : Option DataType) → WroteNodes to (option_map f q) K' A' K'' A'' → WroteNodes to (option_map f q) K A K'' A''
     go None x = written_over v x
     go (Some t) x = written_over v x

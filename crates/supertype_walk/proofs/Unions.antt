@@ -3,11 +3,11 @@ use mathlib.Core.Path.{◌≡◌, refl, sym, ap, ◌∙◌}
 use mathlib.Core.Bool.{Bool, true, false, cond, ◌||◌}
 use mathlib.Core.List.{List, ◌∷◌}
 use Rattle.std.specs.Prelude.{Option, None, Some}
+use Rattle.std.specs.Prelude.{option_map, option_and_then}
 use Prim.Native.Nat.{ℕ, suc, ◌+◌, ◌≤◌}
 use native.Mathlib.Omega.{arith}
 use lib.Dec.{eqb}
 use Rattle.flat.specs.Tree.{DataType, Fields, empty, field, size, sizes}
-use Rattle.flat.specs.Reader.{map_o, bind_o}
 use Rattle.flat.proofs.Truths.{never}
 use Rattle.supertype_nested.specs.Nested.{SuperTypeOptions, TreeCall}
 use Rattle.supertype_nested.specs.Union.{named, last_or, join_named, seen, with_names, old_names, new_names, outside}
@@ -61,7 +61,7 @@ some_sizes name (field other t fs) = go (eqb name other) (some_sizes name fs)
 -- a field before fields, with w nodes beside
 before_sizes : (name w n m k : ℕ) (p : Option DataType) (q : Option Fields) → If (λ st. size st ≤ n) p
     → If (λ hs. sizes hs + w ≤ m) q → suc n + m ≤ k
-    → If (λ hs. sizes hs + w ≤ k) (bind_o p (λ st. map_o (field name st) q))
+    → If (λ hs. sizes hs + w ≤ k) (option_and_then (λ st. option_map (field name st) q) p)
 unfolding size
 before_sizes name w n m k None q h g e = tt
 before_sizes name w n m k (Some st) None h g e = tt
@@ -92,7 +92,7 @@ module _ (i : SuperTypeOptions) where
           → If
           (λ hs. sizes hs + W ≤ sizes (cond b (outside ns fs) (field name t (outside ns fs))) + sizes (outside ns gs))
           (cond b later
-          (bind_o (join_named c name (last_or name t fs) gs) (λ st. map_o (field name st) later)))
+          (option_and_then (λ st. option_map (field name st) later) (join_named c name (last_or name t fs) gs)))
       go true e h =
           if_weaken (λ hs. sizes hs + W ≤ room) (λ hs. sizes hs + W ≤ sizes (outside ns fs) + sizes (outside ns gs))
           (λ hs g. omega (arith, g, ap sizes (out_same name ns fs e), ap sizes (out_same name ns gs e))) later h
@@ -120,13 +120,13 @@ module _ (i : SuperTypeOptions) where
 
       go : (b : Bool) → seen ns name ≡ b → If (λ hs. sizes hs ≤ room) later
           → If (λ hs. sizes hs ≤ sizes (cond b (outside ns gs) (field name t (outside ns gs))))
-          (cond b later (bind_o (join_named c name t gs) (λ st. map_o (field name st) later)))
+          (cond b later (option_and_then (λ st. option_map (field name st) later) (join_named c name t gs)))
       go true e h =
           if_weaken (λ hs. sizes hs ≤ room) (λ hs. sizes hs ≤ sizes (outside ns gs))
           (λ hs g. omega (arith, g, ap sizes (out_same name ns gs e))) later h
       go false e h =
           none_beside (suc (size t + sizes (outside ns gs)))
-          (bind_o (join_named c name t gs) (λ st. map_o (field name st) later))
+          (option_and_then (λ st. option_map (field name st) later) (join_named c name t gs))
           (before_sizes name 0 (size t + sizes (named name gs)) room (suc (size t + sizes (outside ns gs)))
           (join_named c name t gs) later (named_sizes i name t gs)
           (if_weaken (λ hs. sizes hs ≤ room) (λ hs. sizes hs + 0 ≤ room) (λ hs g. omega arith) later h)
