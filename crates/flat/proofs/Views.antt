@@ -1,14 +1,16 @@
 -- A type and fields where they stand in slices: that they are read there, and that the nodes of a part fit where those
 -- of the whole do. Assumes nothing.
-use mathlib.Core.Path.{◌≡◌, refl, sym, ap, ap₂, ◌∙◌}
+use mathlib.Core.Path.{◌≡◌, refl, sym, ap, ◌∙◌}
 use mathlib.Core.Bool.{Bool, true, false}
 use mathlib.Core.List.{List, [], ◌∷◌}
 use Prim.Native.Nat.{ℕ, zero, suc, ◌+◌, ◌-◌, ◌≤◌, ◌<◌}
 use lib.ListN.{length, get_or, drop}
-use Rattle.std.specs.Prelude.{Option, None, Some, is_some, ◌&&◌, unwrap_or}
+use Rattle.std.specs.Prelude.{Option, None, Some, is_some, ◌&&◌, ◌||◌, eqb, unwrap_or}
 use Rattle.flat.specs.Kind
-use Rattle.flat.specs.Tree.{DataType, Fields, struct, empty, field, size, head_kind, head_arg}
+use Rattle.flat.specs.Tree.{DataType, struct, empty, field, size, head_kind, head_arg}
+use Rattle.flat.specs.Argument.{argument_fits}
 use Rattle.flat.specs.Reader.{node_at, fields_at}
+use Rattle.flat.specs.Reading.{arguments_fit}
 use Rattle.flat.specs.Walk.{Valid, ValidRun, type_at, run_at}
 use Rattle.flat.specs.Fit.{node_fits, nodes_fit}
 use Rattle.flat.specs.Span.{span_within}
@@ -60,6 +62,23 @@ fit_from j ks xs e = rw (rest, rest) (fit_past j ks xs e)
 
 pub even_from : (j : ℕ) (ks xs : List ℕ) → length ks ≡ length xs → length (from j ks) ≡ length (from j xs)
 even_from j ks xs e = let a = length_from j ks in let b = length_from j xs in omega arith
+
+both_left : (a b : Bool) → (a && b) ≡ true → a ≡ true
+both_left true b e = refl
+both_left false b e = impossible cc
+
+either_right : (a b : Bool) → b ≡ true → (a || b) ≡ true
+either_right true b e = refl
+either_right false b e = e
+
+-- where every argument fits, so do the nodes
+pub fit_of : (ks xs : List ℕ) → arguments_fit ks xs ≡ true → nodes_fit ks xs ≡ true
+unfolding nodes_fit arguments_fit
+fit_of [] xs e = refl
+fit_of (k ∷ ks) [] e = refl
+fit_of (k ∷ ks) (x ∷ xs) e =
+    rw (either_right (eqb k Kind.Struct) (argument_fits k x) (both_left (argument_fits k x) _ e))
+    (fit_of ks xs (both_right (argument_fits k x) _ e))
 
 unary_under : {k a : ℕ} {f : DataType → DataType} → Unary k a f → (t : DataType) → f t ≡ under k a t
 unary_under Unary.is_list t = refl

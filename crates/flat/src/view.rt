@@ -3,9 +3,10 @@ ghost use Rattle.std.specs.Prelude.{◌≡◌, true, is_some, length};
 ghost use Rattle.flat.specs.Reader.{node_at, fields_at};
 ghost use Rattle.flat.specs.Fit.{nodes_fit};
 
-use crate::Node;
+use crate::error::Error;
 use crate::kind::Kind;
 use crate::span::node_span;
+use crate::{Flat, Node, check};
 
 // A type at the front of its kinds and its arguments. Behind it they may go on.
 #[derive(Clone, Copy, Debug)]
@@ -38,8 +39,19 @@ pub struct Fields<'a> {
 impl<'a> FlatType<'a> {
     ghost use Rattle.flat.specs.Tree.{head_kind, head_arg, size};
     ghost use Rattle.flat.specs.Kind.{List, Struct};
-    ghost use Rattle.flat.specs.View.{tree_of, fields_of, under};
+    ghost use Rattle.flat.specs.Reading.{reading};
+    ghost use Rattle.flat.specs.View.{tree_of, fields_of, under, Checked};
     ghost use Rattle.std.specs.Prelude.{◌<◌, ◌≤◌};
+
+    // The type that two arrays are: refusals 1 to 5.
+    #[inline(always)]
+    pub fn checked(kinds: &'a [u8], args: &'a [u64]) -> Result<FlatType<'a>, Error>
+        ensures { let is = reading Flat.MAX_NODES Flat.MAX_DEPTH kinds.now args.now in
+            Checked is kinds.now args.now result }
+    {
+        check(kinds, args)?;
+        Ok(FlatType { kinds, args })
+    }
 
     // Its root.
     pub fn root(self) -> Node
