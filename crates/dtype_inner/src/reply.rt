@@ -30,7 +30,7 @@ impl From<Result<Shape, Error>> for ShapeReply {
                 }
             }
             Err(e) => ShapeReply {
-                number: e.number(),
+                number: u64::from(e),
                 count: 0,
                 widths: [0; Flat::MAX_DEPTH],
             },

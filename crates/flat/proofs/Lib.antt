@@ -22,3 +22,5 @@ mod Scanning
 pub mod Spans
 mod Checks
 mod LimitCases
+mod DepthLimit
+mod NodeLimit

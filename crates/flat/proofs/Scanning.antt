@@ -95,6 +95,16 @@ module _ (deep : ℕ) (ks xs : List ℕ) (at : ℕ) (s : Scan) where
     pub stands : Standing
     pub says : scan_type deep start ks xs ≡ scan_fields deep s (drop at ks) (drop at xs)
 
+-- nothing is owed where the scan starts
+pub nothing_owed :
+    (s : Scan) → (s.owed ≡ 0) × ((s.outer ≡ 0) × ((s.base ≡ 0) × (s.depth ≡ 0))) → s ≡ start
+nothing_owed s e = all e.0 e.1.0 e.1.1.0 e.1.1.1
+  where
+    all :
+        {a b c d : ℕ} → a ≡ 0 → b ≡ 0 → c ≡ 0 → d ≡ 0
+        → (let t : Scan = record { owed = a; outer = b; base = c; depth = d } in t) ≡ start
+    all p q r t = rw (p, q, r, t) refl
+
 pub at_start :
     {deep : ℕ} {ks xs : List ℕ} {r : Scan}
     → (length ks ≡ length xs) × (length ks ≤ 65536) × (deep ≤ 65536)

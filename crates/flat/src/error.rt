@@ -18,10 +18,10 @@ pub enum Error {
     NoUpcast = 12,
 }
 
-impl Error {
-    pub fn number(self) -> u64
-        ensures { result ≡ number_of self }
-    {
-        self as u64
+impl From<Error> for u64 {
+    ghost from_gives = { λ cause number. number ≡ number_of cause };
+
+    fn from(cause: Error) -> u64 {
+        cause as u64
     }
 }

@@ -4,7 +4,6 @@
 pub mod argument;
 pub mod error;
 pub mod kind;
-mod limits;
 pub mod reply;
 mod scan;
 pub mod span;

@@ -87,7 +87,7 @@ impl<T: Value> From<Result<T, Error>> for Reply {
                 value: given.value(),
             },
             Err(e) => Reply {
-                number: e.number(),
+                number: u64::from(e),
                 value: 0,
             },
         }

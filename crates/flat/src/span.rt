@@ -13,7 +13,10 @@ use crate::kind::Kind;
 pub fn leading(kinds: &[u8], low: u8, high: u8) -> usize
     ensures { (result ≡ prefix_len (between low high) kinds.now) × (result ≤ length kinds.now) }
 {
-    kinds.iter().take_while(|&&k| low <= k && k <= high).count()
+    kinds
+        .iter()
+        .take_while(|k| (low..=high).contains(k))
+        .count()
 }
 
 // The type at the front of the two arrays, if it is no deeper than so many levels.

@@ -2,7 +2,7 @@
 -- Assumes nothing.
 use mathlib.Core.Path.{sym, ◌∙◌}
 use native.Mathlib.Omega.{arith}
-use Rattle.flat.proofs.Scanning.{at_start, type_end, bad_type, NodeFits, past_leaf, UnderOne, wrapped_asks, past_one}
+use Rattle.flat.proofs.Scanning.{at_start, nothing_owed, type_end, bad_type, NodeFits, past_leaf, UnderOne, wrapped_asks, past_one}
 use Rattle.flat.proofs.Scanning.{deep_one, opened_asks, past_struct, deep_struct, Past, none_owed, field_missing}
 use Rattle.flat.proofs.Scanning.{FieldDue, bad_field, past_field}
 use Rattle.flat.proofs.scan.passes.Goals as goal
@@ -10,7 +10,7 @@ use Rattle.flat.proofs.scan.passes.Goals.{in-0-to-27, in_default+else-s-deep-2, 
 use Rattle.flat.proofs.scan.passes.Goals.{Else-not-type_fits, Joined-kind-lt28}
 
 pub loop-at-init : goal.loop-at-init
-loop-at-init c = at_start c.requires c.start-s.ensures
+loop-at-init c = at_start c.requires (nothing_owed c.default-s.result c.default-s.ensures)
 
 pub returns-then-not-type_fits : goal.returns-then-not-type_fits
 returns-then-not-type_fits c =
