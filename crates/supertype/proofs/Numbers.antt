@@ -65,11 +65,11 @@ pub known_null : (a b : ℕ) → Kind.UInt8 ≤ a → a ≤ Kind.Int64 → b ≡
     → Some (node a 0) ≡ known_supertype (node a 0) (node b 0)
 unfolding run known_supertype
 known_null a b l h e =
-    let r = rule (λ s a b. plan.Right) Kind.Null 1 Kind.Boolean 14 (unfold right in tt) true Kind.Null a
+    let r = rule (λ s a b. Some plan.Right) Kind.Null 1 Kind.Boolean 14 (unfold right in tt) true Kind.Null a
     (omega arith) in
-    rw e (down stop true {p = plan.Right} (omega arith) (omega arith) r)
+    rw e (down stop true {p = Some plan.Right} (omega arith) (omega arith) r)
 
-module _ (a b k : ℕ) (below : a < b) (numbers : b ≤ Kind.Float64) (e : Settles a b (plan.Kind k)) where
+module _ (a b k : ℕ) (below : a < b) (numbers : b ≤ Kind.Float64) (e : Settles a b (Some (plan.Kind k))) where
   pub join_up : Some (node k 0) ≡ known_supertype (node a 0) (node b 0)
   unfolding run known_supertype
   join_up = up stop true below numbers (e true)
@@ -80,7 +80,7 @@ module _ (a b k : ℕ) (below : a < b) (numbers : b ≤ Kind.Float64) (e : Settl
 
 -- two kinds, whichever is the lesser
 pub join_either : {a b k m n : ℕ} → (a ≡ b → ⊥) → a ≤ Kind.Float64 → b ≤ Kind.Float64 → m ≡ min a b → n ≡ max a b
-    → Settles m n (plan.Kind k) → Some (node k 0) ≡ known_supertype (node a 0) (node b 0)
+    → Settles m n (Some (plan.Kind k)) → Some (node k 0) ≡ known_supertype (node a 0) (node b 0)
 join_either {a} {b} {k} {m} {n} d f g low high e = go (dec_lt a b)
   where
     go : Dec (a < b) → Some (node k 0) ≡ known_supertype (node a 0) (node b 0)
@@ -97,7 +97,7 @@ pub known_boolean : (k : ℕ) → Kind.UInt8 ≤ k → k ≤ Kind.Int128
     → Some (node k 0) ≡ known_supertype (node Kind.Boolean 0) (node k 0)
 known_boolean k l h =
     join_up Kind.Boolean k k (omega arith) (omega arith)
-    (λ s. rule (λ s a b. plan.Kind b) Kind.Boolean 1 Kind.UInt8 10 (unfold right in tt) s Kind.Boolean k (omega arith))
+    (λ s. rule (λ s a b. Some (plan.Kind b)) Kind.Boolean 1 Kind.UInt8 10 (unfold right in tt) s Kind.Boolean k (omega arith))
 
 -- ---- an integer type with a dyn int
 

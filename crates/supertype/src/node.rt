@@ -5,7 +5,7 @@ ghost use Rattle.flat.specs.Argument.{dec128_max_prec};
 ghost use Rattle.supertype_numbers.specs.Range.{Listed};
 ghost use Rattle.supertype_answer.specs.Join.{node};
 ghost use Rattle.supertype_arms.specs.Node.{precision, scale, decimal, value, fits};
-ghost use Rattle.supertype_arms.specs.Supertype.{beside_integer, smallest_fitting, dyn_number, known_supertype, run};
+ghost use Rattle.supertype_arms.specs.Supertype.{beside_integer, smallest_fitting, dyn_number, known_supertype, answered};
 ghost use Rattle.supertype_arms.specs.Supertype.{supertype};
 ghost use Rattle.supertype_arms.specs.Rule.{rule_of, Apart};
 
@@ -113,10 +113,9 @@ fn dyn_number(dt: u8, v: Node) -> u8
 // The supertype of two different types, in the order of their kinds.
 fn ordered(to_string: bool, l: Node, r: Node) -> Option<Node>
     requires { (fits l ≡ true) × (fits r ≡ true) × Apart l.kind r.kind }
-    ensures { result ≡ run known_supertype (rule_of to_string l.kind r.kind) l r }
+    ensures { result ≡ answered known_supertype (rule_of to_string l.kind r.kind) l r }
 {
-    match planned(to_string, l.kind, r.kind) {
-        Plan::No => None,
+    match planned(to_string, l.kind, r.kind)? {
         Plan::Left => Some(l),
         Plan::Right => Some(r),
         Plan::Kind(k) => Some(plain(k)),

@@ -13,10 +13,10 @@ use Rattle.dtype.specs.Predicate.{is_unknown_int}
 use Rattle.dtype.proofs.Runs.{says, of_run}
 use Rattle.dtype.proofs.Pairs.{nodes_same, left_known}
 use Rattle.supertype_answer.specs.Join.{node}
-use Rattle.std.specs.Prelude.{Some}
+use Rattle.std.specs.Prelude.{Option, Some}
 use Rattle.supertype_arms.specs.declared.plan.Plan.{Plan}
 use Rattle.supertype_arms.specs.Node.{same, fits}
-use Rattle.supertype_arms.specs.Supertype.{Call, run, inner, supertype_with}
+use Rattle.supertype_arms.specs.Supertype.{Call, answered, inner, supertype_with}
 use Rattle.supertype_arms.specs.Rule.{rule_of, skip, Apart}
 use Rattle.supertype_arms.proofs.Answers.{settled, either_order, level}
 
@@ -44,14 +44,14 @@ module _ (call : Call) (s : Bool) where
   unfolding supertype_with inner
   of_one {a} {b} e = rw (nodes_same a 0 b 0 e refl)
 
-  module _ {a b : ℕ} {p : Plan} (below : a < b) (numbers : b ≤ Kind.Float64) (e : p ≡ rule_of s a b) where
-    pub up : run call p (node a 0) (node b 0) ≡ supertype_with call s (node a 0) (node b 0)
+  module _ {a b : ℕ} {p : Option Plan} (below : a < b) (numbers : b ≤ Kind.Float64) (e : p ≡ rule_of s a b) where
+    pub up : answered call p (node a 0) (node b 0) ≡ supertype_with call s (node a 0) (node b 0)
     up =
-        ap (λ (q : Plan). run call q (node a 0) (node b 0)) e
+        ap (λ (q : Option Plan). answered call q (node a 0) (node b 0)) e
         ∙ sym (settled call s (node a 0) (node b 0) (apart_below below numbers)
         (distinct a b (omega arith) (omega arith)))
 
-    pub down : run call p (node a 0) (node b 0) ≡ supertype_with call s (node b 0) (node a 0)
+    pub down : answered call p (node a 0) (node b 0) ≡ supertype_with call s (node b 0) (node a 0)
     down =
         up
         ∙ sym (either_order call s (node b 0) (node a 0) (bare b numbers) (bare a (omega arith)) below

@@ -151,7 +151,7 @@ module _ {a b : ℕ} where
   of_equal e = sym (of_one known_supertype false e)
 
   pub in_either : {r m n : ℕ} → (a ≡ b → ⊥) → a ≤ Float64 → b ≤ Float64 → m ≡ min a b → n ≡ max a b
-      → Settles m n (Kind r) → supertype false false (node a 0) (node b 0) ≡ Some (node r 0)
+      → Settles m n (Some (Kind r)) → supertype false false (node a 0) (node b 0) ≡ Some (node r 0)
   unfolding supertype run
   in_either {r} {m} {n} d f g low high e = go (dec_lt a b)
     where

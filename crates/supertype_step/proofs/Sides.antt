@@ -15,8 +15,8 @@ use Rattle.dtype.specs.Predicate.{is_primitive_numeric}
 use Rattle.dtype.proofs.Runs.{says, of_run}
 use Rattle.dtype_inner.specs.Inner.{inner_dtype}
 use Rattle.supertype_answer.specs.Join.{node as root, type_of}
-use Rattle.supertype_arms.specs.Supertype.{is, run, TreePlan, left_type, roots, implode_left, first_field, each_field}
-use Rattle.supertype_arms.specs.declared.plan.Plan.TheVariants.{No, Kind}
+use Rattle.supertype_arms.specs.Supertype.{is, run, TreePlan, no_type, left_type, roots, implode_left, first_field, each_field}
+use Rattle.supertype_arms.specs.declared.plan.Plan.TheVariants.{Kind}
 use Rattle.supertype_nested.specs.Nested.{SuperTypeOptions, TreeCall, run_tree, supertype_tree_with}
 use Rattle.supertype_nested.specs.Step.{Fair, plan_beside}
 use Rattle.supertype_nested.proofs.Beside.{IsNested, is_list, is_array, is_struct, nested_leaf, leaf_beside, leaf_list}
@@ -51,7 +51,7 @@ module _ (s : Side) (i : Bool) (a x k : ℕ) where
         parts = λ t p y. tt;
       }
 
-  to_none : plan_beside i a k ≡ roots No → StepBeside s i a x k None
+  to_none : plan_beside i a k ≡ no_type → StepBeside s i a x k None
   unfolding run_tree run
   to_none e = record { answers = λ c t p y. told e c t y; parts = λ t p y. tt }
 
@@ -195,7 +195,7 @@ module _ (s : Side) (x k : ℕ) (other : Other k) where
       pub at_none : k < kind.UnknownAny → StepBeside s i a x k None
       at_none u =
           to_none s i a x k
-          (plan_out (roots No) (list_none k high no_string no_null u) (array_none k high no_string no_null i u))
+          (plan_out no_type (list_none k high no_string no_null u) (array_none k high no_string no_null i u))
 
       pub at_unknown : {n : Node} → n ≡ root kind.UnknownAny 0 → kind.UnknownAny ≤ k → StepBeside s i a x k (Some (Step.Node n))
       at_unknown h u =
