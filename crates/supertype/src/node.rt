@@ -13,7 +13,7 @@ use dtype::node::equal_node;
 use flat::Node;
 use flat::argument::DEC128_MAX_PREC;
 use flat::kind::Kind;
-use supertype_arms::number::numeric;
+use supertype_arms::number::numeric_supertype;
 use supertype_arms::plan::{Plan, planned};
 use supertype_numbers::dyn_int::{
     materialize_dyn_int, materialize_dyn_int_pos, materialize_smallest_dyn_int,
@@ -87,27 +87,16 @@ fn smallest_fitting(dt: u8, v: Node) -> u8
     materialize_smallest_dyn_int(v)
 }
 
-// `get_supertype` of an integer type and a smallest type: an integer type, or Null where nothing held the value.
-fn get_supertype_known(dt: u8, k: u8) -> u8
-    requires { (UInt8 ≤ dt) × (dt ≤ Int64) × (k ≤ Int64) × (k ≡ Boolean → ⊥) }
-    ensures { Some (node result 0) ≡ known_supertype (node dt 0) (node k 0) }
-{
-    if k == dt || k == Kind::NULL {
-        return dt;
-    }
-    numeric(dt.min(k), dt.max(k))
-}
-
 // The kind of the supertype of an integer type and the dyn int v.
 fn dyn_number(dt: u8, v: Node) -> u8
     requires { (UInt8 ≤ dt) × (dt ≤ Int64) }
     ensures { Some (node result 0) ≡ dyn_number known_supertype (node dt 0) (value v) }
 {
-    let k = smallest_fitting(dt, v);
-    if dt == Kind::UINT64 && k >= Kind::INT8 {
-        return Kind::INT64; // no float for a literal
+    match smallest_fitting(dt, v) {
+        Kind::NULL => dt, // no type holds the value
+        Kind::INT8..=Kind::INT64 if dt == Kind::UINT64 => Kind::INT64, // no float for a literal
+        k => numeric_supertype(dt, k),
     }
-    get_supertype_known(dt, k)
 }
 
 // The supertype of two different types, in the order of their kinds.

@@ -1,9 +1,10 @@
 -- Two types without an argument, of numeric kinds: what the definition gives for them in either order, whatever its
 -- inner call. Assumes nothing.
-use mathlib.Core.Path.{◌≡◌, refl, sym, ◌∙◌, ap}
+use mathlib.Core.Path.{◌≡◌, refl, sym, ◌∙◌, ap, ap₂}
 use mathlib.Core.Bool.{Bool, true, false}
-use Prim.Native.Nat.{ℕ, ◌≤◌, ◌<◌}
+use Prim.Native.Nat.{ℕ, ◌≤◌, ◌<◌, min, max}
 use native.Mathlib.Omega.{arith}
+use native.Mathlib.Decide.{dec_lt}
 use borrow.Author.Tests.{ne_eqb, le-ltb}
 use Rattle.flat.specs.Kind
 use Rattle.flat.specs.Argument.{argument_fits, argument_rule}
@@ -15,9 +16,10 @@ use Rattle.dtype.proofs.Pairs.{nodes_same, left_known}
 use Rattle.supertype_answer.specs.Join.{node}
 use Rattle.std.specs.Prelude.{Option, Some}
 use Rattle.supertype_arms.specs.declared.plan.Plan.{Plan}
+use Rattle.supertype_arms.specs.declared.plan.Plan.TheVariants as plan
 use Rattle.supertype_arms.specs.Node.{same, fits}
-use Rattle.supertype_arms.specs.Supertype.{Call, answered, inner, supertype_with}
-use Rattle.supertype_arms.specs.Rule.{rule_of, skip, Apart}
+use Rattle.supertype_arms.specs.Supertype.{Call, run, answered, inner, supertype_with}
+use Rattle.supertype_arms.specs.Rule.{rule_of, skip, Apart, Settles, IsSupertype}
 use Rattle.supertype_arms.proofs.Answers.{settled, either_order, level}
 
 pub apart_below : {a b : ℕ} → a < b → b ≤ Kind.Float64 → Apart a b
@@ -56,3 +58,19 @@ module _ (call : Call) (s : Bool) where
         up
         ∙ sym (either_order call s (node b 0) (node a 0) (bare b numbers) (bare a (omega arith)) below
         (apart_below below numbers) (level b a (omega arith) (omega arith)) (distinct b a (omega arith) numbers))
+
+-- two kinds, whichever is the lesser, by the plan of the lesser with the greater
+pub by_order : {a b k m n : ℕ} → (a ≡ b → ⊥) → a ≤ Kind.Float64 → b ≤ Kind.Float64 → m ≡ min a b → n ≡ max a b
+    → Settles m n (Some (plan.Kind k)) → IsSupertype a b k
+unfolding run
+by_order {a} {b} {k} {m} {n} d f g low high e call s = go (dec_lt a b)
+  where
+    go : Dec (a < b) → supertype_with call s (node a 0) (node b 0) ≡ Some (node k 0)
+    go (yes h) =
+        let i : m ≡ a = omega arith in
+        let j : n ≡ b = omega arith in
+        sym (up call s h g (e s ∙ ap₂ (rule_of s) i j))
+    go (no h) =
+        let i : m ≡ b = omega arith in
+        let j : n ≡ a = omega arith in
+        sym (down call s (omega arith) f (e s ∙ ap₂ (rule_of s) i j))

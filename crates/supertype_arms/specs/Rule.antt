@@ -1,7 +1,7 @@
 -- The plan of two kinds in ascending order: what the definition answers for them in either of its two tries. Assumes
 -- nothing: these are definitions.
 use Rattle.std.specs.Prelude.{◌≡◌, Bool, false, ◌&&◌, ◌||◌, ℕ, ◌≤◌, ltb, eqb}
-use Rattle.std.specs.Prelude.{Option, option_map}
+use Rattle.std.specs.Prelude.{Option, Some, option_map}
 use Rattle.std.specs.Option.{option_or}
 use Rattle.supertype_arms.specs.declared.plan.Plan.{Plan}
 use Rattle.supertype_arms.specs.declared.plan.Plan.TheVariants.{Left, Right, Kind, Decimals, DecimalInteger}
@@ -9,8 +9,9 @@ use Rattle.supertype_arms.specs.declared.plan.Plan.TheVariants.{DatetimeDuration
 use Rattle.supertype_arms.specs.declared.plan.Plan.TheVariants.{DynNumber, DynBoolean, DynDecimal}
 use Rattle.flat.specs.Kind.{UnknownIntNeg}
 use Rattle.dtype.specs.Predicate.{is_unknown_int}
+use Rattle.supertype_answer.specs.Join.{node}
 use Rattle.supertype_arms.specs.Node.{plain}
-use Rattle.supertype_arms.specs.Supertype.{plan_of}
+use Rattle.supertype_arms.specs.Supertype.{plan_of, Call, supertype_with}
 
 -- a plan of (r, l) as a plan of (l, r)
 abbrev pub turn : Plan → Plan
@@ -39,6 +40,10 @@ pub record Apart (a b : ℕ) : Type 0 where
   pub in_order : a ≤ b
   pub is_in_range : b ≤ UnknownIntNeg
   pub two : skip a b ≡ false
+
+-- k is the kind of the supertype of two types without an argument, over every inner call, with the flag on and off
+abbrev pub IsSupertype : (a b k : ℕ) → Type 0
+IsSupertype a b k = (call : Call) (s : Bool) → supertype_with call s (node a 0) (node b 0) ≡ Some (node k 0)
 
 -- p is the plan of a and b, with the flag on and off
 abbrev pub Settles : ℕ → ℕ → Option Plan → Type 0

@@ -2,7 +2,7 @@
 ghost use Rattle.std.specs.Prelude.{◌≡◌, ◌≤◌, Some};
 ghost use Rattle.flat.specs.Kind.{Boolean, UInt8, UInt128, Int8, Int128, Float16, Float64, Date, Time};
 ghost use Rattle.flat.specs.Kind.{UnknownFloat, UnknownIntNeg};
-ghost use Rattle.supertype_arms.specs.Rule.{rule_of, Apart, Settles};
+ghost use Rattle.supertype_arms.specs.Rule.{rule_of, Apart, Settles, IsSupertype};
 
 use crate::plan::Plan;
 use crate::row::string_if;
@@ -42,6 +42,17 @@ pub fn numeric(a: u8, b: u8) -> u8
         (Kind::UINT8..=Kind::UINT128, Kind::INT8..=Kind::INT128) => mixed(a, b),
         (_, _) => b,
     }
+}
+
+// The kind of the supertype of two of Boolean, the integers and the floats, in either order.
+pub fn numeric_supertype(a: u8, b: u8) -> u8
+    requires { (Boolean ≤ a) × (a ≤ Float64) × (Boolean ≤ b) × (b ≤ Float64) }
+    ensures { IsSupertype a b result }
+{
+    if a == b {
+        return a;
+    }
+    numeric(a.min(b), a.max(b))
 }
 
 // Boolean, an integer or a float with Date, Datetime, Duration or Time.
