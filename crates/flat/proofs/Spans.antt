@@ -6,22 +6,17 @@ use mathlib.Core.List.{List, [], ◌∷◌}
 use Prim.Native.Nat.{ℕ, suc, ◌+◌, ◌-◌, ◌≤◌, ◌<◌, max}
 use native.Mathlib.Omega.{arith}
 use native.Mathlib.Nat.{zero-add}
-use native.Mathlib.Numerals.{add-one}
 use borrow.Author.Tests.{le-leb, lt-leb, leb-true, leb-false}
 use lib.Dec.{leb}
-use lib.ListN.{length, get_or, drop, drop_of_length-le}
-use lib.Seq.{drop-cons}
+use lib.ListN.{length, get_or}
 use Rattle.flat.specs.Kind
 use Rattle.flat.specs.Tree.{DataType, struct, Fields, size, sizes, depth, depths}
-use Rattle.flat.specs.Reader.{Children, no_child, under_list, under_array, fields, no_type, children}
 use Rattle.flat.specs.Walk.{FrontType, Valid, ValidRun, type_at, run_at}
 use Rattle.flat.specs.Span.{span_within, spans_within}
 use Rattle.std.specs.Prelude.{Option, None, Some}
 use Rattle.std.specs.List.{prefix_len}
 use Rattle.flat.proofs.Truths.{impossible}
-use Rattle.flat.proofs.ReadBack.{View, is_leaf, is_struct, is_other, view}
-use Rattle.flat.proofs.Positions.{rest, children_leaf, children_list, children_list_bad, children_array}
-use Rattle.flat.proofs.Positions.{children_struct}
+use Rattle.flat.proofs.Positions.{rest}
 use Rattle.flat.proofs.Walks.{from, shorter, Unary, AtNode, at_leaf, at_one, at_struct, at_node, unary_size}
 use Rattle.flat.proofs.Walks.{valid_of, type_is, type_leaf, struct_of, run_end}
 use Rattle.flat.proofs.Onward.{from_zero, from_first, onward, next_valid, next_run, next_field}

@@ -133,7 +133,7 @@ run_is m ks xs fs e = ap (with_default empty) e
 pub valid_of : {ks xs : List ℕ} {t : DataType} → FrontType ks xs t → Valid ks xs
 valid_of {ks} {xs} {t} n = subst (λ (z : DataType). FrontType ks xs z) (sym (type_is ks xs t n.read)) n
 
-valid_run_of : {m : ℕ} {ks xs : List ℕ} {fs : Fields} → FrontFields m ks xs fs → ValidRun m ks xs
+pub valid_run_of : {m : ℕ} {ks xs : List ℕ} {fs : Fields} → FrontFields m ks xs fs → ValidRun m ks xs
 valid_run_of {m} {ks} {xs} {fs} n = subst (λ (z : Fields). FrontFields m ks xs z) (sym (run_is m ks xs fs n.read)) n
 
 unary_kind : {k a : ℕ} {f : DataType → DataType} → Unary k a f → (Kind.UnknownIntNeg < k) × (k < Kind.Struct)

@@ -13,3 +13,5 @@ pub mod Output
 pub mod Scan
 pub mod Span
 pub mod Walk
+pub mod Fit
+pub mod View

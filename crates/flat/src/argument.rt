@@ -1,5 +1,5 @@
 // The rule of each kind's argument.
-ghost use Rattle.std.specs.Prelude.{◌≡◌};
+ghost use Rattle.std.specs.Prelude.{◌≡◌, ◌<◌, ◌+◌, ◌*◌, ◌/◌, ◌%◌, ◌^◌};
 ghost use Rattle.flat.specs.Argument.{argument_fits, decimal_fits, datetime_fits, plain_leaf};
 
 use crate::kind::Kind;
@@ -10,24 +10,76 @@ const TIME_UNITS: u64 = 3;
 // The most digits of a Decimal.
 pub const DEC128_MAX_PREC: u64 = 38;
 
-// 256 × scale + precision.
+// The parts of a Decimal's argument, 256 × scale + precision.
+#[derive(Clone, Copy, Debug, PartialEq, Eq)]
+pub struct Decimal {
+    pub precision: u64,
+    pub scale: u64,
+    ghost precision_within: { precision < 256 },
+    ghost scale_within: { scale < 2 ^ 56 },
+}
+
+impl From<u64> for Decimal {
+    ghost from_gives = { λ arg parts. (parts.precision ≡ arg % 256) × (parts.scale ≡ arg / 256) };
+
+    fn from(arg: u64) -> Decimal {
+        Decimal {
+            precision: arg % 256,
+            scale: arg / 256,
+        }
+    }
+}
+
+impl From<Decimal> for u64 {
+    ghost from_gives = { λ parts arg. arg ≡ 256 * parts.scale + parts.precision };
+
+    fn from(parts: Decimal) -> u64 {
+        256 * parts.scale + parts.precision
+    }
+}
+
+// The parts of a Datetime's argument, 4 × zone + unit.
+#[derive(Clone, Copy, Debug, PartialEq, Eq)]
+pub struct Datetime {
+    pub unit: u64,
+    pub zone: u64,
+    ghost unit_within: { unit < 4 },
+    ghost zone_within: { zone < 2 ^ 62 },
+}
+
+impl From<u64> for Datetime {
+    ghost from_gives = { λ arg parts. (parts.unit ≡ arg % 4) × (parts.zone ≡ arg / 4) };
+
+    fn from(arg: u64) -> Datetime {
+        Datetime {
+            unit: arg % 4,
+            zone: arg / 4,
+        }
+    }
+}
+
+impl From<Datetime> for u64 {
+    ghost from_gives = { λ parts arg. arg ≡ 4 * parts.zone + parts.unit };
+
+    fn from(parts: Datetime) -> u64 {
+        4 * parts.zone + parts.unit
+    }
+}
+
 #[tactic(auto, unfolding(crate::specs::Argument::decimal_fits))]
 fn decimal_fits(arg: u64) -> bool
     ensures { result ≡ decimal_fits arg }
 {
-    let precision = arg % 256;
-    let scale = arg / 256;
-    1 <= precision && precision <= DEC128_MAX_PREC && scale <= precision
+    let parts = Decimal::from(arg);
+    1 <= parts.precision && parts.precision <= DEC128_MAX_PREC && parts.scale <= parts.precision
 }
 
-// 4 × zone + unit.
 #[tactic(auto, unfolding(crate::specs::Argument::datetime_fits))]
 fn datetime_fits(arg: u64) -> bool
     ensures { result ≡ datetime_fits arg }
 {
-    let unit = arg % 4;
-    let zone = arg / 4;
-    unit < TIME_UNITS && zone < 0x1_0000_0000
+    let parts = Datetime::from(arg);
+    parts.unit < TIME_UNITS && parts.zone < 0x1_0000_0000
 }
 
 // Whether arg is an argument of a node of this kind.

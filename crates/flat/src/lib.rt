@@ -8,6 +8,7 @@ mod limits;
 pub mod reply;
 mod scan;
 pub mod span;
+pub mod view;
 
 ghost use Rattle.std.specs.Prelude.{◌≡◌, true, ◌*◌, length};
 ghost use Rattle.flat.specs.Reader.{node_at};
