@@ -1,6 +1,7 @@
 // The supertype of two types that are not nested, each one node: by the plan of the two kinds in ascending order.
-ghost use Rattle.std.specs.Prelude.{◌≡◌, true, false, ◌+◌, ◌*◌, ◌/◌, ◌%◌, ◌≤◌, max, Some};
-ghost use Rattle.flat.specs.Kind.{Boolean, UInt8, Int64, Decimal, Datetime};
+ghost use Rattle.std.specs.Prelude.{◌≡◌, true, false, ◌+◌, ◌*◌, ◌/◌, ◌%◌, ◌≤◌, max, eqb, Some};
+ghost use Rattle.flat.specs.Kind.{Boolean, UInt8, Int64};
+ghost use Rattle.flat.specs.Kind as kind;
 ghost use Rattle.flat.specs.Argument.{dec128_max_prec};
 ghost use Rattle.supertype_numbers.specs.Range.{Listed};
 ghost use Rattle.supertype_answer.specs.Join.{node};
@@ -11,7 +12,7 @@ ghost use Rattle.supertype_arms.specs.Rule.{rule_of, Apart};
 
 use dtype::node::equal_node;
 use flat::Node;
-use flat::argument::DEC128_MAX_PREC;
+use flat::argument::{DEC128_MAX_PREC, Datetime, Decimal};
 use flat::kind::Kind;
 use supertype_arms::number::numeric_supertype;
 use supertype_arms::plan::{Plan, planned};
@@ -31,11 +32,15 @@ pub fn plain(kind: u8) -> Node
 fn decimals(l: Node, r: Node) -> Node
     ensures { result ≡ decimal (max (precision l) (precision r)) (max (scale l) (scale r)) }
 {
-    let precision = (l.arg % 256).max(r.arg % 256);
-    let scale = (l.arg / 256).max(r.arg / 256);
+    let a = Decimal::from(l.arg);
+    let b = Decimal::from(r.arg);
+    let parts = Decimal {
+        precision: a.precision.max(b.precision),
+        scale: a.scale.max(b.scale),
+    };
     Node {
         kind: Kind::DECIMAL,
-        arg: 256 * scale + precision,
+        arg: parts.into(),
     }
 }
 
@@ -43,21 +48,23 @@ fn decimals(l: Node, r: Node) -> Node
 fn widened(n: Node) -> Node
     ensures { result ≡ decimal dec128_max_prec (scale n) }
 {
-    let scale = n.arg / 256;
+    let parts = Decimal {
+        precision: DEC128_MAX_PREC,
+        scale: Decimal::from(n.arg).scale,
+    };
     Node {
         kind: Kind::DECIMAL,
-        arg: 256 * scale + DEC128_MAX_PREC,
+        arg: parts.into(),
     }
 }
 
 // The Decimal n beside the integer type dt: n where it has room for the digits of dt before its point.
 fn beside_integer(n: Node, dt: u8) -> Node
-    requires { (n.kind ≡ Decimal) × (fits n ≡ true) × Listed dt }
+    requires { (n.kind ≡ kind.Decimal) × (fits n ≡ true) × Listed dt }
     ensures { result ≡ beside_integer n dt }
 {
-    let precision = n.arg % 256;
-    let scale = n.arg / 256;
-    if digits(dt) <= precision - scale {
+    let parts = Decimal::from(n.arg);
+    if digits(dt) <= parts.precision - parts.scale {
         n
     } else {
         widened(n)
@@ -66,14 +73,25 @@ fn beside_integer(n: Node, dt: u8) -> Node
 
 // A Datetime with the zone of l, and the larger unit, which is the coarser one.
 fn datetime(l: Node, r: Node) -> Node
-    ensures { result ≡ node Datetime (4 * (l.arg / 4) + max (l.arg % 4) (r.arg % 4)) }
+    ensures { result ≡ node kind.Datetime (4 * (l.arg / 4) + max (l.arg % 4) (r.arg % 4)) }
 {
-    let unit = (l.arg % 4).max(r.arg % 4);
-    let zone = l.arg / 4;
+    let a = Datetime::from(l.arg);
+    let b = Datetime::from(r.arg);
+    let parts = Datetime {
+        unit: a.unit.max(b.unit),
+        zone: a.zone,
+    };
     Node {
         kind: Kind::DATETIME,
-        arg: 4 * zone + unit,
+        arg: parts.into(),
     }
+}
+
+// Whether two Datetimes have the same zone, or none.
+fn same_zone(l: Node, r: Node) -> bool
+    ensures { result ≡ eqb (l.arg / 4) (r.arg / 4) }
+{
+    Datetime::from(l.arg).zone == Datetime::from(r.arg).zone
 }
 
 // The smallest type for the dyn int v beside the integer type dt.
@@ -111,7 +129,7 @@ fn ordered(to_string: bool, l: Node, r: Node) -> Option<Node>
         Plan::Decimals => Some(decimals(l, r)),
         Plan::DecimalInteger => Some(beside_integer(r, l.kind)),
         Plan::DatetimeDuration => Some(datetime(l, r)),
-        Plan::Datetimes if l.arg / 4 == r.arg / 4 => Some(datetime(r, l)),
+        Plan::Datetimes if same_zone(l, r) => Some(datetime(r, l)),
         Plan::Datetimes => None,
         Plan::Durations => Some(Node {
             kind: Kind::DURATION,

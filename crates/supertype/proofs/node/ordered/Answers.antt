@@ -1,7 +1,7 @@
 -- `supertype::node::ordered` meets its contract. Assumes nothing.
 use mathlib.Core.Path.{◌≡◌, sym, ap, ◌∙◌}
 use Rattle.std.specs.Prelude.{Option, Some}
-use native.Mathlib.Omega.{arith}
+use borrow.Author.Tests.{eqb-true, eqb-false}
 use Rattle.supertype_arms.specs.declared.plan.Plan.{Plan}
 use Rattle.supertype_arms.specs.Supertype.{answered, known_supertype}
 use Rattle.supertype.proofs.ByPlan.{Planned, left, right, kind, decimals, decimal_kinds, decimal_integer}
@@ -48,10 +48,13 @@ returns-in-DatetimeDuration c = datetime_duration (told (goal.at.returns-in-Date
 
 pub returns-in-Datetimes : goal.returns-in-Datetimes
 returns-in-Datetimes c =
-    one_zone (told (goal.at.returns-in-Datetimes c).After-planned (cc)) (omega arith) c.datetime-in-Datetimes.ensures
+    one_zone (told (goal.at.returns-in-Datetimes c).After-planned (c.in_ok-planned.was ∙ ap Some c.in-Datetimes.is))
+    (eqb-true _ _ (sym c.same_zone.ensures ∙ c.if-same_zone.true)) c.datetime-in-Datetimes.ensures
 
 pub returns-in-Datetimes-2 : goal.returns-in-Datetimes-2
-returns-in-Datetimes-2 c = two_zones (told (goal.at.returns-in-Datetimes-2 c).After-planned (cc)) (omega arith)
+returns-in-Datetimes-2 c =
+    two_zones (told (goal.at.returns-in-Datetimes-2 c).After-planned (c.in_ok-planned.was ∙ ap Some c.in-Datetimes.is))
+    (eqb-false _ _ (sym c.same_zone.ensures ∙ c.if-same_zone.false))
 
 pub returns-in-Durations : goal.returns-in-Durations
 returns-in-Durations c = durations (told (goal.at.returns-in-Durations c).After-planned (cc)) c.max.ensures
