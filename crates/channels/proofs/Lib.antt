@@ -6,3 +6,4 @@ mod Pages
 mod Models
 mod Rule
 mod Worked
+mod Limits

@@ -1,5 +1,5 @@
--- Document 01's limit of the channels, which is a parameter: "a channel is valid below 32". Assumes nothing: these are
--- definitions.
+-- Document 01's limit of the channels, which is a parameter: "a channel is valid below 32". It is proved of the code's
+-- own number in proofs/Limits.antt. Assumes nothing: these are definitions.
 use Rattle.channels.specs.Merge.{Merged}
 use Rattle.std.specs.Prelude.{◌≡◌, ℕ}
 use Rattle.flat.specs.Kind

@@ -2,8 +2,6 @@
 // without ever losing a number.
 #![tactic(auto)]
 
-mod limits;
-
 ghost use Rattle.std.specs.Prelude.{◌≡◌, ◌||◌, eqb};
 ghost use Rattle.flat.specs.Reading.{reading};
 ghost use Rattle.supertype_numbers.specs.Range.{is_listed};

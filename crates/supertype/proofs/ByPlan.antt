@@ -25,7 +25,7 @@ use Rattle.supertype_answer.specs.Join.{node}
 use Rattle.supertype_arms.specs.declared.plan.Plan.{Plan}
 use Rattle.supertype_arms.specs.declared.plan.Plan.TheVariants as plan
 use Rattle.supertype_arms.specs.Node.{precision, scale, decimal, unit_in, unit, zone, value, plain, fits}
-use Rattle.supertype_arms.specs.Supertype.{beside_integer, dyn_number, run, known_supertype}
+use Rattle.supertype_arms.specs.Supertype.{beside_integer, dyn_number, run, answered, known_supertype}
 use Rattle.supertype_arms.specs.Rule.{rule_of, Apart}
 use Rattle.supertype_arms.proofs.Areas.{code_of, alike}
 use Rattle.supertype_arms.proofs.Answers.{plain_zero, same_node, zones, everywhere, at_apart}
@@ -33,7 +33,7 @@ use Rattle.supertype_arms.proofs.Recursive.{dyn_int_of}
 use Rattle.supertype.proofs.Numbers.{known_boolean}
 
 -- p is the plan of two different types in the order of their kinds
-pub record Planned (s : Bool) (l r : Node) (p : Plan) : Type 0 where
+pub record Planned (s : Bool) (l r : Node) (p : Option Plan) : Type 0 where
   pub fits_left : fits l ≡ true
   pub fits_right : fits r ≡ true
   pub apart : Apart l.kind r.kind
@@ -63,17 +63,17 @@ module _ (n : Node) (f : fits n ≡ true) where
 
 -- ---- the kinds that a plan belongs to
 
-abbrev among_kinds : Plan → (ℕ → ℕ → Bool) → Bool → ℕ → ℕ → Bool
+abbrev among_kinds : Option Plan → (ℕ → ℕ → Bool) → Bool → ℕ → ℕ → Bool
 among_kinds p q s a b = not (alike (rule_of s a b) p) || q a b
 
-only : {s : Bool} {l r : Node} {p : Plan} → Planned s l r p → (q : ℕ → ℕ → Bool) → T (everywhere (among_kinds p q))
+only : {s : Bool} {l r : Node} {p : Option Plan} → Planned s l r p → (q : ℕ → ℕ → Bool) → T (everywhere (among_kinds p q))
     → T (q l.kind r.kind)
 only {s} {l} {r} {p} w q t =
     let same_plan : alike (rule_of s l.kind r.kind) p ≡ true = rw (← w.is) (eq-eqb (code_of p) (code_of p) refl) in
     or_right (q l.kind r.kind) (ap not same_plan) (at_apart (among_kinds p q) t s l.kind r.kind w.apart)
 
 -- both kinds, where the plan is that of one pair
-pair : {s : Bool} {l r : Node} {p : Plan} → Planned s l r p → (a b : ℕ)
+pair : {s : Bool} {l r : Node} {p : Option Plan} → Planned s l r p → (a b : ℕ)
     → T (everywhere (among_kinds p (λ i j. eqb i a && eqb j b)))
     → (l.kind ≡ a) × (r.kind ≡ b)
 pair {s} {l} {r} w a b t =
@@ -90,52 +90,48 @@ bare n f h =
 
 -- what the definition gives for two types in order
 abbrev given : Bool → Node → Node → Option Node
-given s l r = run known_supertype (rule_of s l.kind r.kind) l r
+given s l r = answered known_supertype (rule_of s l.kind r.kind) l r
 
 module _ {s : Bool} {l r : Node} where
-  by_plan : {p : Plan} (t : Option Node) → Planned s l r p → t ≡ run known_supertype p l r → t ≡ given s l r
-  by_plan t w h = h ∙ ap (λ (x : Plan). run known_supertype x l r) w.is
+  by_plan : {p : Option Plan} (t : Option Node) → Planned s l r p → t ≡ answered known_supertype p l r → t ≡ given s l r
+  by_plan t w h = h ∙ ap (λ (x : Option Plan). answered known_supertype x l r) w.is
 
-  pub none : Planned s l r plan.No → None ≡ given s l r
-  unfolding run
-  none w = by_plan None w refl
-
-  pub left : Planned s l r plan.Left → Some l ≡ given s l r
+  pub left : Planned s l r (Some plan.Left) → Some l ≡ given s l r
   unfolding run
   left w = by_plan (Some l) w refl
 
-  pub right : Planned s l r plan.Right → Some r ≡ given s l r
+  pub right : Planned s l r (Some plan.Right) → Some r ≡ given s l r
   unfolding run
   right w = by_plan (Some r) w refl
 
-  pub kind : {k : ℕ} {n : Node} → Planned s l r (plan.Kind k) → n ≡ node k 0 → Some n ≡ given s l r
+  pub kind : {k : ℕ} {n : Node} → Planned s l r (Some (plan.Kind k)) → n ≡ node k 0 → Some n ≡ given s l r
   unfolding run
   kind {k} {n} w h = by_plan (Some n) w (ap Some h)
 
-  pub decimals : {n : Node} → Planned s l r plan.Decimals
+  pub decimals : {n : Node} → Planned s l r (Some plan.Decimals)
       → n ≡ decimal (max (precision l) (precision r)) (max (scale l) (scale r)) → Some n ≡ given s l r
   unfolding run
   decimals {n} w h = by_plan (Some n) w (ap Some h)
 
-  pub decimal_kinds : Planned s l r plan.DecimalInteger → (r.kind ≡ Kind.Decimal) × (fits r ≡ true) × Listed l.kind
+  pub decimal_kinds : Planned s l r (Some plan.DecimalInteger) → (r.kind ≡ Kind.Decimal) × (fits r ≡ true) × Listed l.kind
   decimal_kinds w =
       let u = only w (λ a b. is_listed a && eqb b Kind.Decimal) (unfold everywhere is_listed in tt) in
       let e = eqb→eq r.kind Kind.Decimal (and_right (is_listed l.kind) _ u) in
       (e, w.fits_right, to_listed l.kind (and_left (is_listed l.kind) _ u))
 
-  pub decimal_integer : {n : Node} → Planned s l r plan.DecimalInteger → n ≡ beside_integer r l.kind
+  pub decimal_integer : {n : Node} → Planned s l r (Some plan.DecimalInteger) → n ≡ beside_integer r l.kind
       → Some n ≡ given s l r
   unfolding run
   decimal_integer {n} w h =
       let k = (decimal_kinds w).2 in
       by_plan (Some n) w (rw (ne_eqb l.kind Kind.Decimal (omega arith)) (ap Some h))
 
-  pub dyn_decimal : {n : Node} → Planned s l r plan.DynDecimal → n ≡ decimal dec128_max_prec (scale l)
+  pub dyn_decimal : {n : Node} → Planned s l r (Some plan.DynDecimal) → n ≡ decimal dec128_max_prec (scale l)
       → Some n ≡ given s l r
   unfolding run
   dyn_decimal {n} w h = by_plan (Some n) w (ap Some h)
 
-  pub datetime_duration : {n : Node} → Planned s l r plan.DatetimeDuration
+  pub datetime_duration : {n : Node} → Planned s l r (Some plan.DatetimeDuration)
       → n ≡ node Kind.Datetime (4 * (l.arg / 4) + max (l.arg % 4) (r.arg % 4)) → Some n ≡ given s l r
   unfolding run
   datetime_duration {n} w h =
@@ -145,7 +141,7 @@ module _ {s : Bool} {l r : Node} where
       by_plan (Some n) w
       (rw (h, eq-eqb l.kind Kind.Datetime k.0, larger_unit l r f (omega arith)))
 
-  pub one_zone : {n : Node} → Planned s l r plan.Datetimes → l.arg / 4 ≡ r.arg / 4
+  pub one_zone : {n : Node} → Planned s l r (Some plan.Datetimes) → l.arg / 4 ≡ r.arg / 4
       → n ≡ node Kind.Datetime (4 * (r.arg / 4) + max (r.arg % 4) (l.arg % 4)) → Some n ≡ given s l r
   unfolding run
   one_zone {n} w z h =
@@ -161,11 +157,11 @@ module _ {s : Bool} {l r : Node} where
         max_comm (r.arg % 4) (l.arg % 4),
       ))
 
-  pub two_zones : Planned s l r plan.Datetimes → (l.arg / 4 ≡ r.arg / 4 → ⊥) → None ≡ given s l r
+  pub two_zones : Planned s l r (Some plan.Datetimes) → (l.arg / 4 ≡ r.arg / 4 → ⊥) → None ≡ given s l r
   unfolding run
   two_zones w n = by_plan None w (rw (zones (zone l) (zone r), ne_eqb (zone l) (zone r) n))
 
-  pub durations : {m : ℕ} → Planned s l r plan.Durations → m ≡ max l.arg r.arg
+  pub durations : {m : ℕ} → Planned s l r (Some plan.Durations) → m ≡ max l.arg r.arg
       → Some (node Kind.Duration m) ≡ given s l r
   unfolding run
   durations {m} w h =
@@ -176,13 +172,13 @@ module _ {s : Bool} {l r : Node} where
       let v : r.arg % 4 ≡ r.arg = omega arith in
       by_plan (Some (node Kind.Duration m)) w (rw (h, larger_unit l r (omega arith) (omega arith), u, v))
 
-  pub number_kinds : Planned s l r plan.DynNumber → (Kind.UInt8 ≤ l.kind) × (l.kind ≤ Kind.Int64)
+  pub number_kinds : Planned s l r (Some plan.DynNumber) → (Kind.UInt8 ≤ l.kind) × (l.kind ≤ Kind.Int64)
   number_kinds w =
       let u = only w (λ a b. leb Kind.UInt8 a && leb a Kind.Int64) (unfold everywhere in tt) in
       let low = leb Kind.UInt8 l.kind in
       (leb→le Kind.UInt8 l.kind (and_left low _ u), leb→le l.kind Kind.Int64 (and_right low _ u))
 
-  pub number : {k : ℕ} → Planned s l r plan.DynNumber
+  pub number : {k : ℕ} → Planned s l r (Some plan.DynNumber)
       → Some (node k 0) ≡ dyn_number known_supertype (node l.kind 0) (value r) → Some (node k 0) ≡ given s l r
   unfolding run
   number {k} w h =
@@ -191,7 +187,7 @@ module _ {s : Bool} {l r : Node} where
       (rw (sym (of_run is_unknown_int false Kind.Null 26 (unfold says in tt) l.kind (omega arith)))
       (h ∙ ap (λ (n : Node). dyn_number known_supertype n (value r)) (bare l w.fits_left (omega arith))))
 
-  pub boolean : {k : ℕ} → Planned s l r plan.DynBoolean → k ≡ materialize_dyn_int (value r)
+  pub boolean : {k : ℕ} → Planned s l r (Some plan.DynBoolean) → k ≡ materialize_dyn_int (value r)
       → Some (node k 0) ≡ given s l r
   unfolding run
   boolean {k} w h =

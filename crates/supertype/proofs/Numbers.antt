@@ -1,11 +1,10 @@
 -- The inner call: an integer type with the smallest type of a dyn int, which have no argument. Assumes nothing.
-use mathlib.Core.Path.{◌≡◌, sym, ap₂, ◌∙◌}
+use mathlib.Core.Path.{◌≡◌, sym}
 use mathlib.Core.Bool.{true, false, not, ◌&&◌, and-false}
-use mathlib.Core.Logic.{◌⊎◌, inl, inr}
 use Rattle.std.specs.Prelude.{Option, None, Some}
-use Prim.Native.Nat.{ℕ, ◌≤◌, ◌<◌, min, max}
+use Prim.Native.Nat.{ℕ, ◌≤◌, ◌<◌}
 use native.Mathlib.Omega.{arith}
-use native.Mathlib.Decide.{dec_lt}
+use native.Mathlib.Decide.{ℕ_discrete}
 use lib.Dec.{T, leb, eqb, leb→le}
 use lib.IntN.{ℤ}
 use borrow.Author.Tests.{eq-eqb, ne_eqb, eqb-false, not-true}
@@ -19,9 +18,9 @@ use Rattle.flat.specs.declared.Node.{Node}
 use Rattle.supertype_answer.specs.Join.{node}
 use Rattle.supertype_arms.specs.declared.plan.Plan.TheVariants as plan
 use Rattle.supertype_arms.specs.Supertype.{smallest_fitting, dyn_number, Call, run, known_supertype}
-use Rattle.supertype_arms.specs.Rule.{rule_of, Settles}
+use Rattle.supertype_arms.specs.Rule.{IsSupertype}
 use Rattle.supertype_arms.proofs.Areas.{right, rule}
-use Rattle.supertype_arms.proofs.Bare.{of_one, up, down}
+use Rattle.supertype_arms.proofs.Bare.{up, down}
 use Rattle.supertype_arms.proofs.Recursive.{smallest_of}
 
 -- ---- the smallest fitting type
@@ -57,47 +56,20 @@ smallest dt v k e =
 abbrev stop : Call
 stop l r = None
 
-pub known_same : (a b : ℕ) → b ≡ a → Some (node a 0) ≡ known_supertype (node a 0) (node b 0)
-unfolding known_supertype
-known_same a b e = of_one stop true (sym e)
-
 pub known_null : (a b : ℕ) → Kind.UInt8 ≤ a → a ≤ Kind.Int64 → b ≡ Kind.Null
     → Some (node a 0) ≡ known_supertype (node a 0) (node b 0)
 unfolding run known_supertype
 known_null a b l h e =
-    let r = rule (λ s a b. plan.Right) Kind.Null 1 Kind.Boolean 14 (unfold right in tt) true Kind.Null a
+    let r = rule (λ s a b. Some plan.Right) Kind.Null 1 Kind.Boolean 14 (unfold right in tt) true Kind.Null a
     (omega arith) in
-    rw e (down stop true {p = plan.Right} (omega arith) (omega arith) r)
-
-module _ (a b k : ℕ) (below : a < b) (numbers : b ≤ Kind.Float64) (e : Settles a b (plan.Kind k)) where
-  pub join_up : Some (node k 0) ≡ known_supertype (node a 0) (node b 0)
-  unfolding run known_supertype
-  join_up = up stop true below numbers (e true)
-
-  pub join_down : Some (node k 0) ≡ known_supertype (node b 0) (node a 0)
-  unfolding run known_supertype
-  join_down = down stop true below numbers (e true)
-
--- two kinds, whichever is the lesser
-pub join_either : {a b k m n : ℕ} → (a ≡ b → ⊥) → a ≤ Kind.Float64 → b ≤ Kind.Float64 → m ≡ min a b → n ≡ max a b
-    → Settles m n (plan.Kind k) → Some (node k 0) ≡ known_supertype (node a 0) (node b 0)
-join_either {a} {b} {k} {m} {n} d f g low high e = go (dec_lt a b)
-  where
-    go : Dec (a < b) → Some (node k 0) ≡ known_supertype (node a 0) (node b 0)
-    go (yes h) =
-        let i : m ≡ a = omega arith in
-        let j : n ≡ b = omega arith in
-        join_up a b k h g (λ s. e s ∙ ap₂ (rule_of s) i j)
-    go (no h) =
-        let i : m ≡ b = omega arith in
-        let j : n ≡ a = omega arith in
-        join_down b a k (omega arith) f (λ s. e s ∙ ap₂ (rule_of s) i j)
+    rw e (down stop true {p = Some plan.Right} (omega arith) (omega arith) r)
 
 pub known_boolean : (k : ℕ) → Kind.UInt8 ≤ k → k ≤ Kind.Int128
     → Some (node k 0) ≡ known_supertype (node Kind.Boolean 0) (node k 0)
+unfolding run known_supertype
 known_boolean k l h =
-    join_up Kind.Boolean k k (omega arith) (omega arith)
-    (λ s. rule (λ s a b. plan.Kind b) Kind.Boolean 1 Kind.UInt8 10 (unfold right in tt) s Kind.Boolean k (omega arith))
+    up stop true {p = Some (plan.Kind k)} (omega arith) (omega arith)
+    (rule (λ s a b. Some (plan.Kind b)) Kind.Boolean 1 Kind.UInt8 10 (unfold right in tt) true Kind.Boolean k (omega arith))
 
 -- ---- an integer type with a dyn int
 
@@ -113,10 +85,28 @@ module _ (dt k : ℕ) (v : ℤ) (is-smallest : k ≡ smallest_fitting dt v) wher
       )
 
   -- no UInt64, or with no signed type
-  pub not_both : {t : Option Node} → ((dt ≡ Kind.UInt64) × (k < Kind.Int8)) ⊎ (dt ≡ Kind.UInt64 → ⊥)
-      → t ≡ known_supertype (node dt 0) (node k 0) → t ≡ dyn_number known_supertype (node dt 0) v
+  not_both : {t : Option Node} → (dt ≡ Kind.UInt64 → k < Kind.Int8) → t ≡ known_supertype (node dt 0) (node k 0)
+      → t ≡ dyn_number known_supertype (node dt 0) v
   unfolding dyn_number
-  not_both (inl h) e =
-      rw (← is-smallest, sym (of_run is_signed_integer false Kind.Null 7 (unfold says in tt) k (omega arith)), and-false)
-      e
-  not_both (inr n) e = rw (← is-smallest, ne_eqb dt Kind.UInt64 n) e
+  not_both {t} h e = go (ℕ_discrete dt Kind.UInt64)
+    where
+      go : Dec (dt ≡ Kind.UInt64) → t ≡ dyn_number known_supertype (node dt 0) v
+      go (yes f) =
+          let low : k < Kind.Int8 = h f in
+          rw (
+            ← is-smallest,
+            sym (of_run is_signed_integer false Kind.Null 7 (unfold says in tt) k (omega arith)),
+            and-false,
+          )
+          e
+      go (no n) = rw (← is-smallest, ne_eqb dt Kind.UInt64 n) e
+
+  pub to_numeric : {j : ℕ} → (dt ≡ Kind.UInt64 → k < Kind.Int8) → IsSupertype dt k j
+      → Some (node j 0) ≡ dyn_number known_supertype (node dt 0) v
+  unfolding known_supertype
+  to_numeric h e = not_both h (sym (e stop true))
+
+  -- no type holds v
+  pub to_itself : Kind.UInt8 ≤ dt → dt ≤ Kind.Int64 → k ≡ Kind.Null
+      → Some (node dt 0) ≡ dyn_number known_supertype (node dt 0) v
+  to_itself l h e = not_both (λ f. omega arith) (known_null dt k l h e)

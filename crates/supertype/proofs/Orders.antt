@@ -9,7 +9,7 @@ use Rattle.flat.specs.declared.Node.{Node}
 use Rattle.supertype_answer.specs.Join.{node}
 use Rattle.supertype_arms.specs.declared.plan.Plan.TheVariants as plan
 use Rattle.supertype_arms.specs.Node.{same, fits}
-use Rattle.supertype_arms.specs.Supertype.{plan_of, run, inner, supertype_with, known_supertype, supertype}
+use Rattle.supertype_arms.specs.Supertype.{plan_of, run, answered, inner, supertype_with, known_supertype, supertype}
 use Rattle.supertype_arms.specs.Rule.{rule_of, Apart}
 use Rattle.supertype_arms.proofs.Areas.{any_string as any-string-plan, dyn_str as dyn-str-plan}
 use Rattle.supertype_arms.proofs.Answers.{is_in_range, same_sym, tries, settled, lopsided, either_order, are_apart}
@@ -39,12 +39,12 @@ unfolding supertype supertype_with inner
 equal i s l r e = rw e
 
 module _ (i s : Bool) {l r : Node} (w : Different l r) where
-  pub in_order : l.kind ≤ r.kind → run known_supertype (rule_of s l.kind r.kind) l r ≡ supertype i s l r
+  pub in_order : l.kind ≤ r.kind → answered known_supertype (rule_of s l.kind r.kind) l r ≡ supertype i s l r
   unfolding supertype
   in_order h = sym (settled known_supertype s l r (ready w h).2 w.differ)
 
   pub out_of_order : r.kind < l.kind → lopsided l.kind r.kind ≡ false
-      → run known_supertype (rule_of s r.kind l.kind) r l ≡ supertype i s l r
+      → answered known_supertype (rule_of s r.kind l.kind) r l ≡ supertype i s l r
   unfolding supertype
   out_of_order h n =
       let apart = (ready_turned w h).2 in
@@ -52,7 +52,7 @@ module _ (i s : Bool) {l r : Node} (w : Different l r) where
       ∙ sym (either_order known_supertype s l r w.fits_left w.fits_right h apart n w.differ)
 
   -- the first try answers with a kind
-  first_try : (k : ℕ) → plan_of s l.kind r.kind ≡ plan.Kind k → Some (node k 0) ≡ supertype i s l r
+  first_try : (k : ℕ) → plan_of s l.kind r.kind ≡ Some (plan.Kind k) → Some (node k 0) ≡ supertype i s l r
   unfolding supertype run
   first_try k p = sym (tries known_supertype s l r w.differ ∙ rw p)
 

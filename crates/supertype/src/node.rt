@@ -1,19 +1,20 @@
 // The supertype of two types that are not nested, each one node: by the plan of the two kinds in ascending order.
-ghost use Rattle.std.specs.Prelude.{◌≡◌, true, false, ◌+◌, ◌*◌, ◌/◌, ◌%◌, ◌≤◌, max, Some};
-ghost use Rattle.flat.specs.Kind.{Boolean, UInt8, Int64, Decimal, Datetime};
+ghost use Rattle.std.specs.Prelude.{◌≡◌, true, false, ◌+◌, ◌*◌, ◌/◌, ◌%◌, ◌≤◌, max, eqb, Some};
+ghost use Rattle.flat.specs.Kind.{Boolean, UInt8, Int64};
+ghost use Rattle.flat.specs.Kind as kind;
 ghost use Rattle.flat.specs.Argument.{dec128_max_prec};
 ghost use Rattle.supertype_numbers.specs.Range.{Listed};
 ghost use Rattle.supertype_answer.specs.Join.{node};
 ghost use Rattle.supertype_arms.specs.Node.{precision, scale, decimal, value, fits};
-ghost use Rattle.supertype_arms.specs.Supertype.{beside_integer, smallest_fitting, dyn_number, known_supertype, run};
+ghost use Rattle.supertype_arms.specs.Supertype.{beside_integer, smallest_fitting, dyn_number, known_supertype, answered};
 ghost use Rattle.supertype_arms.specs.Supertype.{supertype};
 ghost use Rattle.supertype_arms.specs.Rule.{rule_of, Apart};
 
 use dtype::node::equal_node;
 use flat::Node;
-use flat::argument::DEC128_MAX_PREC;
+use flat::argument::{DEC128_MAX_PREC, Datetime, Decimal};
 use flat::kind::Kind;
-use supertype_arms::number::numeric;
+use supertype_arms::number::numeric_supertype;
 use supertype_arms::plan::{Plan, planned};
 use supertype_numbers::dyn_int::{
     materialize_dyn_int, materialize_dyn_int_pos, materialize_smallest_dyn_int,
@@ -31,11 +32,15 @@ pub fn plain(kind: u8) -> Node
 fn decimals(l: Node, r: Node) -> Node
     ensures { result ≡ decimal (max (precision l) (precision r)) (max (scale l) (scale r)) }
 {
-    let precision = (l.arg % 256).max(r.arg % 256);
-    let scale = (l.arg / 256).max(r.arg / 256);
+    let a = Decimal::from(l.arg);
+    let b = Decimal::from(r.arg);
+    let parts = Decimal {
+        precision: a.precision.max(b.precision),
+        scale: a.scale.max(b.scale),
+    };
     Node {
         kind: Kind::DECIMAL,
-        arg: 256 * scale + precision,
+        arg: parts.into(),
     }
 }
 
@@ -43,21 +48,23 @@ fn decimals(l: Node, r: Node) -> Node
 fn widened(n: Node) -> Node
     ensures { result ≡ decimal dec128_max_prec (scale n) }
 {
-    let scale = n.arg / 256;
+    let parts = Decimal {
+        precision: DEC128_MAX_PREC,
+        scale: Decimal::from(n.arg).scale,
+    };
     Node {
         kind: Kind::DECIMAL,
-        arg: 256 * scale + DEC128_MAX_PREC,
+        arg: parts.into(),
     }
 }
 
 // The Decimal n beside the integer type dt: n where it has room for the digits of dt before its point.
 fn beside_integer(n: Node, dt: u8) -> Node
-    requires { (n.kind ≡ Decimal) × (fits n ≡ true) × Listed dt }
+    requires { (n.kind ≡ kind.Decimal) × (fits n ≡ true) × Listed dt }
     ensures { result ≡ beside_integer n dt }
 {
-    let precision = n.arg % 256;
-    let scale = n.arg / 256;
-    if digits(dt) <= precision - scale {
+    let parts = Decimal::from(n.arg);
+    if digits(dt) <= parts.precision - parts.scale {
         n
     } else {
         widened(n)
@@ -66,14 +73,25 @@ fn beside_integer(n: Node, dt: u8) -> Node
 
 // A Datetime with the zone of l, and the larger unit, which is the coarser one.
 fn datetime(l: Node, r: Node) -> Node
-    ensures { result ≡ node Datetime (4 * (l.arg / 4) + max (l.arg % 4) (r.arg % 4)) }
+    ensures { result ≡ node kind.Datetime (4 * (l.arg / 4) + max (l.arg % 4) (r.arg % 4)) }
 {
-    let unit = (l.arg % 4).max(r.arg % 4);
-    let zone = l.arg / 4;
+    let a = Datetime::from(l.arg);
+    let b = Datetime::from(r.arg);
+    let parts = Datetime {
+        unit: a.unit.max(b.unit),
+        zone: a.zone,
+    };
     Node {
         kind: Kind::DATETIME,
-        arg: 4 * zone + unit,
+        arg: parts.into(),
     }
+}
+
+// Whether two Datetimes have the same zone, or none.
+fn same_zone(l: Node, r: Node) -> bool
+    ensures { result ≡ eqb (l.arg / 4) (r.arg / 4) }
+{
+    Datetime::from(l.arg).zone == Datetime::from(r.arg).zone
 }
 
 // The smallest type for the dyn int v beside the integer type dt.
@@ -87,43 +105,31 @@ fn smallest_fitting(dt: u8, v: Node) -> u8
     materialize_smallest_dyn_int(v)
 }
 
-// `get_supertype` of an integer type and a smallest type: an integer type, or Null where nothing held the value.
-fn get_supertype_known(dt: u8, k: u8) -> u8
-    requires { (UInt8 ≤ dt) × (dt ≤ Int64) × (k ≤ Int64) × (k ≡ Boolean → ⊥) }
-    ensures { Some (node result 0) ≡ known_supertype (node dt 0) (node k 0) }
-{
-    if k == dt || k == Kind::NULL {
-        return dt;
-    }
-    numeric(dt.min(k), dt.max(k))
-}
-
 // The kind of the supertype of an integer type and the dyn int v.
 fn dyn_number(dt: u8, v: Node) -> u8
     requires { (UInt8 ≤ dt) × (dt ≤ Int64) }
     ensures { Some (node result 0) ≡ dyn_number known_supertype (node dt 0) (value v) }
 {
-    let k = smallest_fitting(dt, v);
-    if dt == Kind::UINT64 && k >= Kind::INT8 {
-        return Kind::INT64; // no float for a literal
+    match smallest_fitting(dt, v) {
+        Kind::NULL => dt, // no type holds the value
+        Kind::INT8..=Kind::INT64 if dt == Kind::UINT64 => Kind::INT64, // no float for a literal
+        k => numeric_supertype(dt, k),
     }
-    get_supertype_known(dt, k)
 }
 
 // The supertype of two different types, in the order of their kinds.
 fn ordered(to_string: bool, l: Node, r: Node) -> Option<Node>
     requires { (fits l ≡ true) × (fits r ≡ true) × Apart l.kind r.kind }
-    ensures { result ≡ run known_supertype (rule_of to_string l.kind r.kind) l r }
+    ensures { result ≡ answered known_supertype (rule_of to_string l.kind r.kind) l r }
 {
-    match planned(to_string, l.kind, r.kind) {
-        Plan::No => None,
+    match planned(to_string, l.kind, r.kind)? {
         Plan::Left => Some(l),
         Plan::Right => Some(r),
         Plan::Kind(k) => Some(plain(k)),
         Plan::Decimals => Some(decimals(l, r)),
         Plan::DecimalInteger => Some(beside_integer(r, l.kind)),
         Plan::DatetimeDuration => Some(datetime(l, r)),
-        Plan::Datetimes if l.arg / 4 == r.arg / 4 => Some(datetime(r, l)),
+        Plan::Datetimes if same_zone(l, r) => Some(datetime(r, l)),
         Plan::Datetimes => None,
         Plan::Durations => Some(Node {
             kind: Kind::DURATION,

@@ -23,17 +23,17 @@ use Rattle.dtype.specs.declared.time_unit.TimeUnit.TheVariants.{Nanoseconds, Mic
 use Rattle.dtype.specs.TimeUnits.{get_time_units}
 use Rattle.flat.specs.declared.Node.{Node}
 use Rattle.supertype_answer.specs.Join.{node}
-use Rattle.std.specs.Prelude.{Option, None, Some}
+use Rattle.std.specs.Prelude.{Option, None, Some, option_map}
 use Rattle.supertype_answer.proofs.Nodes.{no_argument}
 use Rattle.dtype.proofs.Coarser.{coarser}
 use Rattle.supertype_arms.specs.declared.plan.Plan.{Plan}
-use Rattle.supertype_arms.specs.declared.plan.Plan.TheVariants.{No, Left, Right, Kind, Decimals, DecimalInteger}
+use Rattle.supertype_arms.specs.declared.plan.Plan.TheVariants.{Left, Right, Kind, Decimals, DecimalInteger}
 use Rattle.supertype_arms.specs.declared.plan.Plan.TheVariants.{DatetimeDuration, Datetimes, Durations}
 use Rattle.supertype_arms.specs.declared.plan.Plan.TheVariants.{DynNumber, DynBoolean, DynDecimal}
 use Rattle.supertype_arms.specs.Node.{unit_in, unit, zone, same, plain, fits}
-use Rattle.supertype_arms.specs.Supertype.{is, plan_of, Call, same_zone, run, inner, supertype_with}
+use Rattle.supertype_arms.specs.Supertype.{is, plan_of, Call, same_zone, run, answered, inner, supertype_with}
 use Rattle.std.specs.Option.{option_or}
-use Rattle.supertype_arms.specs.Rule.{turn, or_plan, rule_of, skip, Apart}
+use Rattle.supertype_arms.specs.Rule.{turn, rule_of, skip, Apart}
 use Rattle.supertype_arms.proofs.Areas.{alike, alike_eq, right_at}
 
 -- ---- Booleans and answers
@@ -87,57 +87,57 @@ same_node n e = λ i. record { kind = n.kind; arg = sym e i }
 -- ---- one plan for two tries
 
 -- the plans that say the same of (r, l) as, turned, of (l, r), whose kinds are a and b
-abbrev turns : ℕ → ℕ → Plan → Bool
-turns a b No = true
-turns a b Left = true
-turns a b Right = true
-turns a b (Kind k) = true
-turns a b Decimals = false
-turns a b DecimalInteger = is Decimal b && not (is Decimal a)
-turns a b DatetimeDuration = false
-turns a b Datetimes = false
-turns a b Durations = false
-turns a b DynNumber = false
-turns a b DynBoolean = false
-turns a b DynDecimal = false
+abbrev turns : ℕ → ℕ → Option Plan → Bool
+turns a b None = true
+turns a b (Some Left) = true
+turns a b (Some Right) = true
+turns a b (Some (Kind k)) = true
+turns a b (Some Decimals) = false
+turns a b (Some DecimalInteger) = is Decimal b && not (is Decimal a)
+turns a b (Some DatetimeDuration) = false
+turns a b (Some Datetimes) = false
+turns a b (Some Durations) = false
+turns a b (Some DynNumber) = false
+turns a b (Some DynBoolean) = false
+turns a b (Some DynDecimal) = false
 
 -- the plans p of (a, b) and q of (b, a) make one plan
-abbrev merges : ℕ → ℕ → Plan → Plan → Bool
-merges a b No q = turns a b q
-merges a b Left q = true
-merges a b Right q = true
-merges a b (Kind k) q = true
-merges a b Decimals q = true
-merges a b DecimalInteger q = true
-merges a b DatetimeDuration q = true
-merges a b Datetimes q = alike q Datetimes
-merges a b Durations q = true
-merges a b DynNumber q = alike q No
-merges a b DynBoolean q = alike q No
-merges a b DynDecimal q = true
+abbrev merges : ℕ → ℕ → Option Plan → Option Plan → Bool
+merges a b None q = turns a b q
+merges a b (Some Left) q = true
+merges a b (Some Right) q = true
+merges a b (Some (Kind k)) q = true
+merges a b (Some Decimals) q = true
+merges a b (Some DecimalInteger) q = true
+merges a b (Some DatetimeDuration) q = true
+merges a b (Some Datetimes) q = alike q (Some Datetimes)
+merges a b (Some Durations) q = true
+merges a b (Some DynNumber) q = alike q None
+merges a b (Some DynBoolean) q = alike q None
+merges a b (Some DynDecimal) q = true
 
 module _ (call : Call) (l r : Node) where
-  turned : (q : Plan) → T (turns l.kind r.kind q) → run call q r l ≡ run call (turn q) l r
+  turned : (q : Option Plan) → T (turns l.kind r.kind q) → answered call q r l ≡ answered call (option_map turn q) l r
   unfolding run
-  turned No t = refl
-  turned Left t = refl
-  turned Right t = refl
-  turned (Kind k) t = refl
-  turned Decimals t = absurd t
-  turned DecimalInteger t =
+  turned None t = refl
+  turned (Some Left) t = refl
+  turned (Some Right) t = refl
+  turned (Some (Kind k)) t = refl
+  turned (Some Decimals) t = absurd t
+  turned (Some DecimalInteger) t =
       let e = is_true (is Decimal r.kind) (and_left (is Decimal r.kind) _ t) in
       let f = not-true (is Decimal l.kind) (is_true _ (and_right (is Decimal r.kind) _ t)) in
       rw (e, f)
-  turned DatetimeDuration t = absurd t
-  turned Datetimes t = absurd t
-  turned Durations t = absurd t
-  turned DynNumber t = absurd t
-  turned DynBoolean t = absurd t
-  turned DynDecimal t = absurd t
+  turned (Some DatetimeDuration) t = absurd t
+  turned (Some Datetimes) t = absurd t
+  turned (Some Durations) t = absurd t
+  turned (Some DynNumber) t = absurd t
+  turned (Some DynBoolean) t = absurd t
+  turned (Some DynDecimal) t = absurd t
 
-  none_after : (p q : Plan) → T (alike q No) → option_or (run call p l r) (run call q r l) ≡ run call p l r
+  none_after : (p q : Option Plan) → T (alike q None) → option_or (answered call p l r) (answered call q r l) ≡ answered call p l r
   unfolding run
-  none_after p q t = rw (alike_eq q No t) (or_nothing (run call p l r))
+  none_after p q t = rw (alike_eq q None t) (or_nothing (answered call p l r))
 
 -- the guard of the Datetime arm asks for one zone, or none twice
 pub zones : (x y : ℕ) → same_zone x y ≡ eqb x y
@@ -155,30 +155,30 @@ pick_twice false true x y e = never e
 pick_twice false false x y e = refl
 
 module _ (call : Call) (l r : Node) where
-  merged : (p q : Plan) → T (merges l.kind r.kind p q)
-      → option_or (run call p l r) (run call q r l) ≡ run call (or_plan p (turn q)) l r
+  merged : (p q : Option Plan) → T (merges l.kind r.kind p q)
+      → option_or (answered call p l r) (answered call q r l) ≡ answered call (option_or p (option_map turn q)) l r
   unfolding run
-  merged No q t = turned call l r q t
-  merged Left q t = refl
-  merged Right q t = refl
-  merged (Kind k) q t = refl
-  merged Decimals q t = refl
-  merged DecimalInteger q t = refl
-  merged DatetimeDuration q t = refl
-  merged Datetimes q t =
-      rw (alike_eq q Datetimes t)
+  merged None q t = turned call l r q t
+  merged (Some Left) q t = refl
+  merged (Some Right) q t = refl
+  merged (Some (Kind k)) q t = refl
+  merged (Some Decimals) q t = refl
+  merged (Some DecimalInteger) q t = refl
+  merged (Some DatetimeDuration) q t = refl
+  merged (Some Datetimes) q t =
+      rw (alike_eq q (Some Datetimes) t)
       (pick_twice _ _ _ _ (zones (zone l) (zone r) ∙ eqb_sym (zone l) (zone r) ∙ sym (zones (zone r) (zone l))))
-  merged Durations q t = refl
-  merged DynNumber q t = none_after call l r DynNumber q t
-  merged DynBoolean q t = none_after call l r DynBoolean q t
-  merged DynDecimal q t = refl
+  merged (Some Durations) q t = refl
+  merged (Some DynNumber) q t = none_after call l r (Some DynNumber) q t
+  merged (Some DynBoolean) q t = none_after call l r (Some DynBoolean) q t
+  merged (Some DynDecimal) q t = refl
 
 -- ---- the laws
 
 -- two different types: both tries run a plan
 pub tries : (call : Call) (s : Bool) (l r : Node) → same l r ≡ false
     → supertype_with call s l r
-    ≡ option_or (run call (plan_of s l.kind r.kind) l r) (run call (plan_of s r.kind l.kind) r l)
+    ≡ option_or (answered call (plan_of s l.kind r.kind) l r) (answered call (plan_of s r.kind l.kind) r l)
 unfolding supertype_with inner
 tries call s l r e = rw (e, sym (same_sym l r) ∙ e)
 
@@ -200,7 +200,7 @@ at_apart f t s a b h =
 
 -- two types in the order of their kinds
 pub settled : (call : Call) (s : Bool) (l r : Node) → Apart l.kind r.kind → same l r ≡ false
-    → supertype_with call s l r ≡ run call (rule_of s l.kind r.kind) l r
+    → supertype_with call s l r ≡ answered call (rule_of s l.kind r.kind) l r
 unfolding rule_of
 settled call s l r h e =
     tries call s l r e
@@ -231,10 +231,10 @@ level_other a b m n = go (ℕ_discrete a UnknownAny)
     go (no d) = level a b d n
 
 -- the test t holds, and the plans p and q are these
-abbrev these : Bool → Plan → Plan → Plan → Plan → Bool
+abbrev these : Bool → Option Plan → Option Plan → Option Plan → Option Plan → Bool
 these t p x q y = t && (alike p x && alike q y)
 
-of_these : (t : Bool) (p x q y : Plan) → T (these t p x q y) → T t × (p ≡ x) × (q ≡ y)
+of_these : (t : Bool) (p x q y : Option Plan) → T (these t p x q y) → T t × (p ≡ x) × (q ≡ y)
 of_these t p x q y u =
     let v = and_right t _ u in
     (and_left t _ u, alike_eq p x (and_left (alike p x) _ v), alike_eq q y (and_right (alike p x) _ v))
@@ -242,12 +242,12 @@ of_these t p x q y u =
 -- (a, b) out of order and its plans p of (a, b) and q of (b, a): their answers don't depend on which is tried first.
 -- One plan gives none, the two are one, one names the kind of the type that the other gives, or a Duration meets a
 -- Datetime
-abbrev swaps : ℕ → ℕ → Plan → Plan → Bool
+abbrev swaps : ℕ → ℕ → Option Plan → Option Plan → Bool
 swaps a b p q =
-    alike p No || (alike q No || ((turns a b q && alike p (turn q))
-    || (these (plain a) p Left q (Kind a)
-    || (these (plain b) p (Kind b) q Left
-    || these (is Duration a && is Datetime b) p DatetimeDuration q DatetimeDuration))))
+    alike p None || (alike q None || ((turns a b q && alike p (option_map turn q))
+    || (these (plain a) p (Some Left) q (Some (Kind a))
+    || (these (plain b) p (Some (Kind b)) q (Some Left)
+    || these (is Duration a && is Datetime b) p (Some DatetimeDuration) q (Some DatetimeDuration)))))
 
 swap_of : (s : Bool) (a b : ℕ) → b < a → Apart b a → lopsided a b ≡ false → T (swaps a b (plan_of s a b) (plan_of s b a))
 swap_of s a b lt h n =
@@ -272,37 +272,37 @@ units_sym u v =
 
 module _ (call : Call) (l r : Node) (fl : fits l ≡ true) (fr : fits r ≡ true) where
   -- the answers of p and q, whichever is tried first
-  abbrev Level : Plan → Plan → Type 0
-  Level p q = option_or (run call p l r) (run call q r l) ≡ option_or (run call q r l) (run call p l r)
+  abbrev Level : Option Plan → Option Plan → Type 0
+  Level p q = option_or (answered call p l r) (answered call q r l) ≡ option_or (answered call q r l) (answered call p l r)
 
-  swapped : (p q : Plan) → T (swaps l.kind r.kind p q) → Level p q
+  swapped : (p q : Option Plan) → T (swaps l.kind r.kind p q) → Level p q
   unfolding run
   swapped p q t =
-      or_cases (alike p No) _ t (λ u. rw (alike_eq p No u) (sym (or_nothing (run call q r l))))
-      (λ t. or_cases (alike q No) _ t (λ u. rw (alike_eq q No u) (or_nothing (run call p l r)))
-      (λ t. or_cases (turns l.kind r.kind q && alike p (turn q)) _ t one_turns
-      (λ t. or_cases (these (plain l.kind) p Left q (Kind l.kind)) _ t named_left
-      (λ t. or_cases (these (plain r.kind) p (Kind r.kind) q Left) _ t named_right timed))))
+      or_cases (alike p None) _ t (λ u. rw (alike_eq p None u) (sym (or_nothing (answered call q r l))))
+      (λ t. or_cases (alike q None) _ t (λ u. rw (alike_eq q None u) (or_nothing (answered call p l r)))
+      (λ t. or_cases (turns l.kind r.kind q && alike p (option_map turn q)) _ t one_turns
+      (λ t. or_cases (these (plain l.kind) p (Some Left) q (Some (Kind l.kind))) _ t named_left
+      (λ t. or_cases (these (plain r.kind) p (Some (Kind r.kind)) q (Some Left)) _ t named_right timed))))
     where
-      one_turns : T (turns l.kind r.kind q && alike p (turn q)) → Level p q
+      one_turns : T (turns l.kind r.kind q && alike p (option_map turn q)) → Level p q
       one_turns u =
           let does = turns l.kind r.kind q in
-          rw (alike_eq p (turn q) (and_right does _ u), turned call l r q (and_left does _ u))
+          rw (alike_eq p (option_map turn q) (and_right does _ u), turned call l r q (and_left does _ u))
 
-      named_left : T (these (plain l.kind) p Left q (Kind l.kind)) → Level p q
+      named_left : T (these (plain l.kind) p (Some Left) q (Some (Kind l.kind))) → Level p q
       named_left u =
-          let v = of_these (plain l.kind) p Left q (Kind l.kind) u in
+          let v = of_these (plain l.kind) p (Some Left) q (Some (Kind l.kind)) u in
           rw (v.1, v.2) (ap Some (sym (same_node l (plain_zero l fl (is_true (plain l.kind) v.0)))))
 
-      named_right : T (these (plain r.kind) p (Kind r.kind) q Left) → Level p q
+      named_right : T (these (plain r.kind) p (Some (Kind r.kind)) q (Some Left)) → Level p q
       named_right u =
-          let v = of_these (plain r.kind) p (Kind r.kind) q Left u in
+          let v = of_these (plain r.kind) p (Some (Kind r.kind)) q (Some Left) u in
           rw (v.1, v.2) (ap Some (same_node r (plain_zero r fr (is_true (plain r.kind) v.0))))
 
-      timed : T (these (is Duration l.kind && is Datetime r.kind) p DatetimeDuration q DatetimeDuration)
+      timed : T (these (is Duration l.kind && is Datetime r.kind) p (Some DatetimeDuration) q (Some DatetimeDuration))
           → Level p q
       timed u =
-          let v = of_these (is Duration l.kind && is Datetime r.kind) p DatetimeDuration q DatetimeDuration u in
+          let v = of_these (is Duration l.kind && is Datetime r.kind) p (Some DatetimeDuration) q (Some DatetimeDuration) u in
           let a = eqb→eq l.kind Duration (and_left (is Duration l.kind) _ v.0) in
           let b = eqb→eq r.kind Datetime (and_right (is Duration l.kind) _ v.0) in
           rw (v.1, v.2, a, b, units_sym (unit l) (unit r))

@@ -19,8 +19,8 @@ use Rattle.supertype_numbers.proofs.Tests.{at}
 use Rattle.supertype_numbers.proofs.Digits.{digit_laws}
 use Rattle.flat.specs.declared.Node.{Node}
 use Rattle.supertype_answer.specs.Join.{node}
-use Rattle.std.specs.Prelude.{Some}
-use Rattle.supertype_arms.specs.declared.plan.Plan.TheVariants.{No, DecimalInteger}
+use Rattle.std.specs.Prelude.{None, Some}
+use Rattle.supertype_arms.specs.declared.plan.Plan.TheVariants.{DecimalInteger}
 use Rattle.supertype_arms.specs.Node.{precision, scale, decimal, same, fits}
 use Rattle.supertype_arms.specs.Supertype.{is, plan_of, Call, fits_orig_prec_scale, beside_integer, run}
 use Rattle.supertype_arms.specs.Supertype.{known_supertype, supertype}
@@ -91,28 +91,28 @@ module _ {n : Node} (w : IsDecimal n) where
 -- one order has the arm, and the other has none
 unfoldable one_arm : Bool → ℕ → Bool
 unfolding right_at
-one_arm s k = alike (plan_of s Decimal k) DecimalInteger && alike (plan_of s k Decimal) No
+one_arm s k = alike (plan_of s Decimal k) (Some DecimalInteger) && alike (plan_of s k Decimal) None
 
 module _ (s : Bool) (k : ℕ) (l : Listed k) where
   arm_told : T (one_arm s k)
   arm_told = of_flag (λ s. one_arm s k) (at (λ k. one_arm true k && one_arm false k) (unfold one_arm in tt) k l) s
 
-  has_arm : plan_of s Decimal k ≡ DecimalInteger
+  has_arm : plan_of s Decimal k ≡ Some DecimalInteger
   unfolding one_arm
-  has_arm = alike_eq _ _ (and_left (alike (plan_of s Decimal k) DecimalInteger) _ arm_told)
+  has_arm = alike_eq _ _ (and_left (alike (plan_of s Decimal k) (Some DecimalInteger)) _ arm_told)
 
-  no_arm : plan_of s k Decimal ≡ No
+  no_arm : plan_of s k Decimal ≡ None
   unfolding one_arm
-  no_arm = alike_eq _ _ (and_right (alike (plan_of s Decimal k) DecimalInteger) _ arm_told)
+  no_arm = alike_eq _ _ (and_right (alike (plan_of s Decimal k) (Some DecimalInteger)) _ arm_told)
 
 module _ (i s : Bool) {n : Node} (w : IsDecimal n) (k : ℕ) (l : Listed k) where
   differ : same (node k 0) n ≡ false
   differ = left_known k 0 n.kind n.arg (omega (arith, w.kind)) (omega arith) (omega arith)
 
-  has : plan_of s n.kind k ≡ DecimalInteger
+  has : plan_of s n.kind k ≡ Some DecimalInteger
   has = ap (λ (a : ℕ). plan_of s a k) w.kind ∙ has_arm s k l
 
-  has_none : plan_of s k n.kind ≡ No
+  has_none : plan_of s k n.kind ≡ None
   has_none = ap (plan_of s k) w.kind ∙ no_arm s k l
 
   answer : (call : Call) → run call DecimalInteger n (node k 0) ≡ Some (by_digits n k)

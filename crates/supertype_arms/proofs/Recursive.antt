@@ -21,13 +21,13 @@ use Rattle.dtype.specs.Equality.{equal_node}
 use Rattle.supertype_numbers.specs.DynInt.{materialize_dyn_int, materialize_dyn_int_pos, materialize_smallest_dyn_int}
 use Rattle.flat.specs.declared.Node.{Node}
 use Rattle.supertype_answer.specs.Join.{node}
-use Rattle.std.specs.Prelude.{None, Some}
+use Rattle.std.specs.Prelude.{Option, None, Some}
 use Rattle.supertype_arms.specs.declared.plan.Plan.{Plan}
-use Rattle.supertype_arms.specs.declared.plan.Plan.TheVariants.{No, Left, Right, Kind, Decimals, DecimalInteger}
+use Rattle.supertype_arms.specs.declared.plan.Plan.TheVariants.{Left, Right, Kind, Decimals, DecimalInteger}
 use Rattle.supertype_arms.specs.declared.plan.Plan.TheVariants.{DatetimeDuration, Datetimes, Durations}
 use Rattle.supertype_arms.specs.declared.plan.Plan.TheVariants.{DynNumber, DynBoolean, DynDecimal}
 use Rattle.supertype_arms.specs.Node.{value, same, fits}
-use Rattle.supertype_arms.specs.Supertype.{plan_of, max_dyn, smallest_fitting, dyn_number, Call, run}
+use Rattle.supertype_arms.specs.Supertype.{plan_of, max_dyn, smallest_fitting, dyn_number, Call, run, answered}
 use Rattle.std.specs.Option.{option_or}
 use Rattle.supertype_arms.specs.Supertype.{inner, supertype_with, known_supertype, supertype}
 use Rattle.supertype_arms.specs.Laws.{SupertypeLaws}
@@ -38,48 +38,48 @@ use Rattle.supertype_arms.proofs.Decimals.{decimal_integer}
 -- ---- which plans call
 
 -- a plan that makes no inner call
-abbrev pub quiet : Plan → Bool
-quiet No = true
-quiet Left = true
-quiet Right = true
-quiet (Kind k) = true
-quiet Decimals = true
-quiet DecimalInteger = true
-quiet DatetimeDuration = true
-quiet Datetimes = true
-quiet Durations = true
-quiet DynNumber = false
-quiet DynBoolean = false
-quiet DynDecimal = true
+abbrev pub quiet : Option Plan → Bool
+quiet None = true
+quiet (Some Left) = true
+quiet (Some Right) = true
+quiet (Some (Kind k)) = true
+quiet (Some Decimals) = true
+quiet (Some DecimalInteger) = true
+quiet (Some DatetimeDuration) = true
+quiet (Some Datetimes) = true
+quiet (Some Durations) = true
+quiet (Some DynNumber) = false
+quiet (Some DynBoolean) = false
+quiet (Some DynDecimal) = true
 
 module _ (f g : Call) (l r : Node) where
-  pub quiet_run : (p : Plan) → T (quiet p) → run f p l r ≡ run g p l r
+  pub quiet_run : (p : Option Plan) → T (quiet p) → answered f p l r ≡ answered g p l r
   unfolding run
-  quiet_run No t = refl
-  quiet_run Left t = refl
-  quiet_run Right t = refl
-  quiet_run (Kind k) t = refl
-  quiet_run Decimals t = refl
-  quiet_run DecimalInteger t = refl
-  quiet_run DatetimeDuration t = refl
-  quiet_run Datetimes t = refl
-  quiet_run Durations t = refl
-  quiet_run DynNumber t = absurd t
-  quiet_run DynBoolean t = absurd t
-  quiet_run DynDecimal t = refl
+  quiet_run None t = refl
+  quiet_run (Some Left) t = refl
+  quiet_run (Some Right) t = refl
+  quiet_run (Some (Kind k)) t = refl
+  quiet_run (Some Decimals) t = refl
+  quiet_run (Some DecimalInteger) t = refl
+  quiet_run (Some DatetimeDuration) t = refl
+  quiet_run (Some Datetimes) t = refl
+  quiet_run (Some Durations) t = refl
+  quiet_run (Some DynNumber) t = absurd t
+  quiet_run (Some DynBoolean) t = absurd t
+  quiet_run (Some DynDecimal) t = refl
 
 -- nor does the arm of a number with a dyn int, where the left type is a dyn int too
-pub dyn_run : (f g : Call) (l r : Node) → is_unknown_int l.kind ≡ true → (p : Plan) → T (quiet p || alike p DynNumber)
-    → run f p l r ≡ run g p l r
+pub dyn_run : (f g : Call) (l r : Node) → is_unknown_int l.kind ≡ true → (p : Option Plan) → T (quiet p || alike p (Some DynNumber))
+    → answered f p l r ≡ answered g p l r
 unfolding run
 dyn_run f g l r e p t = go (quiet p) refl t
   where
-    maxima : run f DynNumber l r ≡ run g DynNumber l r
+    maxima : answered f (Some DynNumber) l r ≡ answered g (Some DynNumber) l r
     maxima = rw e
 
-    go : (b : Bool) → quiet p ≡ b → T (b || alike p DynNumber) → run f p l r ≡ run g p l r
+    go : (b : Bool) → quiet p ≡ b → T (b || alike p (Some DynNumber)) → answered f p l r ≡ answered g p l r
     go true q u = quiet_run f g l r p (to_T q)
-    go false q u = rw (alike_eq p DynNumber u) maxima
+    go false q u = rw (alike_eq p (Some DynNumber) u) maxima
 
 -- two kinds below Decimal's: their plan makes no inner call, and is the same for both flags
 unfoldable settled_early : ℕ → ℕ → Bool
@@ -102,7 +102,7 @@ module _ (f g : Call) (s : Bool) where
       ap (cond (same l r) (Some l))
       (quiet_run f g l r (plan_of true l.kind r.kind)
       (and_left (quiet (plan_of true l.kind r.kind)) _ (below_decimal l.kind r.kind p q))
-      ∙ ap (λ (plan : Plan). run g plan l r) (either_flag s l.kind r.kind p q))
+      ∙ ap (λ (plan : Option Plan). answered g plan l r) (either_flag s l.kind r.kind p q))
 
   quiet_with : (l r : Node) → l.kind < Decimal → r.kind < Decimal → supertype_with f true l r ≡ supertype_with g s l r
   unfolding supertype_with
@@ -154,7 +154,7 @@ smallest_below dt v = ltb→lt _ Decimal (smallest_of (λ k. ltb k Decimal) tt t
 -- dyn int and both are
 unfoldable calls : Bool → ℕ → ℕ → Bool
 unfolding right_at
-calls s a b = quiet (plan_of s a b) || (ltb a Decimal || (is_unknown_int a && alike (plan_of s a b) DynNumber))
+calls s a b = quiet (plan_of s a b) || (ltb a Decimal || (is_unknown_int a && alike (plan_of s a b) (Some DynNumber)))
 
 calls_hold : (s : Bool) (a b : ℕ) → a ≤ UnknownIntNeg → b ≤ UnknownIntNeg → T (calls s a b)
 calls_hold s a b h g =
@@ -163,43 +163,43 @@ calls_hold s a b h g =
 
 -- two calls that answer alike where dyn arms call them
 module _ (f g : Call) (l r : Node) (agree : (k : ℕ) → k < Decimal → f l (node k 0) ≡ g l (node k 0)) where
-  pub runs_same : (p : Plan) → run f p l r ≡ run g p l r
+  pub runs_same : (p : Option Plan) → answered f p l r ≡ answered g p l r
   unfolding run dyn_number
-  runs_same No = refl
-  runs_same Left = refl
-  runs_same Right = refl
-  runs_same (Kind k) = refl
-  runs_same Decimals = refl
-  runs_same DecimalInteger = refl
-  runs_same DatetimeDuration = refl
-  runs_same Datetimes = refl
-  runs_same Durations = refl
-  runs_same DynNumber = rw (agree (smallest_fitting l.kind (value r)) (smallest_below l.kind (value r)))
-  runs_same DynBoolean = agree (materialize_dyn_int (value r)) (dyn_below (value r))
-  runs_same DynDecimal = refl
+  runs_same None = refl
+  runs_same (Some Left) = refl
+  runs_same (Some Right) = refl
+  runs_same (Some (Kind k)) = refl
+  runs_same (Some Decimals) = refl
+  runs_same (Some DecimalInteger) = refl
+  runs_same (Some DatetimeDuration) = refl
+  runs_same (Some Datetimes) = refl
+  runs_same (Some Durations) = refl
+  runs_same (Some DynNumber) = rw (agree (smallest_fitting l.kind (value r)) (smallest_below l.kind (value r)))
+  runs_same (Some DynBoolean) = agree (materialize_dyn_int (value r)) (dyn_below (value r))
+  runs_same (Some DynDecimal) = refl
 
 -- of a call that answers as the inner one does where dyn arms call it
 module _ (call : Call)
     (agree : (l r : Node) → l.kind < Decimal → r.kind < Decimal → known_supertype l r ≡ call l r) where
   runs_alike : (s : Bool) (l r : Node) → l.kind ≤ UnknownIntNeg → r.kind ≤ UnknownIntNeg
-      → run known_supertype (plan_of s l.kind r.kind) l r ≡ run call (plan_of s l.kind r.kind) l r
+      → answered known_supertype (plan_of s l.kind r.kind) l r ≡ answered call (plan_of s l.kind r.kind) l r
   unfolding calls
   runs_alike s l r p q = go (dec_lt l.kind Decimal) (quiet plan) refl (calls_hold s l.kind r.kind p q)
     where
-      plan : Plan
+      plan : Option Plan
       plan = plan_of s l.kind r.kind
 
       go : Dec (l.kind < Decimal) → (b : Bool) → quiet plan ≡ b
-          → T (b || (ltb l.kind Decimal || (is_unknown_int l.kind && alike plan DynNumber)))
-          → run known_supertype plan l r ≡ run call plan l r
+          → T (b || (ltb l.kind Decimal || (is_unknown_int l.kind && alike plan (Some DynNumber))))
+          → answered known_supertype plan l r ≡ answered call plan l r
       go (yes h) b e t = runs_same known_supertype call l r (λ k m. agree l (node k 0) h m) plan
       go (no h) true e t = quiet_run known_supertype call l r plan (to_T e)
       go (no h) false e t =
-          let u : T (is_unknown_int l.kind && alike plan DynNumber) = or_right
-          (is_unknown_int l.kind && alike plan DynNumber) (le-ltb l.kind Decimal (omega arith)) t in
+          let u : T (is_unknown_int l.kind && alike plan (Some DynNumber)) = or_right
+          (is_unknown_int l.kind && alike plan (Some DynNumber)) (le-ltb l.kind Decimal (omega arith)) t in
           dyn_run known_supertype call l r
-          (is_true (is_unknown_int l.kind) (and_left (is_unknown_int l.kind) (alike plan DynNumber) u)) plan
-          (rw e (and_right (is_unknown_int l.kind) (alike plan DynNumber) u))
+          (is_true (is_unknown_int l.kind) (and_left (is_unknown_int l.kind) (alike plan (Some DynNumber)) u)) plan
+          (rw e (and_right (is_unknown_int l.kind) (alike plan (Some DynNumber)) u))
 
   inner_alike : (s : Bool) (l r : Node) → l.kind ≤ UnknownIntNeg → r.kind ≤ UnknownIntNeg
       → inner known_supertype s l r ≡ inner call s l r
@@ -243,9 +243,9 @@ maximum v w h = (rw (max_dyn, is_true (le_z v w) h.le), go (le_z w v) refl)
 -- two kinds of which the left is a dyn int reach the arm of the dyn ints only where the right is one too
 unfoldable both_dyn : Bool → ℕ → ℕ → Bool
 unfolding right_at
-both_dyn s a b = not (alike (plan_of s a b) DynNumber && is_unknown_int a) || is_unknown_int b
+both_dyn s a b = not (alike (plan_of s a b) (Some DynNumber) && is_unknown_int a) || is_unknown_int b
 
-no_maximum : (s : Bool) (l r : Node) → fits l ≡ true → fits r ≡ true → plan_of s l.kind r.kind ≡ DynNumber
+no_maximum : (s : Bool) (l r : Node) → fits l ≡ true → fits r ≡ true → plan_of s l.kind r.kind ≡ Some DynNumber
     → is_unknown_int l.kind ≡ true → same l r ≡ true
 unfolding equal_node both_dyn
 no_maximum s l r p q e d =

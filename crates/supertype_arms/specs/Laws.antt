@@ -30,7 +30,7 @@ pub record SupertypeLaws : Type 0 where
   -- the arm of two dyn ints takes the larger value of the two
   pub maximum : (v w : ℤ) → v ≤ℤ w → (max_dyn v w ≡ w) × (max_dyn w v ≡ w)
   -- the arm of two dyn ints never answers: the types that would reach it are equal, which `inner` asks first
-  pub no_maximum : (s : Bool) (l r : Node) → fits l ≡ true → fits r ≡ true → plan_of s l.kind r.kind ≡ DynNumber
+  pub no_maximum : (s : Bool) (l r : Node) → fits l ≡ true → fits r ≡ true → plan_of s l.kind r.kind ≡ Some DynNumber
       → is_unknown_int l.kind ≡ true → same l r ≡ true
   -- a Decimal with an integer type, in either order
   pub decimal_integer : (i s : Bool) (n : Node) (k : ℕ) → n.kind ≡ Decimal → fits n ≡ true → Listed k

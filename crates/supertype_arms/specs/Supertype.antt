@@ -2,7 +2,7 @@
 -- and what it comes to for two types that are not nested, `or_else` the other way round included. For all types it is
 -- crates/supertype_nested/specs/Nested.antt. Assumes nothing: these are definitions.
 use Rattle.std.specs.Prelude.{Bool, true, false, cond, not, ◌&&◌, ◌||◌, List, [], ◌∷◌, ℕ, max, eqb, ℤ}
-use Rattle.std.specs.Prelude.{Option, None, Some}
+use Rattle.std.specs.Prelude.{Option, None, Some, option_and_then}
 use Rattle.std.specs.Option.{option_or}
 use Rattle.std.specs.Int.Signed.{le_z, non_neg}
 use Rattle.flat.specs.Kind.{Null, Boolean, UInt8, UInt16, UInt32, UInt64, UInt128, Int8, Int16, Int32, Int64, Int128}
@@ -22,15 +22,15 @@ use Rattle.supertype_answer.specs.Join.{node}
 use Rattle.supertype_arms.specs.Node.{precision, scale, decimal, unit, zone, datetime, duration}
 use Rattle.supertype_arms.specs.Node.{value, dyn_int, same}
 use Rattle.supertype_arms.specs.declared.plan.Plan.{Plan}
-use Rattle.supertype_arms.specs.declared.plan.Plan.TheVariants.{No, Left, Right, Kind, Decimals, DecimalInteger}
+use Rattle.supertype_arms.specs.declared.plan.Plan.TheVariants.{Left, Right, Kind, Decimals, DecimalInteger}
 use Rattle.supertype_arms.specs.declared.plan.Plan.TheVariants.{DatetimeDuration, Datetimes, Durations}
 use Rattle.supertype_arms.specs.declared.plan.Plan.TheVariants.{DynNumber, DynBoolean, DynDecimal}
 
 -- ---- the arms
 
--- what an arm answers: one of the two types, what their roots alone come to, or one of the nested arms' answers
+-- what an arm answers: None, one of the two types, what their roots alone come to, or one of the nested arms' answers
 pub data TreePlan : Type 0 where
-  left_type right_type : TreePlan
+  no_type left_type right_type : TreePlan
   roots : Plan → TreePlan
   lists arrays implode_left implode_right first_field structs each_field : TreePlan
 
@@ -59,7 +59,7 @@ l & r ⇒ k = arm (is l) (is r) (roots (Kind k))
 -- `(dt, Unknown(kind)) => match kind { .. }`: the arms of that match, with dt on the left and the kind on the right
 unfoldable pub unknown_arms : Bool → List Arm
 unknown_arms to_string =
-    arm is_string (λ k. is UnknownFloat k || is_unknown_int k) (cond to_string left_type (roots No))
+    arm is_string (λ k. is UnknownFloat k || is_unknown_int k) (cond to_string left_type no_type)
     ∷ arm is_float (λ k. is UnknownFloat k || is_unknown_int k) left_type
     -- known or not
     ∷ arm (λ dt. is_integer dt && not (is_unknown dt)) (is UnknownFloat) (roots (Kind Float64))
@@ -215,26 +215,27 @@ arms implode to_string =
 
 -- the plan of the first arm that takes both kinds; `_ => None` where no arm does
 abbrev pub choose : List Arm → ℕ → ℕ → TreePlan
-choose [] a b = roots No
+choose [] a b = no_type
 choose (x ∷ xs) a b = elim (x.left a && x.right b) [ true ↦ x.plan | false ↦ choose xs a b ]
 
 -- ---- the answers, of two types that are not nested
 
 -- a plan as one of two roots, which are then the types; no nested arm takes them
-abbrev pub leaf_plan : TreePlan → Plan
-leaf_plan left_type = Left
-leaf_plan right_type = Right
-leaf_plan (roots p) = p
-leaf_plan lists = No
-leaf_plan arrays = No
-leaf_plan implode_left = No
-leaf_plan implode_right = No
-leaf_plan first_field = No
-leaf_plan structs = No
-leaf_plan each_field = No
+abbrev pub leaf_plan : TreePlan → Option Plan
+leaf_plan no_type = None
+leaf_plan left_type = Some Left
+leaf_plan right_type = Some Right
+leaf_plan (roots p) = Some p
+leaf_plan lists = None
+leaf_plan arrays = None
+leaf_plan implode_left = None
+leaf_plan implode_right = None
+leaf_plan first_field = None
+leaf_plan structs = None
+leaf_plan each_field = None
 
 -- their plan, in which the implode flag has no part
-unfoldable pub plan_of : Bool → ℕ → ℕ → Plan
+unfoldable pub plan_of : Bool → ℕ → ℕ → Option Plan
 plan_of to_string a b = leaf_plan (choose (arms false to_string) a b)
 
 abbrev pub max_dyn : ℤ → ℤ → ℤ
@@ -269,7 +270,6 @@ same_zone l r = (eqb l 0 && eqb r 0) || (not (eqb l 0) && eqb l r)
 
 -- what a plan answers for two types
 unfoldable pub run : Call → Plan → Node → Node → Option Node
-run get_supertype No l r = None
 run get_supertype Left l r = Some l
 run get_supertype Right l r = Some r
 run get_supertype (Kind k) l r = Some (node k 0)
@@ -288,10 +288,14 @@ run get_supertype DynNumber l r =
 run get_supertype DynBoolean l r = get_supertype l (node (materialize_dyn_int (value r)) 0)
 run get_supertype DynDecimal l r = Some (decimal dec128_max_prec (scale l))
 
+-- what they answer where no arm may take them
+abbrev pub answered : Call → Option Plan → Node → Node → Option Node
+answered get_supertype plan l r = option_and_then (λ p. run get_supertype p l r) plan
+
 -- ---- the function, of two types that are not nested
 
 unfoldable pub inner : Call → Bool → Node → Node → Option Node
-inner get_supertype to_string l r = cond (same l r) (Some l) (run get_supertype (plan_of to_string l.kind r.kind) l r)
+inner get_supertype to_string l r = cond (same l r) (Some l) (answered get_supertype (plan_of to_string l.kind r.kind) l r)
 
 unfoldable pub supertype_with : Call → Bool → Node → Node → Option Node
 supertype_with get_supertype to_string l r =

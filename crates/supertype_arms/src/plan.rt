@@ -6,11 +6,9 @@ use crate::number::number_row;
 use crate::row;
 use flat::kind::Kind;
 
-// What an arm answers for two types: None, one of them, a type of a kind without an argument, or one made of their
-// arguments.
+// What an arm answers for two types: one of them, a type of a kind without an argument, or one made of their arguments.
 #[derive(Clone, Copy)]
 pub enum Plan {
-    No,
     Left,
     Right,
     Kind(u8),
@@ -24,8 +22,8 @@ pub enum Plan {
     DynDecimal,
 }
 
-// The plan of two kinds in ascending order.
-pub fn planned(to_string: bool, a: u8, b: u8) -> Plan
+// The plan of two kinds in ascending order: none where the source answers None.
+pub fn planned(to_string: bool, a: u8, b: u8) -> Option<Plan>
     requires { Apart a b }
     ensures { result ≡ rule_of to_string a b }
 {

@@ -15,9 +15,9 @@ use Rattle.dtype.specs.Predicate.{is_unknown_int, is_primitive_numeric, is_unkno
 use Rattle.dtype.specs.Equality.{equal}
 use Rattle.dtype_inner.specs.Inner.{inner_dtype}
 use Rattle.supertype_arms.specs.Supertype.{is, arms, choose, run}
-use Rattle.supertype_arms.specs.Supertype.{TreePlan, left_type, roots}
+use Rattle.supertype_arms.specs.Supertype.{TreePlan, no_type, left_type, roots}
 use Rattle.supertype_arms.specs.Supertype.{lists, arrays, implode_left, implode_right, first_field, structs, each_field}
-use Rattle.supertype_arms.specs.declared.plan.Plan.TheVariants.{No, Kind}
+use Rattle.supertype_arms.specs.declared.plan.Plan.TheVariants.{Kind}
 use Rattle.supertype_nested.specs.Nested.{SuperTypeOptions, TreeCall, run_tree, tree_plan, inner_tree}
 use Rattle.supertype_nested.specs.Nested.{supertype_tree_with}
 use Rattle.supertype_nested.specs.Step.{Fair, beside_arms, plan_beside, plan_before}
@@ -53,7 +53,7 @@ module _ (k : ℕ) (h : k ≤ kind.UnknownIntNeg) where
       (takes y lists
       (takes (i && true) implode_left
       (takes (x && i) implode_right
-      (takes (is_unknown k) (roots (Kind kind.UnknownAny)) (roots No)))))))
+      (takes (is_unknown k) (roots (Kind kind.UnknownAny)) no_type))))))
 
   -- an Array, by the same
   abbrev of_array : Bool → Bool → Bool → TreePlan
@@ -63,7 +63,7 @@ module _ (k : ℕ) (h : k ≤ kind.UnknownIntNeg) where
       (takes x lists
       (takes y arrays
       (takes (x && i) implode_right
-      (takes (is_unknown k) (roots (Kind kind.UnknownAny)) (roots No))))))
+      (takes (is_unknown k) (roots (Kind kind.UnknownAny)) no_type)))))
 
   -- a Struct, by whether the right kind is a List or a Struct
   abbrev of_struct : Bool → Bool → Bool → TreePlan
@@ -74,7 +74,7 @@ module _ (k : ℕ) (h : k ≤ kind.UnknownIntNeg) where
       (takes (is kind.UnknownFloat k || is_unknown_int k) first_field
       (takes y structs
       (takes (is_primitive_numeric k) each_field
-      (takes (is_unknown k) (roots (Kind kind.UnknownAny)) (roots No)))))))
+      (takes (is_unknown k) (roots (Kind kind.UnknownAny)) no_type))))))
 
   -- of a leaf on the right they leave those of `beside_arms`
   list_beside : (i s : Bool) → choose (arms i s) kind.List k ≡ plan_beside i kind.List k
@@ -102,11 +102,11 @@ module _ (k : ℕ) (h : k ≤ kind.UnknownIntNeg) where
       takes x lists
       (takes y lists
       (takes (x && o.allow_implode_list) implode_left
-      (takes (o.allow_implode_list && true) implode_right (roots No)))))
+      (takes (o.allow_implode_list && true) implode_right no_type))))
       no_list no_array
       ∙ go o.allow_implode_list
     where
-      go : (i : Bool) → takes (i && true) implode_right (roots No) ≡ cond i implode_right (roots No)
+      go : (i : Bool) → takes (i && true) implode_right no_type ≡ cond i implode_right no_type
       go true = refl
       go false = refl
 
@@ -115,14 +115,14 @@ module _ (k : ℕ) (h : k ≤ kind.UnknownIntNeg) where
   before_array o =
       at_plan o k kind.Array
       ∙ ap₂
-      (λ (x y : Bool). takes x lists (takes y arrays (takes (x && o.allow_implode_list) implode_left (roots No))))
+      (λ (x y : Bool). takes x lists (takes y arrays (takes (x && o.allow_implode_list) implode_left no_type)))
       no_list no_array
 
   before_struct : (o : SuperTypeOptions) → tree_plan o k kind.Struct ≡ plan_before o.allow_implode_list kind.Struct
   unfolding plan_at plan_before
   before_struct o =
       at_plan o k kind.Struct
-      ∙ ap₂ (λ (x y : Bool). takes (x && o.allow_implode_list) implode_left (takes y structs (roots No)))
+      ∙ ap₂ (λ (x y : Bool). takes (x && o.allow_implode_list) implode_left (takes y structs no_type))
       no_list no_struct
 
   module _ (o : SuperTypeOptions) where
@@ -165,10 +165,10 @@ module _ (c : TreeCall) (o : SuperTypeOptions) (k a : ℕ) (h : k ≤ kind.Unkno
       go : (i x y : Bool)
           → run_tree c
           (takes x (roots (Kind kind.String)) (takes y left_type
-          (takes (i && true) implode_left (takes (is_unknown k) (roots (Kind kind.UnknownAny)) (roots No)))))
+          (takes (i && true) implode_left (takes (is_unknown k) (roots (Kind kind.UnknownAny)) no_type))))
           (list t) (leaf k a)
           ≡ None
-          → run_tree c (cond i implode_right (roots No)) (leaf k a) (list t) ≡ None
+          → run_tree c (cond i implode_right no_type) (leaf k a) (list t) ≡ None
       go true true y e = no_some e
       go true false true e = no_some e
       go true false false e = e
@@ -200,7 +200,7 @@ module _ (c : TreeCall) (o : SuperTypeOptions) (k a : ℕ) (h : k ≤ kind.Unkno
   unfolding plan_before run_tree run
   leaf_beside {n} v e =
       leaf_nested v
-      ∙ ap (λ (b : Bool). option_or (run_tree c (cond b implode_right (roots No)) (leaf k a) n) (beside n)) e
+      ∙ ap (λ (b : Bool). option_or (run_tree c (cond b implode_right no_type) (leaf k a) n) (beside n)) e
 
   module _ (fair : Fair c) (on : o.allow_implode_list ≡ true) (t : DataType) where
     -- A List that takes in a leaf on its left which is no String: one call.
@@ -211,10 +211,10 @@ module _ (c : TreeCall) (o : SuperTypeOptions) (k a : ℕ) (h : k ≤ kind.Unkno
       where
         tries : Bool → Bool → Bool → Option DataType
         tries y x i =
-            option_or (run_tree c (cond i implode_right (roots No)) (leaf k a) (list t))
+            option_or (run_tree c (cond i implode_right no_type) (leaf k a) (list t))
             (run_tree c
             (takes x (roots (Kind kind.String)) (takes y left_type
-            (takes (i && true) implode_left (takes (is_unknown k) (roots (Kind kind.UnknownAny)) (roots No)))))
+            (takes (i && true) implode_left (takes (is_unknown k) (roots (Kind kind.UnknownAny)) no_type))))
             (list t) (leaf k a))
 
         go : (y : Bool) → is kind.Null k ≡ y → (q : Option DataType) → c t (leaf k a) ≡ q
@@ -233,7 +233,7 @@ string_list c o a on t =
     leaf_nested c o kind.String a (omega arith) is_list
     ∙ ap
     (λ (i : Bool).
-    option_or (run_tree c (cond i implode_right (roots No)) (leaf kind.String a) (list t))
+    option_or (run_tree c (cond i implode_right no_type) (leaf kind.String a) (list t))
     (Some (leaf kind.String 0)))
     on
 
@@ -258,30 +258,30 @@ module _ (c : TreeCall) (o : SuperTypeOptions) where
   abbrev pub taken_in : Bool → DataType → DataType → Option DataType
   taken_in i t u = cond i (option_map list (c t u)) None
 
-  left_in : (i : Bool) (t u : DataType) → run_tree c (takes i implode_left (roots No)) (list t) u ≡ taken_in i t u
+  left_in : (i : Bool) (t u : DataType) → run_tree c (takes i implode_left no_type) (list t) u ≡ taken_in i t u
   unfolding run_tree inner_dtype run
   left_in true t u = refl
   left_in false t u = refl
 
   right_in : (i : Bool) (t u : DataType)
-      → run_tree c (takes (i && true) implode_right (roots No)) u (list t) ≡ taken_in i t u
+      → run_tree c (takes (i && true) implode_right no_type) u (list t) ≡ taken_in i t u
   unfolding run_tree inner_dtype run
   right_in true t u = refl
   right_in false t u = refl
 
-  list_struct : tree_plan o kind.List kind.Struct ≡ takes o.allow_implode_list implode_left (roots No)
+  list_struct : tree_plan o kind.List kind.Struct ≡ takes o.allow_implode_list implode_left no_type
   unfolding plan_at
   list_struct = at_plan o kind.List kind.Struct
 
-  struct_list : tree_plan o kind.Struct kind.List ≡ takes (o.allow_implode_list && true) implode_right (roots No)
+  struct_list : tree_plan o kind.Struct kind.List ≡ takes (o.allow_implode_list && true) implode_right no_type
   unfolding plan_at
   struct_list = at_plan o kind.Struct kind.List
 
-  array_struct : tree_plan o kind.Array kind.Struct ≡ roots No
+  array_struct : tree_plan o kind.Array kind.Struct ≡ no_type
   unfolding plan_at
   array_struct = at_plan o kind.Array kind.Struct
 
-  struct_array : tree_plan o kind.Struct kind.Array ≡ roots No
+  struct_array : tree_plan o kind.Struct kind.Array ≡ no_type
   unfolding plan_at
   struct_array = at_plan o kind.Struct kind.Array
 
@@ -306,11 +306,11 @@ module _ (c : TreeCall) (o : SuperTypeOptions) where
   pub array_with_struct : (w : ℕ) (t : DataType) (fs : Fields) → supertype_tree_with c o (array w t) (struct fs) ≡ None
   unfolding head_kind equal run_tree run
   array_with_struct w t fs =
-      settle c o (array w t) (struct fs) (roots No) (roots No) array_struct struct_array (λ e. never e) (λ e. never e)
+      settle c o (array w t) (struct fs) no_type no_type array_struct struct_array (λ e. never e) (λ e. never e)
       (λ e. e)
 
   pub struct_with_array : (w : ℕ) (t : DataType) (fs : Fields) → supertype_tree_with c o (struct fs) (array w t) ≡ None
   unfolding head_kind equal run_tree run
   struct_with_array w t fs =
-      settle c o (struct fs) (array w t) (roots No) (roots No) struct_array array_struct (λ e. never e) (λ e. never e)
+      settle c o (struct fs) (array w t) no_type no_type struct_array array_struct (λ e. never e) (λ e. never e)
       (λ e. e)

@@ -2,6 +2,7 @@
 use mathlib.Core.Path.{◌≡◌, refl}
 use mathlib.Core.Bool.{Bool, true, false, not, ◌&&◌, ◌||◌}
 use mathlib.Core.List.{List, [], ◌∷◌}
+use Rattle.std.specs.Prelude.{Some}
 use Prim.Native.Nat.{ℕ}
 use lib.Dec.{T, eqb}
 use borrow.Author.Tests.{eqb-true}
@@ -12,10 +13,10 @@ use Rattle.dtype.specs.Predicate.{is_primitive_numeric, is_primitive, is_string,
 use Rattle.dtype.specs.Physical.{physical_leaf, physical_kind}
 use Rattle.flat.specs.Kind.{Boolean}
 use Rattle.flat.specs.Tree.{head_kind}
-use Rattle.supertype_arms.specs.Supertype.{Arm, is, arms, unknown_arms, choose, TreePlan, left_type, right_type, roots}
+use Rattle.supertype_arms.specs.Supertype.{Arm, is, arms, unknown_arms, choose, TreePlan, no_type, left_type, right_type, roots}
 use Rattle.supertype_arms.specs.Supertype.{lists, arrays, implode_left, implode_right, first_field, structs, each_field}
 use Rattle.supertype_arms.specs.declared.plan.Plan.{Plan}
-use Rattle.supertype_arms.specs.declared.plan.Plan.TheVariants.{No, DynNumber}
+use Rattle.supertype_arms.specs.declared.plan.Plan.TheVariants.{DynNumber}
 use Rattle.supertype_arms.proofs.Areas.{alike}
 use Rattle.supertype_arms.proofs.Recursive.{quiet}
 use Rattle.supertype_nested.specs.Nested.{SuperTypeOptions, tree_plan}
@@ -43,7 +44,7 @@ pub or_false : (p : Bool) → T (p || false) → T p
 or_false true u = tt
 or_false false u = u
 
-pub chosen : (ok : TreePlan → Bool) (a b : ℕ) (xs : List Arm) → T (ok (roots No)) → T (all_arms ok a b xs)
+pub chosen : (ok : TreePlan → Bool) (a b : ℕ) (xs : List Arm) → T (ok no_type) → T (all_arms ok a b xs)
     → T (ok (choose xs a b))
 chosen ok a b [] o t = o
 chosen ok a b (x ∷ xs) o t =
@@ -61,7 +62,7 @@ takes b p others = elim b [ true ↦ p | false ↦ others ]
 
 -- the arms' right tests before their left ones: the same plan, and it computes where the right kind alone is known
 abbrev pub choose_right : List Arm → ℕ → ℕ → TreePlan
-choose_right [] a b = roots No
+choose_right [] a b = no_type
 choose_right (x ∷ xs) a b = takes (x.right b && x.left a) x.plan (choose_right xs a b)
 
 pub right_first : (xs : List Arm) (a b : ℕ) → choose xs a b ≡ choose_right xs a b
@@ -87,6 +88,7 @@ at_plan o a b = right_first (arms o.allow_implode_list o.allow_primitive_to_stri
 
 -- a test of a plan that answers by the two roots, which holds of all others
 abbrev pub on_roots : (Plan → Bool) → TreePlan → Bool
+on_roots ok no_type = true
 on_roots ok left_type = true
 on_roots ok right_type = true
 on_roots ok (roots p) = ok p
@@ -106,8 +108,12 @@ or_true : (p : Bool) → T (p || true)
 or_true true = tt
 or_true false = tt
 
+-- a plan that makes no inner call
+abbrev pub calls_none : Plan → Bool
+calls_none p = quiet (Some p)
+
 -- only a dyn int on the right is joined by an inner call, with a number or Boolean
-pub no_call : (o : SuperTypeOptions) (a b : ℕ) → is_unknown_int b ≡ false → T (on_roots quiet (tree_plan o a b))
+pub no_call : (o : SuperTypeOptions) (a b : ℕ) → is_unknown_int b ≡ false → T (on_roots calls_none (tree_plan o a b))
 unfolding tree_plan arms unknown_arms
 no_call o a b e = go o.allow_implode_list o.allow_primitive_to_string
   where
@@ -118,13 +124,13 @@ no_call o a b e = go o.allow_implode_list o.allow_primitive_to_string
     hold =
         all_true facts (off (is_primitive_numeric a) (is_unknown_int b) e, (off (is Boolean a) (is_unknown_int b) e, tt))
 
-    go : (i s : Bool) → T (on_roots quiet (choose (arms i s) a b))
-    go i true = chosen (on_roots quiet) a b (arms i true) tt hold
-    go i false = chosen (on_roots quiet) a b (arms i false) tt hold
+    go : (i s : Bool) → T (on_roots calls_none (choose (arms i s) a b))
+    go i true = chosen (on_roots calls_none) a b (arms i true) tt hold
+    go i false = chosen (on_roots calls_none) a b (arms i false) tt hold
 
 -- where the left type is a dyn int, an inner call that would be made is discarded
 abbrev pub discards : ℕ → Plan → Bool
-discards a p = (quiet p || alike p DynNumber) || not (is_unknown_int a)
+discards a p = (quiet (Some p) || alike (Some p) (Some DynNumber)) || not (is_unknown_int a)
 
 pub dyn_discards : (o : SuperTypeOptions) (a b : ℕ) → T (on_roots (discards a) (tree_plan o a b))
 unfolding tree_plan arms unknown_arms is_unknown_int among

@@ -22,7 +22,7 @@ use Rattle.supertype_arms.specs.Node.{value, dyn_int, fits}
 use Rattle.supertype_arms.specs.Supertype.{is, Call, max_dyn, smallest_fitting, dyn_number, same_zone, run}
 use Rattle.supertype_arms.specs.Supertype.{fits_orig_prec_scale, beside_integer}
 use Rattle.supertype_arms.specs.declared.plan.Plan.{Plan}
-use Rattle.supertype_arms.specs.declared.plan.Plan.TheVariants.{No, Left, Right, Kind, Decimals, DecimalInteger}
+use Rattle.supertype_arms.specs.declared.plan.Plan.TheVariants.{Left, Right, Kind, Decimals, DecimalInteger}
 use Rattle.supertype_arms.specs.declared.plan.Plan.TheVariants.{DatetimeDuration, Datetimes, Durations}
 use Rattle.supertype_arms.specs.declared.plan.Plan.TheVariants.{DynNumber, DynBoolean, DynDecimal}
 use Rattle.supertype_arms.proofs.Decimals.{IsDecimal, least, most, within}
@@ -75,7 +75,6 @@ Fitting None = Unit {0}
 
 -- what is asked of two types for that
 abbrev pub Suits : Node → Node → Plan → Type 0
-Suits l r No = Unit {0}
 Suits l r Left = fits l ≡ true
 Suits l r Right = fits r ≡ true
 Suits l r (Kind k) = fits (node k 0) ≡ true
@@ -113,7 +112,6 @@ module _ (call : Call) (s : (l r : Node) → fits l ≡ true → fits r ≡ true
 
   pub run_fits : (p : Plan) → Suits l r p → Fitting (run call p l r)
   unfolding run dyn_number fits argument_fits argument_rule
-  run_fits No h = tt
   run_fits Left h = h
   run_fits Right h = h
   run_fits (Kind k) h = h

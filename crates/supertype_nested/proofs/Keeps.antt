@@ -9,7 +9,7 @@ use Rattle.flat.specs.Tree.{DataType, leaf, list, array, struct, Fields, empty, 
 use Rattle.dtype.specs.Equality.{equal}
 use Rattle.dtype_inner.specs.Inner.{inner_dtype}
 use Rattle.supertype_answer.specs.Join.{root_node}
-use Rattle.supertype_arms.specs.Supertype.{run, TreePlan, left_type, right_type, roots, lists, arrays, implode_left}
+use Rattle.supertype_arms.specs.Supertype.{run, TreePlan, no_type, left_type, right_type, roots, lists, arrays, implode_left}
 use Rattle.supertype_arms.specs.Supertype.{implode_right, first_field, structs, each_field}
 use Rattle.supertype_arms.specs.declared.plan.Plan.{Plan}
 use Rattle.supertype_nested.specs.Nested.{SuperTypeOptions, TreeCall, insert, from_iter, join_held, enter, enter_all}
@@ -162,6 +162,7 @@ module _ (P : ℕ → ℕ → Type 0) (Q : ℕ → Type 0) where
         → ((q : Plan) → p ≡ roots q → If One (tree_of (run (at_roots call) q (root_node l) (root_node r))))
         → If One (run_tree call p l r)
     unfolding run_tree Each
+    run_keeps l r h g no_type e = tt
     run_keeps l r h g left_type e = h
     run_keeps l r h g right_type e = g
     run_keeps l r h g (roots p) e = e p refl

@@ -15,8 +15,8 @@ use Rattle.dtype.specs.Equality.{equal_node, equal}
 use Rattle.dtype_inner.specs.Inner.{inner_dtype}
 use Rattle.flat.specs.declared.Node.{Node}
 use Rattle.supertype_answer.specs.Join.{node}
-use Rattle.supertype_arms.specs.Supertype.{Arm, is, arms, unknown_arms, choose, plan_of, run, inner}
-use Rattle.supertype_arms.specs.Supertype.{supertype_with, leaf_plan, known_supertype, supertype, TreePlan, left_type}
+use Rattle.supertype_arms.specs.Supertype.{Arm, is, arms, unknown_arms, choose, plan_of, run, answered, inner}
+use Rattle.supertype_arms.specs.Supertype.{supertype_with, leaf_plan, known_supertype, supertype, TreePlan, no_type, left_type}
 use Rattle.supertype_arms.specs.Supertype.{right_type, roots, lists, arrays, implode_left, implode_right, first_field}
 use Rattle.supertype_arms.specs.Supertype.{structs, each_field}
 use Rattle.supertype_arms.proofs.Recursive.{known_with, over_call}
@@ -29,6 +29,7 @@ use Rattle.supertype_nested.proofs.Chosen.{all_arms}
 
 -- a plan of an arm that does not implode
 abbrev keeps : TreePlan → Bool
+keeps no_type = true
 keeps left_type = true
 keeps right_type = true
 keeps (roots p) = true
@@ -80,8 +81,9 @@ module _ (a b : ℕ) where
 -- ---- one level
 
 leaf_run : (c : TreeCall) (p : TreePlan) (k a m b : ℕ)
-    → run_tree c p (leaf k a) (leaf m b) ≡ tree_of (run (at_roots c) (leaf_plan p) (node k a) (node m b))
+    → run_tree c p (leaf k a) (leaf m b) ≡ tree_of (answered (at_roots c) (leaf_plan p) (node k a) (node m b))
 unfolding run_tree run inner_dtype head_kind head_arg
+leaf_run c no_type k a m b = refl
 leaf_run c left_type k a m b = refl
 leaf_run c right_type k a m b = refl
 leaf_run c (roots p) k a m b = refl
@@ -112,7 +114,7 @@ module _ (c : TreeCall) (o : SuperTypeOptions) where
       ∙ ap (cond (equal_node k a m b) (Some (leaf k a)))
       (leaf_run c (choose (arms false o.allow_primitive_to_string) k m) k a m b)
       ∙ tree_cond (equal_node k a m b) (Some (node k a))
-      (run (at_roots c) (plan_of o.allow_primitive_to_string k m) (node k a) (node m b))
+      (answered (at_roots c) (plan_of o.allow_primitive_to_string k m) (node k a) (node m b))
 
   pub leaf_with : (k a m b : ℕ) → k ≤ kind.UnknownIntNeg → m ≤ kind.UnknownIntNeg
       → supertype_tree_with c o (leaf k a) (leaf m b)

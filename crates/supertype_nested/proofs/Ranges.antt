@@ -8,8 +8,8 @@ use Rattle.flat.specs.Kind as kind
 use Rattle.flat.specs.Tree.{DataType, leaf, head_kind}
 use Rattle.dtype.specs.Predicate.{is_unknown_int, is_primitive_numeric, is_unknown}
 use Rattle.dtype.proofs.Runs.{says, of_run}
-use Rattle.supertype_arms.specs.Supertype.{is, TreePlan, left_type, roots, implode_left, first_field, each_field}
-use Rattle.supertype_arms.specs.declared.plan.Plan.TheVariants.{No, Kind}
+use Rattle.supertype_arms.specs.Supertype.{is, TreePlan, no_type, left_type, roots, implode_left, first_field, each_field}
+use Rattle.supertype_arms.specs.declared.plan.Plan.TheVariants.{Kind}
 use Rattle.supertype_nested.specs.Nested.{SuperTypeOptions, TreeCall, run_tree, supertype_tree_with}
 use Rattle.supertype_nested.specs.Step.{beside_arms, plan_beside}
 use Rattle.supertype_nested.proofs.Chosen.{takes}
@@ -38,7 +38,7 @@ module _ (k : ℕ) (h : k ≤ kind.UnknownIntNeg) (s : k ≡ kind.String → ⊥
       takes list implode_left
       (takes dyn first_field
       (takes number each_field
-      (takes unknown (roots (Kind kind.UnknownAny)) (roots No))))
+      (takes unknown (roots (Kind kind.UnknownAny)) no_type)))
 
   by_tests : (i : Bool) (n : ℕ)
       → plan_beside i n k
@@ -71,13 +71,13 @@ module _ (k : ℕ) (h : k ≤ kind.UnknownIntNeg) (s : k ≡ kind.String → ⊥
   pub list_any : kind.UnknownAny ≤ k → plan_beside false kind.List k ≡ roots (Kind kind.UnknownAny)
   list_any l = by_tests false kind.List ∙ ap (tested false false false) (unknown l)
 
-  pub list_none : k < kind.UnknownAny → plan_beside false kind.List k ≡ roots No
+  pub list_none : k < kind.UnknownAny → plan_beside false kind.List k ≡ no_type
   list_none l = by_tests false kind.List ∙ ap (tested false false false) (known l)
 
   pub array_any : (i : Bool) → kind.UnknownAny ≤ k → plan_beside i kind.Array k ≡ roots (Kind kind.UnknownAny)
   array_any i l = by_tests i kind.Array ∙ ap (tested false false false) (unknown l)
 
-  pub array_none : (i : Bool) → k < kind.UnknownAny → plan_beside i kind.Array k ≡ roots No
+  pub array_none : (i : Bool) → k < kind.UnknownAny → plan_beside i kind.Array k ≡ no_type
   array_none i l = by_tests i kind.Array ∙ ap (tested false false false) (known l)
 
   -- a Struct
@@ -97,7 +97,7 @@ module _ (k : ℕ) (h : k ≤ kind.UnknownIntNeg) (s : k ≡ kind.String → ⊥
       no_number = sym (of_run is_primitive_numeric false kind.UnknownAny 2 (unfold says in tt) k (omega arith))
 
   pub struct_none : (i : Bool) → k < kind.UnknownAny → is_primitive_numeric k ≡ false
-      → plan_beside i kind.Struct k ≡ roots No
+      → plan_beside i kind.Struct k ≡ no_type
   struct_none i l p = by_tests i kind.Struct ∙ (λ j. tested false (no_dyn (omega arith) j) (p j) (known l j))
 
 -- ---- the answer by the plan

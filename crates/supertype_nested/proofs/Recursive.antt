@@ -19,7 +19,7 @@ use Rattle.dtype.proofs.Runs.{says, of_run}
 use Rattle.dtype_inner.specs.Inner.{inner_dtype}
 use Rattle.flat.specs.declared.Node.{Node}
 use Rattle.supertype_answer.specs.Join.{root_node}
-use Rattle.supertype_arms.specs.Supertype.{run, TreePlan, left_type, right_type, roots, lists, arrays, implode_left}
+use Rattle.supertype_arms.specs.Supertype.{run, TreePlan, no_type, left_type, right_type, roots, lists, arrays, implode_left}
 use Rattle.supertype_arms.specs.Supertype.{implode_right, first_field, structs, each_field}
 use Rattle.supertype_arms.specs.declared.plan.Plan.{Plan}
 use Rattle.supertype_arms.specs.declared.plan.Plan.TheVariants.{DynNumber}
@@ -32,17 +32,19 @@ use Rattle.supertype_nested.specs.Nested.{inner_tree, supertype_tree_with, get_s
 use Rattle.supertype_nested.specs.Nested.{supertype_tree}
 use Rattle.supertype_nested.proofs.Found.{if_weaken, bind_same, cond_same}
 use Rattle.supertype_nested.proofs.Smaller.{Below, AtMost, Smaller, from_sizes, enter_sizes, inner_size, in_smaller}
-use Rattle.supertype_nested.proofs.Chosen.{or_false, on_roots, no_call, discards, dyn_discards}
+use Rattle.supertype_nested.proofs.Chosen.{or_false, on_roots, calls_none, no_call, discards, dyn_discards}
 
 -- ---- two roots that are no dyn ints
 
 -- their plan makes no inner call: nothing is nested in them
 module _ (c d : TreeCall) (k a m b : ℕ) where
-  leaves_run : (p : TreePlan) → T (on_roots quiet p) → run_tree c p (leaf k a) (leaf m b) ≡ run_tree d p (leaf k a) (leaf m b)
+  leaves_run : (p : TreePlan) → T (on_roots calls_none p) → run_tree c p (leaf k a) (leaf m b) ≡ run_tree d p (leaf k a) (leaf m b)
   unfolding run_tree inner_dtype
+  leaves_run no_type t = refl
   leaves_run left_type t = refl
   leaves_run right_type t = refl
-  leaves_run (roots p) t = ap tree_of (quiet_run (at_roots c) (at_roots d) (root_node (leaf k a)) (root_node (leaf m b)) p t)
+  leaves_run (roots p) t =
+      ap tree_of (quiet_run (at_roots c) (at_roots d) (root_node (leaf k a)) (root_node (leaf m b)) (Some p) t)
   leaves_run lists t = refl
   leaves_run arrays t = refl
   leaves_run implode_left t = refl
@@ -165,16 +167,19 @@ module _ (c d : TreeCall) (s : Smaller c) (n : ℕ) (g : Agree n c d) where
       → run (at_roots c) p l r ≡ run (at_roots d) p l r
   roots_same l r p t = go (is_unknown_int l.kind) refl t
     where
-      go : (b : Bool) → is_unknown_int l.kind ≡ b → T ((quiet p || alike p DynNumber) || not b)
+      go : (b : Bool) → is_unknown_int l.kind ≡ b → T ((quiet (Some p) || alike (Some p) (Some DynNumber)) || not b)
           → run (at_roots c) p l r ≡ run (at_roots d) p l r
-      go true e u = dyn_run (at_roots c) (at_roots d) l r e p (or_false (quiet p || alike p DynNumber) u)
+      go true e u =
+          dyn_run (at_roots c) (at_roots d) l r e (Some p)
+          (or_false (quiet (Some p) || alike (Some p) (Some DynNumber)) u)
       go false e u =
           runs_same (at_roots c) (at_roots d) l r
-          (λ k h. ap root_found (g.leaves l.kind l.arg k 0 e (below_known k h))) p
+          (λ k h. ap root_found (g.leaves l.kind l.arg k 0 e (below_known k h))) (Some p)
 
   run_same : (l r : DataType) → size l + size r ≤ n → (p : TreePlan) → T (on_roots (discards (head_kind l)) p)
       → run_tree c p l r ≡ run_tree d p l r
   unfolding run_tree
+  run_same l r h no_type t = refl
   run_same l r h left_type t = refl
   run_same l r h right_type t = refl
   run_same l r h (roots p) t = ap tree_of (roots_same (root_node l) (root_node r) p t)

@@ -13,7 +13,7 @@ use Rattle.dtype.specs.Equality.{equal}
 use Rattle.dtype_inner.specs.Inner.{inner_dtype}
 use Rattle.flat.specs.declared.Node.{Node}
 use Rattle.supertype_answer.specs.Join.{root_node}
-use Rattle.supertype_arms.specs.Supertype.{run, TreePlan, left_type, right_type, roots, lists, arrays, implode_left}
+use Rattle.supertype_arms.specs.Supertype.{run, TreePlan, no_type, left_type, right_type, roots, lists, arrays, implode_left}
 use Rattle.supertype_arms.specs.Supertype.{implode_right, first_field, structs, each_field}
 use Rattle.supertype_nested.specs.Nested.{SuperTypeOptions, TreeCall, insert, from_iter, join_held, enter, enter_all}
 use Rattle.supertype_nested.specs.Nested.{union_fields, union_struct_fields, Zip, names_differ, no_join, joined, zip_on}
@@ -221,6 +221,7 @@ module _ (call : TreeCall) (s : Smaller call) where
 
   run_sizes : (l r : DataType) (p : TreePlan) → If (Below (size l + size r)) (run_tree call p l r)
   unfolding run_tree
+  run_sizes l r no_type = tt
   run_sizes l r left_type = let h = size_pos r in omega arith
   run_sizes l r right_type = let h = size_pos l in omega arith
   run_sizes l r (roots p) =

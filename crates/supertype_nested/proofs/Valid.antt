@@ -23,7 +23,7 @@ use Rattle.supertype_answer.specs.Join.{root_node, type_of}
 use Rattle.supertype_arms.specs.Node.{zone, fits}
 use Rattle.supertype_arms.specs.Supertype.{is, arms, unknown_arms, choose, run, TreePlan}
 use Rattle.supertype_arms.specs.declared.plan.Plan.{Plan}
-use Rattle.supertype_arms.specs.declared.plan.Plan.TheVariants.{No, Left, Right, Kind, Decimals, DecimalInteger}
+use Rattle.supertype_arms.specs.declared.plan.Plan.TheVariants.{Left, Right, Kind, Decimals, DecimalInteger}
 use Rattle.supertype_arms.specs.declared.plan.Plan.TheVariants.{DatetimeDuration, Datetimes, Durations}
 use Rattle.supertype_arms.specs.declared.plan.Plan.TheVariants.{DynNumber, DynBoolean, DynDecimal}
 use Rattle.supertype_arms.proofs.Decimals.{IsDecimal}
@@ -38,7 +38,6 @@ use Rattle.supertype_nested.proofs.Fits.{Fitting, Suits, zone_below, run_fits}
 
 -- by plan: the kinds of the types that it makes an argument of, and a kind that it answers is a type with the argument 0
 abbrev suits : ℕ → ℕ → Plan → Bool
-suits a b No = true
 suits a b Left = false
 suits a b Right = false
 suits a b (Kind k) = leaf_fits k 0
@@ -162,7 +161,6 @@ module _ (l : DataType) (h : LeavesFit l) where
 roots_suit : (l r : DataType) → LeavesFit l → LeavesFit r → (p : Plan) → T (suits (head_kind l) (head_kind r) p)
     → Suits (root_node l) (root_node r) p
 unfolding fits
-roots_suit l r h g No t = tt
 roots_suit l r h g Left t = absurd t
 roots_suit l r h g Right t = absurd t
 roots_suit l r h g (Kind k) t = is_true (leaf_fits k 0) t

@@ -12,7 +12,7 @@ use Rattle.dtype_inner.specs.Inner.{inner_dtype}
 use Rattle.flat.specs.declared.Node.{Node}
 use Rattle.supertype_answer.specs.Join.{node, root_node, type_of}
 use Rattle.supertype_arms.specs.Supertype.{arms, choose, Call, run}
-use Rattle.supertype_arms.specs.Supertype.{TreePlan, left_type, right_type, roots}
+use Rattle.supertype_arms.specs.Supertype.{TreePlan, no_type, left_type, right_type, roots}
 use Rattle.supertype_arms.specs.Supertype.{lists, arrays, implode_left, implode_right, first_field, structs, each_field}
 
 -- `SuperTypeOptions`: its two flags
@@ -127,6 +127,7 @@ at_roots get_supertype l r = root_found (get_supertype (type_of l) (type_of r))
 
 -- what a plan answers for two types
 unfoldable pub run_tree : TreeCall → TreePlan → DataType → DataType → Option DataType
+run_tree get_supertype no_type l r = None
 run_tree get_supertype left_type l r = Some l
 run_tree get_supertype right_type l r = Some r
 run_tree get_supertype (roots p) l r = tree_of (run (at_roots get_supertype) p (root_node l) (root_node r))

@@ -8,9 +8,9 @@ use Rattle.flat.specs.Tree.{DataType, leaf, Fields, empty, field}
 use Rattle.dtype.specs.Predicate.{is_unknown_int, is_primitive_numeric, is_unknown}
 use Rattle.dtype.specs.Equality.{equal}
 use Rattle.flat.specs.declared.Node.{Node}
-use Rattle.supertype_arms.specs.Supertype.{Arm, arm, is, every, choose, TreePlan, left_type, roots, known_supertype}
+use Rattle.supertype_arms.specs.Supertype.{Arm, arm, is, every, choose, TreePlan, no_type, left_type, roots, known_supertype}
 use Rattle.supertype_arms.specs.Supertype.{implode_left, implode_right, first_field, each_field}
-use Rattle.supertype_arms.specs.declared.plan.Plan.TheVariants.{No, Kind}
+use Rattle.supertype_arms.specs.declared.plan.Plan.TheVariants.{Kind}
 use Rattle.supertype_nested.specs.Nested.{TreeCall, at_roots, Zip, names_differ, no_join, joined}
 use Rattle.supertype_nested.specs.Union.{seen}
 
@@ -46,7 +46,7 @@ plan_beside implode n k = choose (beside_arms implode) n k
 
 -- the plan of a nested type's kind n with a leaf on its left, whichever leaf that is
 unfoldable pub plan_before : Bool → ℕ → TreePlan
-plan_before implode n = cond (is kind.List n && implode) implode_right (roots No)
+plan_before implode n = cond (is kind.List n && implode) implode_right no_type
 
 -- ---- two Structs with as many fields
 

@@ -7,19 +7,13 @@ ghost use Rattle.supertype_numbers.specs.DynInt.{materialize_dyn_int_pos, materi
 use flat::Node;
 use flat::kind::Kind;
 
-// One past the largest argument of a number that Int32 holds.
-const INT32_END: u64 = 0x8000_0000;
-
-// One past the largest argument of a number that Int64 holds.
-const INT64_END: u64 = 0x8000_0000_0000_0000;
-
 // The first of Int32, Int64 and UInt64 that holds v, else Int128.
 pub fn materialize_dyn_int(v: Node) -> u8
     ensures { result ≡ materialize_dyn_int (value_of v.kind v.arg) }
 {
-    if v.arg < INT32_END {
+    if v.arg <= i32::MAX as u64 {
         Kind::INT32
-    } else if v.arg < INT64_END {
+    } else if v.arg <= i64::MAX as u64 {
         Kind::INT64
     } else if v.kind == Kind::UNKNOWN_INT_POS {
         Kind::UINT64
@@ -35,11 +29,11 @@ pub fn materialize_dyn_int_pos(v: Node) -> u8
     if v.kind != Kind::UNKNOWN_INT_POS {
         return Kind::NULL;
     }
-    if v.arg < 0x100 {
+    if v.arg <= u8::MAX as u64 {
         Kind::UINT8
-    } else if v.arg < 0x1_0000 {
+    } else if v.arg <= u16::MAX as u64 {
         Kind::UINT16
-    } else if v.arg < 0x1_0000_0000 {
+    } else if v.arg <= u32::MAX as u64 {
         Kind::UINT32
     } else {
         Kind::UINT64
@@ -50,13 +44,13 @@ pub fn materialize_dyn_int_pos(v: Node) -> u8
 pub fn materialize_smallest_dyn_int(v: Node) -> u8
     ensures { result ≡ materialize_smallest_dyn_int (value_of v.kind v.arg) }
 {
-    if v.arg < 0x80 {
+    if v.arg <= i8::MAX as u64 {
         Kind::INT8
-    } else if v.arg < 0x8000 {
+    } else if v.arg <= i16::MAX as u64 {
         Kind::INT16
-    } else if v.arg < INT32_END {
+    } else if v.arg <= i32::MAX as u64 {
         Kind::INT32
-    } else if v.arg < INT64_END {
+    } else if v.arg <= i64::MAX as u64 {
         Kind::INT64
     } else if v.kind == Kind::UNKNOWN_INT_POS {
         Kind::UINT64

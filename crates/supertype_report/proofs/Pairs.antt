@@ -1,11 +1,10 @@
 -- The supertype of two integer types, by tests that antt computes over all pairs of the ten. Assumes nothing.
 use Rattle.std.specs.Prelude.{Option, None, Some}
-use mathlib.Core.Path.{◌≡◌, refl, sym, ap, ap₂, subst, ◌∙◌}
+use mathlib.Core.Path.{◌≡◌, refl, sym, ap, subst}
 use mathlib.Core.Bool.{Bool, true, false, cond, not, ◌&&◌}
 use mathlib.Core.Logic.{◌↔◌}
-use Prim.Native.Nat.{ℕ, ◌≤◌, ◌<◌, min, max}
+use Prim.Native.Nat.{ℕ}
 use native.Mathlib.Omega.{arith}
-use native.Mathlib.Decide.{dec_lt}
 use borrow.Author.Tests.{not-true}
 use lib.Dec.{T, eqb, eqb→eq}
 use Rattle.flat.specs.Kind.{Int128, Float64}
@@ -20,11 +19,10 @@ use Rattle.supertype_numbers.proofs.Tests.{to_listed, pairs, at_pair}
 use Rattle.supertype_numbers.proofs.Ranges.{inside, includes}
 use Rattle.supertype_lossless.specs.Lossless.{upcast_of}
 use Rattle.supertype_lossless.proofs.Upcasts.{right as upcasts}
-use Rattle.supertype_arms.specs.declared.plan.Plan.TheVariants.{Kind}
-use Rattle.supertype_arms.specs.Rule.{rule_of, Settles}
+use Rattle.supertype_arms.specs.Rule.{IsSupertype}
 use Rattle.supertype_arms.specs.Supertype.{run, inner, supertype_with, known_supertype, supertype}
 use Rattle.supertype_arms.proofs.Areas.{right_at}
-use Rattle.supertype_arms.proofs.Bare.{of_one, up, down}
+use Rattle.supertype_arms.proofs.Bare.{of_one}
 use Rattle.supertype_report.specs.Laws.{uint128_with_signed, uint64_with_signed}
 
 abbrev kind_of : Option ℕ → ℕ
@@ -145,22 +143,10 @@ module _ (a b : ℕ) (p : Listed a) (q : Listed b) where
 
 -- ---- it is the code's
 
-module _ {a b : ℕ} where
-  pub of_equal : a ≡ b → supertype false false (node a 0) (node b 0) ≡ Some (node a 0)
-  unfolding supertype
-  of_equal e = sym (of_one known_supertype false e)
+pub of_equal : {a b : ℕ} → a ≡ b → supertype false false (node a 0) (node b 0) ≡ Some (node a 0)
+unfolding supertype
+of_equal e = sym (of_one known_supertype false e)
 
-  pub in_either : {r m n : ℕ} → (a ≡ b → ⊥) → a ≤ Float64 → b ≤ Float64 → m ≡ min a b → n ≡ max a b
-      → Settles m n (Kind r) → supertype false false (node a 0) (node b 0) ≡ Some (node r 0)
-  unfolding supertype run
-  in_either {r} {m} {n} d f g low high e = go (dec_lt a b)
-    where
-      go : Dec (a < b) → supertype_with known_supertype false (node a 0) (node b 0) ≡ Some (node r 0)
-      go (yes h) =
-          let i : m ≡ a = omega arith in
-          let j : n ≡ b = omega arith in
-          sym (up known_supertype false h g (e false ∙ ap₂ (rule_of false) i j))
-      go (no h) =
-          let i : m ≡ b = omega arith in
-          let j : n ≡ a = omega arith in
-          sym (down known_supertype false (omega arith) f (e false ∙ ap₂ (rule_of false) i j))
+pub of_kinds : (a b k : ℕ) → IsSupertype a b k → supertype false false (node a 0) (node b 0) ≡ Some (node k 0)
+unfolding supertype
+of_kinds a b k e = e known_supertype false

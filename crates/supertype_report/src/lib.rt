@@ -1,18 +1,16 @@
 // What joining does to the whole numbers of two columns.
 #![tactic(auto)]
 
-ghost use Rattle.std.specs.Prelude.{◌≡◌, false, Some};
+ghost use Rattle.std.specs.Prelude.{◌≡◌};
 ghost use Rattle.flat.specs.Reading.{reading};
-ghost use Rattle.supertype_answer.specs.Join.{node};
 ghost use Rattle.supertype_numbers.specs.Range.{Listed};
-ghost use Rattle.supertype_arms.specs.Supertype.{supertype};
 ghost use Rattle.supertype_report.specs.Report.{report_of, roots_report, types_report, report_value};
 
 use flat::error::Error;
 use flat::kind::Kind;
 use flat::reply::Value;
 use flat::{Flat, Node};
-use supertype_arms::number::numeric;
+use supertype_arms::number::numeric_supertype;
 use supertype_lossless::upcast::upcast_kinds;
 use supertype_numbers::integer::{includes, is_listed};
 
@@ -35,23 +33,12 @@ impl Value for Report {
     }
 }
 
-// The kind of the supertype of two integer types.
-fn integer_supertype(a: u8, b: u8) -> u8
-    requires { Listed a × Listed b }
-    ensures { supertype false false (node a 0) (node b 0) ≡ Some (node result 0) }
-{
-    if a == b {
-        return a;
-    }
-    numeric(a.min(b), a.max(b))
-}
-
 // The report on two integer types.
 fn report_integers(a: u8, b: u8) -> Report
     requires { Listed a × Listed b }
     ensures { result ≡ report_of a b }
 {
-    let t = integer_supertype(a, b);
+    let t = numeric_supertype(a, b);
     if t <= Kind::INT128 && includes(t, a) && includes(t, b) {
         return Report::Kept;
     }

@@ -9,14 +9,14 @@ use Rattle.supertype.proofs.node.beside_integer.Goals.{Start}
 decimal : (c : Start) → IsDecimal c.args.n
 decimal c = record { kind = c.requires.0; fitting = c.requires.1 }
 
-pub overflow_sub-precision : goal.overflow_sub-precision
-overflow_sub-precision c = omega (arith, within (decimal (goal.at.overflow_sub-precision c).Start))
+pub overflow_sub-parts : goal.overflow_sub-parts
+overflow_sub-parts c = omega (arith, within (decimal (goal.at.overflow_sub-parts c).Start))
 
-pub returns-then-digits-precision : goal.returns-then-digits-precision
-returns-then-digits-precision c =
-    kept (decimal (goal.at.returns-then-digits-precision c).Start) c.requires.2 (omega (arith, c.digits.ensures))
+pub returns-then-digits-parts : goal.returns-then-digits-parts
+returns-then-digits-parts c =
+    kept (decimal (goal.at.returns-then-digits-parts c).Start) c.requires.2 (omega (arith, c.digits.ensures))
 
-pub returns-else-digits-precision : goal.returns-else-digits-precision
-returns-else-digits-precision c =
+pub returns-else-digits-parts : goal.returns-else-digits-parts
+returns-else-digits-parts c =
     c.widened.ensures
-    ∙ raised (decimal (goal.at.returns-else-digits-precision c).Start) c.requires.2 (omega (arith, c.digits.ensures))
+    ∙ raised (decimal (goal.at.returns-else-digits-parts c).Start) c.requires.2 (omega (arith, c.digits.ensures))

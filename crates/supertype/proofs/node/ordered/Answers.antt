@@ -1,16 +1,17 @@
 -- `supertype::node::ordered` meets its contract. Assumes nothing.
 use mathlib.Core.Path.{◌≡◌, sym, ap, ◌∙◌}
-use Rattle.std.specs.Prelude.{Some}
-use native.Mathlib.Omega.{arith}
+use Rattle.std.specs.Prelude.{Option, Some}
+use borrow.Author.Tests.{eqb-true, eqb-false}
 use Rattle.supertype_arms.specs.declared.plan.Plan.{Plan}
-use Rattle.supertype.proofs.ByPlan.{Planned, none, left, right, kind, decimals, decimal_kinds, decimal_integer}
+use Rattle.supertype_arms.specs.Supertype.{answered, known_supertype}
+use Rattle.supertype.proofs.ByPlan.{Planned, left, right, kind, decimals, decimal_kinds, decimal_integer}
 use Rattle.supertype.proofs.ByPlan.{dyn_decimal, datetime_duration, one_zone, two_zones, durations}
 use Rattle.supertype.proofs.ByPlan.{number_kinds, number, boolean}
 use Rattle.supertype.proofs.node.ordered.Goals as goal
 use Rattle.supertype.proofs.node.ordered.Goals.{After-planned}
 
 -- where the plan was told
-told : (c : After-planned) {p : Plan} → c.planned.result ≡ p
+told : (c : After-planned) {p : Option Plan} → c.planned.result ≡ p
     → let a = c.args in Planned a.to_string a.l a.r p
 told c e =
     let pre = c.requires in
@@ -22,8 +23,10 @@ beside_integer-requires c = decimal_kinds (told (goal.at.beside_integer-requires
 pub dyn_number-requires : goal.dyn_number-requires
 dyn_number-requires c = number_kinds (told (goal.at.dyn_number-requires c).After-planned (cc))
 
-pub returns-in-No : goal.returns-in-No
-returns-in-No c = none (told (goal.at.returns-in-No c).After-planned (cc))
+pub returns-in_err-planned : goal.returns-in_err-planned
+returns-in_err-planned c =
+    c.from_residual.ensures
+    ∙ ap (λ (p : Option Plan). answered known_supertype p c.args.l c.args.r) c.in_err-planned.ensures
 
 pub returns-in-Left : goal.returns-in-Left
 returns-in-Left c = left (told (goal.at.returns-in-Left c).After-planned (cc))
@@ -45,10 +48,13 @@ returns-in-DatetimeDuration c = datetime_duration (told (goal.at.returns-in-Date
 
 pub returns-in-Datetimes : goal.returns-in-Datetimes
 returns-in-Datetimes c =
-    one_zone (told (goal.at.returns-in-Datetimes c).After-planned (cc)) (omega arith) c.datetime-in-Datetimes.ensures
+    one_zone (told (goal.at.returns-in-Datetimes c).After-planned (c.in_ok-planned.was ∙ ap Some c.in-Datetimes.is))
+    (eqb-true _ _ (sym c.same_zone.ensures ∙ c.if-same_zone.true)) c.datetime-in-Datetimes.ensures
 
 pub returns-in-Datetimes-2 : goal.returns-in-Datetimes-2
-returns-in-Datetimes-2 c = two_zones (told (goal.at.returns-in-Datetimes-2 c).After-planned (cc)) (omega arith)
+returns-in-Datetimes-2 c =
+    two_zones (told (goal.at.returns-in-Datetimes-2 c).After-planned (c.in_ok-planned.was ∙ ap Some c.in-Datetimes.is))
+    (eqb-false _ _ (sym c.same_zone.ensures ∙ c.if-same_zone.false))
 
 pub returns-in-Durations : goal.returns-in-Durations
 returns-in-Durations c = durations (told (goal.at.returns-in-Durations c).After-planned (cc)) c.max.ensures

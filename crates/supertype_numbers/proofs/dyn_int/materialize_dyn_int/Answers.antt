@@ -4,13 +4,13 @@ use native.Mathlib.Omega.{arith}
 use Rattle.supertype_numbers.proofs.DynInts.{first, dyn_int_lem, if_any, if_pos, if_neg}
 use Rattle.supertype_numbers.proofs.dyn_int.materialize_dyn_int.Goals as goal
 
-pub returns-then-v-lt-INT32_END : goal.returns-then-v-lt-INT32_END
+pub returns-then-v : goal.returns-then-v
 unfolding first
-returns-then-v-lt-INT32_END c = if_any dyn_int_lem 0 (2 ^ 31) _ _ _ (omega arith) (omega arith) tt tt
+returns-then-v c = if_any dyn_int_lem 0 (2 ^ 31) _ _ _ (omega arith) (omega arith) tt tt
 
-pub returns-then-v-lt-INT64_END : goal.returns-then-v-lt-INT64_END
+pub returns-then-v-2 : goal.returns-then-v-2
 unfolding first
-returns-then-v-lt-INT64_END c = if_any dyn_int_lem (2 ^ 31) (2 ^ 63) _ _ _ (omega arith) (omega arith) tt tt
+returns-then-v-2 c = if_any dyn_int_lem (2 ^ 31) (2 ^ 63) _ _ _ (omega arith) (omega arith) tt tt
 
 pub returns-then-v-eq-UNKNOWN_INT_POS : goal.returns-then-v-eq-UNKNOWN_INT_POS
 unfolding first
