@@ -3,7 +3,7 @@ ghost use Rattle.std.specs.Prelude.{◌≡◌};
 ghost use Rattle.channels.specs.Merge.{outcome_of};
 ghost use Rattle.capi.specs.Reply.{outcome_reply, read_encoded, read_flat};
 
-use channels::{ChannelTypes, Outcome};
+use channels::ChannelTypes;
 use flat::reply::Reply;
 
 // The reply to a merge, beside the types as it leaves them.
@@ -12,17 +12,6 @@ use flat::reply::Reply;
 pub struct TypesReply {
     pub reply: Reply,
     pub types: ChannelTypes,
-}
-
-impl From<Outcome> for TypesReply {
-    ghost from_gives = { λ outcome given. given ≡ outcome_reply outcome };
-
-    fn from(outcome: Outcome) -> TypesReply {
-        TypesReply {
-            reply: Reply::from(outcome.answer),
-            types: outcome.types,
-        }
-    }
 }
 
 // Merges the type of a column into a channel of the lent codes. Gives the code that the channel now holds.
@@ -63,5 +52,10 @@ pub extern "C" fn lz_flat_channel_merged(
 ) -> TypesReply
     ensures { result ≡ outcome_reply (outcome_of ChannelTypes.CHANNELS types channel (read_flat kinds.now args.now)) }
 {
-    TypesReply::from(types.merge(channel, kinds, args))
+    // No From of an outcome: a C entry point's file may not say `for`, so that no logic stands in it.
+    let next = types.merge(channel, kinds, args);
+    TypesReply {
+        reply: Reply::from(next.answer),
+        types: next.types,
+    }
 }

@@ -1,4 +1,5 @@
 // The C entry points, one line each: a call of a proved function, whose answer is given as two numbers.
+// Slices, flags as bytes and numbers are what C can hand in: a slice is a pointer and a length there.
 #![tactic(auto)]
 
 mod build;

@@ -4,10 +4,9 @@
 -- is of the corner n, `refusal n` is a call that is refused by n, `not_refused` a call that is not refused, and
 -- `requested n` is of the request n. Assumes nothing: these are definitions.
 use Rattle.std.specs.Prelude.{◌≡◌, Bool, true, false, cond, ◌&&◌, ℕ, ◌+◌, ◌-◌, ◌*◌, ◌^◌, ℤ, pos, negsuc, neg_ℤ}
-use Rattle.std.specs.Prelude.{replicate}
+use Rattle.std.specs.Prelude.{replicate, None, Some}
 use Rattle.std.specs.List.{flat_map}
 use mathlib.Core.List.{List, [], ◌∷◌, ◌++◌, map, flatten}
-use Rattle.std.specs.Prelude.{None, Some}
 use Rattle.flat.specs.Kind
 use Rattle.flat.specs.Tree.{DataType, leaf, list, array, struct, Fields, empty, field, kinds_of, args_of}
 use Rattle.flat.specs.Reading.{type}
