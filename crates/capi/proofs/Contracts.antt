@@ -14,8 +14,6 @@ use contract.Monad.{Fun, fact}
 use denote.Ref.{Bor}
 use denote.MutBor.{MutBor}
 use Rattle.flat.specs.declared.TheConstants.Flat.{MAX_NODES, MAX_DEPTH}
-use Rattle.encoded.specs.declared.TheConstants.Encoding.{ARGUMENT_BYTES}
-use Rattle.encoded.specs.Encoding.{decoding}
 use Rattle.channels.specs.declared.ChannelTypes.{ChannelTypes}
 use Rattle.channels.specs.declared.Outcome.{Outcome}
 use Rattle.channels.specs.declared.TheConstants.ChannelTypes.{CHANNELS}
@@ -24,7 +22,7 @@ use Rattle.channels.specs.Model.{Merge, flat_merge}
 use Rattle.channels.specs.Rule.{Run}
 use Rattle.std.specs.Prelude.{Result}
 use Rattle.flat.specs.declared.error.Error.{Error}
-use Rattle.capi.specs.Reply.{merged_reply, outcome_reply}
+use Rattle.capi.specs.Reply.{read_encoded, merged_reply, outcome_reply}
 use Rattle.flat.specs.declared.reply.Reply.{Reply}
 use Rattle.capi.specs.declared.channel.TypesReply.{TypesReply}
 use Rattle.capi.specs.contracts.channel.lz_channel_merge as merge
@@ -53,7 +51,7 @@ module _ {M : Type 1} {𝓤 : Ura M} (𝓛 : Logic 𝓤) (mem : Memory → SProp
   -- of an encoded type and the lent codes
   pub encoded : (cs cs' : MutBor (List ℕ)) (ch' : ℕ) (column column' : Bor (List ℕ)) (r : Reply)
       → (merge.clauses 𝓛 mem run (κ, (κ₁, tt)) (cs, (ch, (column, tt)))).ensures tt r (cs', (ch', (column', tt)))
-      ≡ (let m : Merge = record { channel = ch; column = decoding ARGUMENT_BYTES MAX_NODES MAX_DEPTH column.now } in
+      ≡ (let m : Merge = record { channel = ch; column = read_encoded column.now } in
       fact 𝓤 (RepliesTo CHANNELS (record { codes = cs.now }) m (record { codes = cs'.now }) r))
   encoded cs cs' ch' column column' r = refl
 

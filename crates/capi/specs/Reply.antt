@@ -1,6 +1,13 @@
--- The replies of the C entry points: document 01's number, and a value beside it. Assumes nothing: these are
--- definitions.
-use Rattle.std.specs.Prelude.{◌≡◌, ℕ, Bool, Option, Result, unwrap_or}
+-- What the C entry points are given, and their replies: document 01's number, and a value beside it. The limits and the
+-- width of an argument are the code's own. Assumes nothing: these are definitions.
+use Rattle.std.specs.Prelude.{◌≡◌, ℕ, Bool, not, eqb, List, length, Option, Result, unwrap_or}
+use Rattle.flat.specs.declared.TheConstants.Flat.{MAX_NODES, MAX_DEPTH}
+use Rattle.flat.specs.Reading.{Reading, reading}
+use Rattle.flat.specs.Output.{fitting, Writes, fitting_found, WritesFound}
+use Rattle.encoded.specs.declared.TheConstants.Encoding.{ARGUMENT_BYTES}
+use Rattle.encoded.specs.Encoding.{decoding}
+use Rattle.encoded.specs.Answer.{fitting_bytes, Encodes}
+use Rattle.encoded.specs.Found.{fitting_found_bytes, EncodesFound}
 use Rattle.flat.specs.Reply.{reply_of, nothing, truth, decision}
 use Rattle.flat.specs.declared.error.Error.{Error}
 use Rattle.flat.specs.declared.reply.Reply.{Reply}
@@ -10,6 +17,17 @@ use Rattle.supertype_report.specs.Report.{report_value}
 use Rattle.supertype_report.specs.declared.Report.{Report}
 use Rattle.channels.specs.declared.Outcome.{Outcome}
 use Rattle.capi.specs.declared.channel.TypesReply.{TypesReply}
+
+-- what two arrays are, and what bytes are
+abbrev pub read_flat : (kinds args : List ℕ) → Reading
+read_flat = reading MAX_NODES MAX_DEPTH
+
+abbrev pub read_encoded : List ℕ → Reading
+read_encoded = decoding ARGUMENT_BYTES MAX_NODES MAX_DEPTH
+
+-- a flag, which is off where it is 0
+abbrev pub flag_on : ℕ → Bool
+flag_on flag = not (eqb flag 0)
 
 -- A reply in two numbers to an answer of which something holds: what the call leaves in the arrays lent to it, and that
 -- the answer is the definition's.
@@ -53,3 +71,22 @@ merged_reply = reply_of (λ code. code)
 -- the code now held, beside the types as the merge leaves them
 abbrev pub outcome_reply : Outcome → TypesReply
 outcome_reply o = record { reply = merged_reply o.answer; types = o.types }
+
+-- The reply to a call that writes a type, where it fits, over the front of what is lent to it: from what the lent bytes
+-- or arrays hold to what they hold then.
+abbrev pub RepliesBytes : Reading → List ℕ → List ℕ → Reply → Type 0
+RepliesBytes new held written =
+    Replies (Encodes ARGUMENT_BYTES (fitting_bytes ARGUMENT_BYTES (length held) new) held written) written_reply
+
+abbrev pub RepliesArrays : Reading → (ks xs ks' xs' : List ℕ) → Reply → Type 0
+RepliesArrays new ks xs ks' xs' = Replies (Writes (fitting (length ks) (length xs) new) ks xs ks' xs') written_reply
+
+-- the same where there may be none
+abbrev pub RepliesFoundBytes : Option Reading → List ℕ → List ℕ → Reply → Type 0
+RepliesFoundBytes found held written =
+    let fits = fitting_found_bytes ARGUMENT_BYTES (length held) found in
+    Replies (EncodesFound ARGUMENT_BYTES fits held written) optional_reply
+
+abbrev pub RepliesFoundArrays : Option Reading → (ks xs ks' xs' : List ℕ) → Reply → Type 0
+RepliesFoundArrays found ks xs ks' xs' =
+    Replies (WritesFound (fitting_found (length ks) (length xs) found) ks xs ks' xs') optional_reply

@@ -1,13 +1,9 @@
 // The calls that merge a column's type into a channel: the codes of the channels are lent, or come and go by value.
 ghost use Rattle.std.specs.Prelude.{◌≡◌};
-ghost use Rattle.flat.specs.Reading.{reading};
-ghost use Rattle.encoded.specs.Encoding.{decoding};
 ghost use Rattle.channels.specs.Merge.{outcome_of};
-ghost use Rattle.capi.specs.Reply.{outcome_reply};
+ghost use Rattle.capi.specs.Reply.{outcome_reply, read_encoded, read_flat};
 
 use channels::ChannelTypes;
-use encoded::Encoding;
-use flat::Flat;
 use flat::reply::Reply;
 
 // The reply to a merge, beside the types as it leaves them.
@@ -25,7 +21,7 @@ pub extern "C" fn lz_channel_merge(
     channel: usize,
     column: &[u8],
 ) -> Reply
-    ensures { let given = decoding Encoding.ARGUMENT_BYTES Flat.MAX_NODES Flat.MAX_DEPTH column.now in
+    ensures { let given = read_encoded column.now in
         let outcome = outcome_of ChannelTypes.CHANNELS (record { codes = codes.old }) channel given in
         record { reply = result; types = record { codes = codes.new } } ≡ outcome_reply outcome }
 {
@@ -40,8 +36,7 @@ pub extern "C" fn lz_flat_channel_merge(
     kinds: &[u8],
     args: &[u64],
 ) -> Reply
-    ensures { let given = reading Flat.MAX_NODES Flat.MAX_DEPTH kinds.now args.now in
-        let outcome = outcome_of ChannelTypes.CHANNELS types.old channel given in
+    ensures { let outcome = outcome_of ChannelTypes.CHANNELS types.old channel (read_flat kinds.now args.now) in
         record { reply = result; types = types.new } ≡ outcome_reply outcome }
 {
     Reply::from(channels::merge_in_place(types, channel, kinds, args))
@@ -55,9 +50,9 @@ pub extern "C" fn lz_flat_channel_merged(
     kinds: &[u8],
     args: &[u64],
 ) -> TypesReply
-    ensures { let given = reading Flat.MAX_NODES Flat.MAX_DEPTH kinds.now args.now in
-        result ≡ outcome_reply (outcome_of ChannelTypes.CHANNELS types channel given) }
+    ensures { result ≡ outcome_reply (outcome_of ChannelTypes.CHANNELS types channel (read_flat kinds.now args.now)) }
 {
+    // No From of an outcome: a C entry point's file may not say `for`, so that no logic stands in it.
     let next = types.merge(channel, kinds, args);
     TypesReply {
         reply: Reply::from(next.answer),

@@ -1,8 +1,6 @@
 // The rules of dtype.rs on flat types, for callers that keep types in two arrays.
-ghost use Rattle.std.specs.Prelude.{◌≡◌, not, eqb, length};
+ghost use Rattle.std.specs.Prelude.{◌≡◌};
 ghost use Rattle.std.specs.Prelude.{Some};
-ghost use Rattle.flat.specs.Reading.{reading};
-ghost use Rattle.flat.specs.Output.{fitting, Writes};
 ghost use Rattle.dtype.specs.Equality.{equal};
 ghost use Rattle.dtype.specs.Recursive.{is_known};
 ghost use Rattle.dtype.specs.Answer.{answer_of, answers_of};
@@ -10,16 +8,14 @@ ghost use Rattle.dtype_inner.specs.Inner.{inner_dtype, leaf_dtype, array_leaf_dt
 ghost use Rattle.dtype_inner.specs.Part.{inner_of};
 ghost use Rattle.dtype_cast.specs.Verdict.{cast_of};
 ghost use Rattle.dtype_build.specs.Build.{materialized, physical};
-ghost use Rattle.capi.specs.Reply.{Replies, answer_reply, verdict_reply, optional_reply, written_reply};
+ghost use Rattle.capi.specs.Reply.{answer_reply, verdict_reply, optional_reply, RepliesArrays, flag_on, read_flat};
 
-use flat::Flat;
 use flat::reply::Reply;
 
 // Whether no type in it is unknown.
 #[unsafe(no_mangle)]
 pub extern "C" fn lz_flat_is_known(kinds: &[u8], args: &[u64]) -> Reply
-    ensures { let given = reading Flat.MAX_NODES Flat.MAX_DEPTH kinds.now args.now in
-        result ≡ answer_reply (answer_of is_known given) }
+    ensures { result ≡ answer_reply (answer_of is_known (read_flat kinds.now args.now)) }
 {
     Reply::from(dtype::is_known(kinds, args))
 }
@@ -32,9 +28,8 @@ pub extern "C" fn lz_flat_equal(
     right_kinds: &[u8],
     right_args: &[u64],
 ) -> Reply
-    ensures { let one = reading Flat.MAX_NODES Flat.MAX_DEPTH left_kinds.now left_args.now in
-        let other = reading Flat.MAX_NODES Flat.MAX_DEPTH right_kinds.now right_args.now in
-        result ≡ answer_reply (answers_of equal one other) }
+    ensures { let left = read_flat left_kinds.now left_args.now in
+        result ≡ answer_reply (answers_of equal left (read_flat right_kinds.now right_args.now)) }
 {
     Reply::from(dtype_eq::equal(left_kinds, left_args, right_kinds, right_args))
 }
@@ -47,9 +42,8 @@ pub extern "C" fn lz_flat_can_cast_to(
     to_kinds: &[u8],
     to_args: &[u64],
 ) -> Reply
-    ensures { let from = reading Flat.MAX_NODES Flat.MAX_DEPTH from_kinds.now from_args.now in
-        let to = reading Flat.MAX_NODES Flat.MAX_DEPTH to_kinds.now to_args.now in
-        result ≡ verdict_reply (cast_of from to) }
+    ensures { let from = read_flat from_kinds.now from_args.now in
+        result ≡ verdict_reply (cast_of from (read_flat to_kinds.now to_args.now)) }
 {
     Reply::from(dtype_cast::can_cast_to(from_kinds, from_args, to_kinds, to_args))
 }
@@ -57,8 +51,7 @@ pub extern "C" fn lz_flat_can_cast_to(
 // The type under a List or an Array: how many nodes it has, which stand at the end of kinds and args; 0 for None.
 #[unsafe(no_mangle)]
 pub extern "C" fn lz_flat_inner_dtype(kinds: &[u8], args: &[u64]) -> Reply
-    ensures { let given = reading Flat.MAX_NODES Flat.MAX_DEPTH kinds.now args.now in
-        result ≡ optional_reply (inner_of inner_dtype given) }
+    ensures { result ≡ optional_reply (inner_of inner_dtype (read_flat kinds.now args.now)) }
 {
     Reply::from(dtype_inner::inner_dtype(kinds, args))
 }
@@ -66,8 +59,7 @@ pub extern "C" fn lz_flat_inner_dtype(kinds: &[u8], args: &[u64]) -> Reply
 // The type under all Lists and Arrays: how many nodes it has, which stand at the end of kinds and args.
 #[unsafe(no_mangle)]
 pub extern "C" fn lz_flat_leaf_dtype(kinds: &[u8], args: &[u64]) -> Reply
-    ensures { let given = reading Flat.MAX_NODES Flat.MAX_DEPTH kinds.now args.now in
-        result ≡ optional_reply (inner_of (λ t. Some (leaf_dtype t)) given) }
+    ensures { result ≡ optional_reply (inner_of (λ t. Some (leaf_dtype t)) (read_flat kinds.now args.now)) }
 {
     Reply::from(dtype_inner::leaf_dtype(kinds, args))
 }
@@ -76,8 +68,7 @@ pub extern "C" fn lz_flat_leaf_dtype(kinds: &[u8], args: &[u64]) -> Reply
 // None.
 #[unsafe(no_mangle)]
 pub extern "C" fn lz_flat_array_leaf_dtype(kinds: &[u8], args: &[u64]) -> Reply
-    ensures { let given = reading Flat.MAX_NODES Flat.MAX_DEPTH kinds.now args.now in
-        result ≡ optional_reply (inner_of array_leaf_dtype given) }
+    ensures { result ≡ optional_reply (inner_of array_leaf_dtype (read_flat kinds.now args.now)) }
 {
     Reply::from(dtype_inner::array_leaf_dtype(kinds, args))
 }
@@ -92,12 +83,8 @@ pub extern "C" fn lz_flat_materialize_unknown(
     out_kinds: &mut [u8],
     out_args: &mut [u64],
 ) -> Reply
-    ensures { let given = reading Flat.MAX_NODES Flat.MAX_DEPTH kinds.now args.now in
-        let new = materialized (not (eqb allow_unknown 0)) given in
-        let ks = out_kinds.old in
-        let xs = out_args.old in
-        let fits = fitting (length ks) (length xs) new in
-        Replies (Writes fits ks xs out_kinds.new out_args.new) written_reply result }
+    ensures { let known = materialized (flag_on allow_unknown) (read_flat kinds.now args.now) in
+        RepliesArrays known out_kinds.old out_args.old out_kinds.new out_args.new result }
 {
     Reply::from(dtype_build::materialize_unknown(
         kinds,
@@ -116,12 +103,8 @@ pub extern "C" fn lz_flat_to_physical(
     out_kinds: &mut [u8],
     out_args: &mut [u64],
 ) -> Reply
-    ensures { let given = reading Flat.MAX_NODES Flat.MAX_DEPTH kinds.now args.now in
-        let new = physical given in
-        let ks = out_kinds.old in
-        let xs = out_args.old in
-        let fits = fitting (length ks) (length xs) new in
-        Replies (Writes fits ks xs out_kinds.new out_args.new) written_reply result }
+    ensures { let form = physical (read_flat kinds.now args.now) in
+        RepliesArrays form out_kinds.old out_args.old out_kinds.new out_args.new result }
 {
     Reply::from(dtype_build::to_physical(kinds, args, out_kinds, out_args))
 }

@@ -1,17 +1,12 @@
 // The calls that join two types.
-ghost use Rattle.std.specs.Prelude.{◌≡◌, not, eqb, length};
-ghost use Rattle.flat.specs.Reading.{reading};
-ghost use Rattle.flat.specs.Output.{fitting_found, WritesFound};
-ghost use Rattle.encoded.specs.Encoding.{decoding};
-ghost use Rattle.encoded.specs.Found.{fitting_found_bytes, EncodesFound};
+ghost use Rattle.std.specs.Prelude.{◌≡◌, not};
 ghost use Rattle.supertype_answer.specs.Join.{joining};
 ghost use Rattle.supertype_lossless.specs.Lossless.{lossless_of};
 ghost use Rattle.supertype.specs.Pair.{supertype_of};
 ghost use Rattle.supertype_report.specs.Report.{types_report};
-ghost use Rattle.capi.specs.Reply.{Replies, optional_reply, report_reply};
+ghost use Rattle.capi.specs.Reply.{report_reply, flag_on, read_encoded, read_flat};
+ghost use Rattle.capi.specs.Reply.{RepliesFoundArrays, RepliesFoundBytes};
 
-use encoded::Encoding;
-use flat::Flat;
 use flat::reply::Reply;
 
 // The type that two columns get when they are joined, encoded to the front of out; each flag is off where it is 0.
@@ -24,15 +19,9 @@ pub extern "C" fn lz_get_supertype_with_options(
     allow_primitive_to_string: u8,
     out: &mut [u8],
 ) -> Reply
-    ensures { let one = decoding Encoding.ARGUMENT_BYTES Flat.MAX_NODES Flat.MAX_DEPTH left.now in
-        let other = decoding Encoding.ARGUMENT_BYTES Flat.MAX_NODES Flat.MAX_DEPTH right.now in
-        let rule = supertype_of (not (eqb allow_implode_list 0)) (not (eqb allow_primitive_to_string 0)) in
-        let found = joining rule one other in
-        let held = out.old in
-        Replies
-        (EncodesFound Encoding.ARGUMENT_BYTES
-        (fitting_found_bytes Encoding.ARGUMENT_BYTES (length held) found) held out.new)
-        optional_reply result }
+    ensures { let rule = supertype_of (flag_on allow_implode_list) (flag_on allow_primitive_to_string) in
+        let found = joining rule (read_encoded left.now) (read_encoded right.now) in
+        RepliesFoundBytes found out.old out.new result }
 {
     Reply::from(encoded_join::get_supertype_with_options(
         left,
@@ -51,14 +40,8 @@ pub extern "C" fn lz_get_numeric_upcast_supertype_lossless(
     right: &[u8],
     out: &mut [u8],
 ) -> Reply
-    ensures { let one = decoding Encoding.ARGUMENT_BYTES Flat.MAX_NODES Flat.MAX_DEPTH left.now in
-        let other = decoding Encoding.ARGUMENT_BYTES Flat.MAX_NODES Flat.MAX_DEPTH right.now in
-        let found = joining lossless_of one other in
-        let held = out.old in
-        Replies
-        (EncodesFound Encoding.ARGUMENT_BYTES
-        (fitting_found_bytes Encoding.ARGUMENT_BYTES (length held) found) held out.new)
-        optional_reply result }
+    ensures { let found = joining lossless_of (read_encoded left.now) (read_encoded right.now) in
+        RepliesFoundBytes found out.old out.new result }
 {
     Reply::from(encoded_join::get_numeric_upcast_supertype_lossless(left, right, out))
 }
@@ -67,9 +50,7 @@ pub extern "C" fn lz_get_numeric_upcast_supertype_lossless(
 // type does, 2 it doesn't and none does, 3 they are not two integer types.
 #[unsafe(no_mangle)]
 pub extern "C" fn lz_join_report(left: &[u8], right: &[u8]) -> Reply
-    ensures { let one = decoding Encoding.ARGUMENT_BYTES Flat.MAX_NODES Flat.MAX_DEPTH left.now in
-        let other = decoding Encoding.ARGUMENT_BYTES Flat.MAX_NODES Flat.MAX_DEPTH right.now in
-        result ≡ report_reply (types_report one other) }
+    ensures { result ≡ report_reply (types_report (read_encoded left.now) (read_encoded right.now)) }
 {
     Reply::from(encoded_join::join_report(left, right))
 }
@@ -86,14 +67,9 @@ pub extern "C" fn lz_flat_get_supertype_with_options(
     out_kinds: &mut [u8],
     out_args: &mut [u64],
 ) -> Reply
-    ensures { let one = reading Flat.MAX_NODES Flat.MAX_DEPTH left_kinds.now left_args.now in
-        let other = reading Flat.MAX_NODES Flat.MAX_DEPTH right_kinds.now right_args.now in
-        let rule = supertype_of (not (eqb allow_implode_list 0)) (not (eqb allow_primitive_to_string 0)) in
-        let found = joining rule one other in
-        let ks = out_kinds.old in
-        let xs = out_args.old in
-        let fits = fitting_found (length ks) (length xs) found in
-        Replies (WritesFound fits ks xs out_kinds.new out_args.new) optional_reply result }
+    ensures { let rule = supertype_of (flag_on allow_implode_list) (flag_on allow_primitive_to_string) in
+        let found = joining rule (read_flat left_kinds.now left_args.now) (read_flat right_kinds.now right_args.now) in
+        RepliesFoundArrays found out_kinds.old out_args.old out_kinds.new out_args.new result }
 {
     Reply::from(supertype::get_supertype_with_options(
         left_kinds,
@@ -117,13 +93,9 @@ pub extern "C" fn lz_flat_get_numeric_upcast_supertype_lossless(
     out_kinds: &mut [u8],
     out_args: &mut [u64],
 ) -> Reply
-    ensures { let one = reading Flat.MAX_NODES Flat.MAX_DEPTH left_kinds.now left_args.now in
-        let other = reading Flat.MAX_NODES Flat.MAX_DEPTH right_kinds.now right_args.now in
-        let found = joining lossless_of one other in
-        let ks = out_kinds.old in
-        let xs = out_args.old in
-        let fits = fitting_found (length ks) (length xs) found in
-        Replies (WritesFound fits ks xs out_kinds.new out_args.new) optional_reply result }
+    ensures { let left = read_flat left_kinds.now left_args.now in
+        let found = joining lossless_of left (read_flat right_kinds.now right_args.now) in
+        RepliesFoundArrays found out_kinds.old out_args.old out_kinds.new out_args.new result }
 {
     Reply::from(supertype_lossless::get_numeric_upcast_supertype_lossless(
         left_kinds,

@@ -1,23 +1,19 @@
 // The predicates of a type, on an encoded one.
 ghost use Rattle.std.specs.Prelude.{◌≡◌};
-ghost use Rattle.encoded.specs.Encoding.{decoding};
 ghost use Rattle.dtype.specs.Predicate.{root, is_temporal, is_float, is_signed_integer, is_unsigned_integer};
 ghost use Rattle.dtype.specs.Predicate.{is_integer};
 ghost use Rattle.dtype.specs.Predicate.{is_primitive_numeric, is_primitive, is_nested, is_string, is_unknown};
 ghost use Rattle.dtype.specs.Recursive.{is_known, is_logical, contains_list_recursive, contains_unknown};
 ghost use Rattle.dtype.specs.Predicates.{predicate_of};
 ghost use Rattle.dtype.specs.Answer.{answer_of};
-ghost use Rattle.capi.specs.Reply.{answer_reply};
+ghost use Rattle.capi.specs.Reply.{answer_reply, read_encoded};
 
 use dtype::predicate::Predicate;
-use encoded::Encoding;
-use flat::Flat;
 use flat::reply::Reply;
 
 // What a predicate says of the type.
 fn tell(p: Predicate, encoded: &[u8]) -> Reply
-    ensures { let given = decoding Encoding.ARGUMENT_BYTES Flat.MAX_NODES Flat.MAX_DEPTH encoded.now in
-        result ≡ answer_reply (answer_of (predicate_of p) given) }
+    ensures { result ≡ answer_reply (answer_of (predicate_of p) (read_encoded encoded.now)) }
 {
     Reply::from(encoded_dtype::ask(p, encoded))
 }
@@ -25,8 +21,7 @@ fn tell(p: Predicate, encoded: &[u8]) -> Reply
 // Whether it is a List, an Array or a Struct.
 #[unsafe(no_mangle)]
 pub extern "C" fn lz_is_nested(encoded: &[u8]) -> Reply
-    ensures { let given = decoding Encoding.ARGUMENT_BYTES Flat.MAX_NODES Flat.MAX_DEPTH encoded.now in
-        result ≡ answer_reply (answer_of (root is_nested) given) }
+    ensures { result ≡ answer_reply (answer_of (root is_nested) (read_encoded encoded.now)) }
 {
     tell(Predicate::IsNested, encoded)
 }
@@ -34,8 +29,7 @@ pub extern "C" fn lz_is_nested(encoded: &[u8]) -> Reply
 // Whether it is a primitive numeric type, Boolean, String or Binary.
 #[unsafe(no_mangle)]
 pub extern "C" fn lz_is_primitive(encoded: &[u8]) -> Reply
-    ensures { let given = decoding Encoding.ARGUMENT_BYTES Flat.MAX_NODES Flat.MAX_DEPTH encoded.now in
-        result ≡ answer_reply (answer_of (root is_primitive) given) }
+    ensures { result ≡ answer_reply (answer_of (root is_primitive) (read_encoded encoded.now)) }
 {
     tell(Predicate::IsPrimitive, encoded)
 }
@@ -43,8 +37,7 @@ pub extern "C" fn lz_is_primitive(encoded: &[u8]) -> Reply
 // Whether it is a float or an integer; a Decimal is neither.
 #[unsafe(no_mangle)]
 pub extern "C" fn lz_is_primitive_numeric(encoded: &[u8]) -> Reply
-    ensures { let given = decoding Encoding.ARGUMENT_BYTES Flat.MAX_NODES Flat.MAX_DEPTH encoded.now in
-        result ≡ answer_reply (answer_of (root is_primitive_numeric) given) }
+    ensures { result ≡ answer_reply (answer_of (root is_primitive_numeric) (read_encoded encoded.now)) }
 {
     tell(Predicate::IsPrimitiveNumeric, encoded)
 }
@@ -52,8 +45,7 @@ pub extern "C" fn lz_is_primitive_numeric(encoded: &[u8]) -> Reply
 // Whether it is Date, Datetime, Duration or Time.
 #[unsafe(no_mangle)]
 pub extern "C" fn lz_is_temporal(encoded: &[u8]) -> Reply
-    ensures { let given = decoding Encoding.ARGUMENT_BYTES Flat.MAX_NODES Flat.MAX_DEPTH encoded.now in
-        result ≡ answer_reply (answer_of (root is_temporal) given) }
+    ensures { result ≡ answer_reply (answer_of (root is_temporal) (read_encoded encoded.now)) }
 {
     tell(Predicate::IsTemporal, encoded)
 }
@@ -61,8 +53,7 @@ pub extern "C" fn lz_is_temporal(encoded: &[u8]) -> Reply
 // Whether it is a float; `Unknown(Float)` is one.
 #[unsafe(no_mangle)]
 pub extern "C" fn lz_is_float(encoded: &[u8]) -> Reply
-    ensures { let given = decoding Encoding.ARGUMENT_BYTES Flat.MAX_NODES Flat.MAX_DEPTH encoded.now in
-        result ≡ answer_reply (answer_of (root is_float) given) }
+    ensures { result ≡ answer_reply (answer_of (root is_float) (read_encoded encoded.now)) }
 {
     tell(Predicate::IsFloat, encoded)
 }
@@ -70,8 +61,7 @@ pub extern "C" fn lz_is_float(encoded: &[u8]) -> Reply
 // Whether it is an integer; `Unknown(Int(_))` is one.
 #[unsafe(no_mangle)]
 pub extern "C" fn lz_is_integer(encoded: &[u8]) -> Reply
-    ensures { let given = decoding Encoding.ARGUMENT_BYTES Flat.MAX_NODES Flat.MAX_DEPTH encoded.now in
-        result ≡ answer_reply (answer_of (root is_integer) given) }
+    ensures { result ≡ answer_reply (answer_of (root is_integer) (read_encoded encoded.now)) }
 {
     tell(Predicate::IsInteger, encoded)
 }
@@ -79,8 +69,7 @@ pub extern "C" fn lz_is_integer(encoded: &[u8]) -> Reply
 // Whether it is Int8 to Int128.
 #[unsafe(no_mangle)]
 pub extern "C" fn lz_is_signed_integer(encoded: &[u8]) -> Reply
-    ensures { let given = decoding Encoding.ARGUMENT_BYTES Flat.MAX_NODES Flat.MAX_DEPTH encoded.now in
-        result ≡ answer_reply (answer_of (root is_signed_integer) given) }
+    ensures { result ≡ answer_reply (answer_of (root is_signed_integer) (read_encoded encoded.now)) }
 {
     tell(Predicate::IsSignedInteger, encoded)
 }
@@ -88,8 +77,7 @@ pub extern "C" fn lz_is_signed_integer(encoded: &[u8]) -> Reply
 // Whether it is UInt8 to UInt128.
 #[unsafe(no_mangle)]
 pub extern "C" fn lz_is_unsigned_integer(encoded: &[u8]) -> Reply
-    ensures { let given = decoding Encoding.ARGUMENT_BYTES Flat.MAX_NODES Flat.MAX_DEPTH encoded.now in
-        result ≡ answer_reply (answer_of (root is_unsigned_integer) given) }
+    ensures { result ≡ answer_reply (answer_of (root is_unsigned_integer) (read_encoded encoded.now)) }
 {
     tell(Predicate::IsUnsignedInteger, encoded)
 }
@@ -97,8 +85,7 @@ pub extern "C" fn lz_is_unsigned_integer(encoded: &[u8]) -> Reply
 // Whether it is String; `Unknown(Str)` is one.
 #[unsafe(no_mangle)]
 pub extern "C" fn lz_is_string(encoded: &[u8]) -> Reply
-    ensures { let given = decoding Encoding.ARGUMENT_BYTES Flat.MAX_NODES Flat.MAX_DEPTH encoded.now in
-        result ≡ answer_reply (answer_of (root is_string) given) }
+    ensures { result ≡ answer_reply (answer_of (root is_string) (read_encoded encoded.now)) }
 {
     tell(Predicate::IsString, encoded)
 }
@@ -106,8 +93,7 @@ pub extern "C" fn lz_is_string(encoded: &[u8]) -> Reply
 // Whether it is `Unknown(_)`.
 #[unsafe(no_mangle)]
 pub extern "C" fn lz_is_unknown(encoded: &[u8]) -> Reply
-    ensures { let given = decoding Encoding.ARGUMENT_BYTES Flat.MAX_NODES Flat.MAX_DEPTH encoded.now in
-        result ≡ answer_reply (answer_of (root is_unknown) given) }
+    ensures { result ≡ answer_reply (answer_of (root is_unknown) (read_encoded encoded.now)) }
 {
     tell(Predicate::IsUnknown, encoded)
 }
@@ -115,8 +101,7 @@ pub extern "C" fn lz_is_unknown(encoded: &[u8]) -> Reply
 // Whether no type in it is unknown.
 #[unsafe(no_mangle)]
 pub extern "C" fn lz_is_known(encoded: &[u8]) -> Reply
-    ensures { let given = decoding Encoding.ARGUMENT_BYTES Flat.MAX_NODES Flat.MAX_DEPTH encoded.now in
-        result ≡ answer_reply (answer_of is_known given) }
+    ensures { result ≡ answer_reply (answer_of is_known (read_encoded encoded.now)) }
 {
     tell(Predicate::IsKnown, encoded)
 }
@@ -124,8 +109,7 @@ pub extern "C" fn lz_is_known(encoded: &[u8]) -> Reply
 // Whether it differs from its physical form.
 #[unsafe(no_mangle)]
 pub extern "C" fn lz_is_logical(encoded: &[u8]) -> Reply
-    ensures { let given = decoding Encoding.ARGUMENT_BYTES Flat.MAX_NODES Flat.MAX_DEPTH encoded.now in
-        result ≡ answer_reply (answer_of is_logical given) }
+    ensures { result ≡ answer_reply (answer_of is_logical (read_encoded encoded.now)) }
 {
     tell(Predicate::IsLogical, encoded)
 }
@@ -133,8 +117,7 @@ pub extern "C" fn lz_is_logical(encoded: &[u8]) -> Reply
 // Whether a type in it is unknown.
 #[unsafe(no_mangle)]
 pub extern "C" fn lz_contains_unknown(encoded: &[u8]) -> Reply
-    ensures { let given = decoding Encoding.ARGUMENT_BYTES Flat.MAX_NODES Flat.MAX_DEPTH encoded.now in
-        result ≡ answer_reply (answer_of contains_unknown given) }
+    ensures { result ≡ answer_reply (answer_of contains_unknown (read_encoded encoded.now)) }
 {
     tell(Predicate::ContainsUnknown, encoded)
 }
@@ -142,8 +125,7 @@ pub extern "C" fn lz_contains_unknown(encoded: &[u8]) -> Reply
 // Whether a type in it is a List.
 #[unsafe(no_mangle)]
 pub extern "C" fn lz_contains_list_recursive(encoded: &[u8]) -> Reply
-    ensures { let given = decoding Encoding.ARGUMENT_BYTES Flat.MAX_NODES Flat.MAX_DEPTH encoded.now in
-        result ≡ answer_reply (answer_of contains_list_recursive given) }
+    ensures { result ≡ answer_reply (answer_of contains_list_recursive (read_encoded encoded.now)) }
 {
     tell(Predicate::ContainsListRecursive, encoded)
 }

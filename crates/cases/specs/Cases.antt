@@ -4,9 +4,9 @@
 -- is of the corner n, `refusal n` is a call that is refused by n, `not_refused` a call that is not refused, and
 -- `requested n` is of the request n. Assumes nothing: these are definitions.
 use Rattle.std.specs.Prelude.{◌≡◌, Bool, true, false, cond, ◌&&◌, ℕ, ◌+◌, ◌-◌, ◌*◌, ◌^◌, ℤ, pos, negsuc, neg_ℤ}
-use Rattle.std.specs.Prelude.{replicate}
+use Rattle.std.specs.Prelude.{replicate, None, Some}
+use Rattle.std.specs.List.{flat_map}
 use mathlib.Core.List.{List, [], ◌∷◌, ◌++◌, map, flatten}
-use Rattle.std.specs.Prelude.{None, Some}
 use Rattle.flat.specs.Kind
 use Rattle.flat.specs.Tree.{DataType, leaf, list, array, struct, Fields, empty, field, kinds_of, args_of}
 use Rattle.flat.specs.Reading.{type}
@@ -82,12 +82,19 @@ decimal_leaf precision scale = leaf Kind.Decimal (256 * scale + precision)
 abbrev pub datetime_leaf : (zone unit : ℕ) → DataType
 datetime_leaf zone unit = leaf Kind.Datetime (4 * zone + unit)
 
--- a Struct of one field, and of two, named from n on
+-- a Struct of one field, of two and of three
 abbrev pub one : ℕ → DataType → DataType
 one n t = struct (field n t empty)
 
+abbrev pub pair : ℕ → DataType → ℕ → DataType → DataType
+pair m t n u = struct (field m t (field n u empty))
+
+abbrev pub triple : ℕ → DataType → ℕ → DataType → ℕ → DataType → DataType
+triple k s m t n u = struct (field k s (field m t (field n u empty)))
+
+-- of two, named from n on
 abbrev pub two : ℕ → DataType → DataType → DataType
-two n t u = struct (field n t (field (n + 1) u empty))
+two n t u = pair n t (n + 1) u
 
 -- the check of the arrays of a tree
 abbrev pub check_type : DataType → FlatCall
@@ -340,20 +347,12 @@ decimals =
     ∷ (37, 0, Kind.Int128, 38)
     ∷ []
 
--- each of them in both orders
-abbrev pub in_both_orders : Bool → Bool → List (ℕ × ℕ × ℕ × ℕ) → List Case
-in_both_orders i s [] = []
-in_both_orders i s (r ∷ rows) =
+-- one of them in both orders
+abbrev pub in_both_orders : Bool → Bool → ℕ × ℕ × ℕ × ℕ → List Case
+in_both_orders i s r =
     requested 2 (supertype i s (decimal_leaf r.0 r.1) (lone r.2)) (joins (decimal_leaf r.3 r.1))
     ∷ requested 2 (supertype i s (lone r.2) (decimal_leaf r.0 r.1)) (joins (decimal_leaf r.3 r.1))
-    ∷ in_both_orders i s rows
-
--- a Struct of two fields with these names, and of three
-abbrev pub pair : ℕ → DataType → ℕ → DataType → DataType
-pair m t n u = struct (field m t (field n u empty))
-
-abbrev pub triple : ℕ → DataType → ℕ → DataType → ℕ → DataType → DataType
-triple k s m t n u = struct (field k s (field m t (field n u empty)))
+    ∷ []
 
 -- Three: with the flags o of the call and i of its inner calls, two types in one order, and in both
 abbrev pub one_way : SuperTypeOptions → SuperTypeOptions → DataType → DataType → Answered → List Case
@@ -427,7 +426,7 @@ requests i s =
     -- Two: 8 where there is no room, and no other number
     ∷ requested 2 (number_of (get_supertype_call i s (decimal_leaf 10 2) (lone Kind.Int8) 0)) (number 8)
     ∷ requested 2 (number_of (get_supertype_call i s (lone Kind.UInt128) (decimal_leaf 10 2) 1)) (number 0)
-    ∷ in_both_orders i s decimals
+    ∷ flat_map (in_both_orders i s) decimals
 
 -- the table, for any flags and any fields
 abbrev pub table : Bool → Bool → Fields → List Case

@@ -1,10 +1,7 @@
 -- What a row of the table asks of the definitions, and what they answer. Assumes nothing: these are definitions.
-use Rattle.std.specs.Prelude.{Bool, List, [], ◌∷◌, ℕ, ℤ, get_or, replicate}
-use Rattle.std.specs.Prelude.{Option, None, Some}
-use Rattle.std.specs.Prelude.{option_map}
+use Rattle.std.specs.Prelude.{Bool, List, [], ◌∷◌, ℕ, ℤ, get_or, replicate, Option, None, Some, option_map}
 use Rattle.flat.specs.Tree.{DataType, kinds_of, args_of}
-use Rattle.flat.specs.Reading.{Reading, refused, type, reading, checked_of}
-use Rattle.flat.specs.Reading.{root_of}
+use Rattle.flat.specs.Reading.{Reading, refused, type, reading, checked_of, root_of}
 use Rattle.flat.specs.Refusal.{answer_number}
 use Rattle.flat.specs.Reply.{value_in}
 use Rattle.flat.specs.Refusals.{number_given}
@@ -86,7 +83,7 @@ pub data Answered : Type 0 where
   kind : ℕ → Answered
   -- yes, no or no verdict
   verdict : Option Bool → Answered
-  -- a number, and the type beside it where there is one
+  -- a number, as document 01 has it beside every result, and the type where it is 0: no Result, which hides the number
   result : ℕ → Option DataType → Answered
   -- the number and the value of every answer, and the code that is left
   merged : List (ℕ × ℕ) → ℕ → Answered

@@ -1,8 +1,8 @@
 // The calls, by the numbers of their entry points. A line has the types of a call, then its other inputs, then its
-// answer. None where that isn't what stands there.
+// answer.
 use crate::answer::{is_answer, is_reply};
 use crate::output::is_written;
-use crate::reader::{NODES, read_flag, read_type, to_bytes};
+use crate::reader::{Fault, Line};
 use channels::ChannelTypes;
 use dtype::time_units::coarser_unit;
 use dtype_cast::can_cast_to;
@@ -13,129 +13,108 @@ use dtype_inner::{
 };
 use flat::error::Error;
 use flat::reply::{Reply, Value};
+use std::array;
 use supertype::get_supertype_with_options;
 use supertype_lossless::get_numeric_upcast_supertype_lossless;
 use supertype_report::join_report;
 
 // A call on one type, whose answer has no result.
 fn on_one<T: Value, F: FnOnce(&[u8], &[u64]) -> Result<T, Error>>(
-    line: &[u64],
+    mut line: Line<'_>,
     call: F,
-) -> Option<bool>
+) -> Result<bool, Fault>
     requires { F.IsAlwaysCallable call }
 {
-    let mut room = [0; NODES];
-    let read = read_type(line, &mut room)?;
-    Some(is_reply(read.rest, call(read.kinds, read.args).into()))
+    let read = line.read_type()?;
+    Ok(is_reply(line.rest, call(&read.kinds, read.args).into()))
 }
 
 // A call on two types, whose answer has no result.
 fn on_two<T: Value, F: FnOnce(&[u8], &[u64], &[u8], &[u64]) -> Result<T, Error>>(
-    line: &[u64],
+    mut line: Line<'_>,
     call: F,
-) -> Option<bool>
+) -> Result<bool, Fault>
     requires { F.IsAlwaysCallable call }
 {
-    let mut left_room = [0; NODES];
-    let mut right_room = [0; NODES];
-    let left = read_type(line, &mut left_room)?;
-    let right = read_type(left.rest, &mut right_room)?;
-    let answer = call(left.kinds, left.args, right.kinds, right.args);
-    Some(is_reply(right.rest, answer.into()))
+    let left = line.read_type()?;
+    let right = line.read_type()?;
+    let answer = call(&left.kinds, left.args, &right.kinds, right.args);
+    Ok(is_reply(line.rest, answer.into()))
 }
 
-// The room is recorded first. The port gives parts of the input and the recorded call copies, so only that one is
-// refused for its room.
-fn is_part(
-    inner: Result<Option<usize>, Error>,
-    kinds: &[u8],
-    args: &[u64],
-    recorded: &[u64],
-) -> Option<bool> {
-    let (&room, recorded) = recorded.split_first()?;
-    let given = Reply::from(inner);
-    if given.value > room {
-        let refused: Result<(), Error> = Err(Error::OutputTooShort);
-        return Some(is_reply(recorded, refused.into()));
-    }
-    Some(is_answer(recorded, given, kinds, args))
-}
-
-// A call that gives a part of a type: how many nodes it has, its kinds and its arguments.
+// A call that gives a part of a type: how many nodes it has, its kinds and its arguments. The room is recorded first.
+// The port gives parts of the input and the recorded call copies, so only that one is refused for its room.
 fn on_part<
     N: FnOnce(&[u8], &[u64]) -> Result<Option<usize>, Error>,
     K: for<'a> FnOnce(&'a [u8], &[u64]) -> &'a [u8],
     A: for<'a> FnOnce(&[u8], &'a [u64]) -> &'a [u64],
->(line: &[u64], nodes: N, kinds: K, args: A) -> Option<bool>
+>(mut line: Line<'_>, nodes: N, kinds: K, args: A) -> Result<bool, Fault>
     requires nodes { N.IsAlwaysCallable nodes }
     requires kinds { K.IsAlwaysCallable kinds }
     requires args { A.IsAlwaysCallable args }
 {
-    let mut room = [0; NODES];
-    let read = read_type(line, &mut room)?;
-    is_part(
-        nodes(read.kinds, read.args),
-        kinds(read.kinds, read.args),
-        args(read.kinds, read.args),
-        read.rest,
-    )
+    let read = line.read_type()?;
+    let room = line.number()?;
+    let given = Reply::from(nodes(&read.kinds, read.args));
+    if given.value > room {
+        let refused: Result<(), Error> = Err(Error::OutputTooShort);
+        return Ok(is_reply(line.rest, refused.into()));
+    }
+    let part_kinds = kinds(&read.kinds, read.args);
+    let part_args = args(&read.kinds, read.args);
+    Ok(is_answer(line.rest, given, part_kinds, part_args))
 }
 
-fn is_physical(line: &[u64]) -> Option<bool> {
-    let mut room = [0; NODES];
-    let read = read_type(line, &mut room)?;
-    is_written(read.rest, |kinds, args| {
-        dtype_build::to_physical(read.kinds, read.args, kinds, args)
+fn is_physical(mut line: Line<'_>) -> Result<bool, Fault> {
+    let read = line.read_type()?;
+    is_written(line, |kinds, args| {
+        dtype_build::to_physical(&read.kinds, read.args, kinds, args)
     })
 }
 
 // The flag is recorded first.
-fn is_materialized(line: &[u64]) -> Option<bool> {
-    let mut room = [0; NODES];
-    let read = read_type(line, &mut room)?;
-    let (allow_unknown, recorded) = read_flag(read.rest)?;
-    is_written(recorded, |kinds, args| {
-        dtype_build::materialize_unknown(read.kinds, read.args, allow_unknown, kinds, args)
+fn is_materialized(mut line: Line<'_>) -> Result<bool, Fault> {
+    let read = line.read_type()?;
+    let allow_unknown = line.flag()?;
+    is_written(line, |kinds, args| {
+        dtype_build::materialize_unknown(&read.kinds, read.args, allow_unknown, kinds, args)
     })
 }
 
 // The widths are recorded as arguments; unused ones are 0.
-fn is_shaped(line: &[u64]) -> Option<bool> {
-    let mut room = [0; NODES];
-    let read = read_type(line, &mut room)?;
-    let shape = get_shape(read.kinds, read.args);
+fn is_shaped(mut line: Line<'_>) -> Result<bool, Fault> {
+    let read = line.read_type()?;
+    let shape = get_shape(&read.kinds, read.args);
     let given = Reply::from(shape.map(|shape| shape.count));
     let Ok(shape) = shape else {
-        return Some(is_reply(read.rest, given));
+        return Ok(is_reply(line.rest, given));
     };
-    let (widths, unused) = shape.widths.split_at_checked(shape.count)?;
-    Some(unused.iter().all(|&width| width == 0) && is_answer(read.rest, given, &[], widths))
+    let (widths, unused) = shape
+        .widths
+        .split_at_checked(shape.count)
+        .ok_or(Fault::Unreadable)?;
+    Ok(unused.iter().all(|&width| width == 0) && is_answer(line.rest, given, &[], widths))
 }
 
 // The channel and the codes are recorded first, and as the result the codes that the merge leaves, beside a refusal
 // too.
-fn is_merged(line: &[u64]) -> Option<bool> {
-    let mut room = [0; NODES];
-    let read = read_type(line, &mut room)?;
-    let (&channel, recorded) = read.rest.split_first()?;
-    let (before, recorded) = recorded.split_at_checked(ChannelTypes::CHANNELS)?;
-    let mut codes = [0; ChannelTypes::CHANNELS];
-    to_bytes(before, &mut codes)?;
-    let merged = ChannelTypes { codes }.merge(channel as usize, read.kinds, read.args);
+fn is_merged(mut line: Line<'_>) -> Result<bool, Fault> {
+    let read = line.read_type()?;
+    let channel = line.number()? as usize;
+    let codes = array::try_from_fn(|_| line.byte())?;
+    let merged = ChannelTypes { codes }.merge(channel, &read.kinds, read.args);
     let answer = merged.answer.into();
-    Some(is_answer(recorded, answer, &merged.types.codes, &[]))
+    Ok(is_answer(line.rest, answer, &merged.types.codes, &[]))
 }
 
-fn is_lossless(line: &[u64]) -> Option<bool> {
-    let mut left_room = [0; NODES];
-    let mut right_room = [0; NODES];
-    let left = read_type(line, &mut left_room)?;
-    let right = read_type(left.rest, &mut right_room)?;
-    is_written(right.rest, |kinds, args| {
+fn is_lossless(mut line: Line<'_>) -> Result<bool, Fault> {
+    let left = line.read_type()?;
+    let right = line.read_type()?;
+    is_written(line, |kinds, args| {
         get_numeric_upcast_supertype_lossless(
-            left.kinds,
+            &left.kinds,
             left.args,
-            right.kinds,
+            &right.kinds,
             right.args,
             kinds,
             args,
@@ -144,18 +123,16 @@ fn is_lossless(line: &[u64]) -> Option<bool> {
 }
 
 // The flags are recorded first.
-fn is_supertype(line: &[u64]) -> Option<bool> {
-    let mut left_room = [0; NODES];
-    let mut right_room = [0; NODES];
-    let left = read_type(line, &mut left_room)?;
-    let right = read_type(left.rest, &mut right_room)?;
-    let (implode_list, recorded) = read_flag(right.rest)?;
-    let (to_string, recorded) = read_flag(recorded)?;
-    is_written(recorded, |kinds, args| {
+fn is_supertype(mut line: Line<'_>) -> Result<bool, Fault> {
+    let left = line.read_type()?;
+    let right = line.read_type()?;
+    let implode_list = line.flag()?;
+    let to_string = line.flag()?;
+    is_written(line, |kinds, args| {
         get_supertype_with_options(
-            left.kinds,
+            &left.kinds,
             left.args,
-            right.kinds,
+            &right.kinds,
             right.args,
             implode_list,
             to_string,
@@ -166,18 +143,16 @@ fn is_supertype(line: &[u64]) -> Option<bool> {
 }
 
 // Units stand by their numbers.
-fn is_coarser_unit(line: &[u64]) -> Option<bool> {
-    let [left, right, recorded @ ..] = line else {
-        return None;
-    };
-    let left = u8::try_from(*left).ok()?;
-    let right = u8::try_from(*right).ok()?;
-    Some(is_reply(recorded, coarser_unit(left, right).into()))
+fn is_coarser_unit(mut line: Line<'_>) -> Result<bool, Fault> {
+    let left = line.byte()?;
+    let right = line.byte()?;
+    Ok(is_reply(line.rest, coarser_unit(left, right).into()))
 }
 
-// Whether the port answers a call as a line has it, of which this is what follows the entry point's number.
-pub fn agrees(entry: u64, line: &[u64]) -> Option<bool> {
-    match entry {
+// Whether the port answers a call as a line has it.
+pub fn agrees(mut line: Line<'_>) -> Result<bool, Fault> {
+    // An enum of the entry points would say each number with a name, and each name again with its call.
+    match line.number()? {
         1 => on_one(line, flat::check),
         2 => on_one(line, dtype::is_nested),
         3 => on_one(line, dtype::is_known),
@@ -212,6 +187,6 @@ pub fn agrees(entry: u64, line: &[u64]) -> Option<bool> {
         27 => is_supertype(line),
         28 => on_two(line, join_report),
         29 => is_merged(line),
-        _ => None,
+        _ => Err(Fault::Unreadable),
     }
 }

@@ -4,7 +4,7 @@
 // (crates/replay/stdin); host/differential/src/answers.rs has the format. A call that is answered otherwise here, and a
 // line that can't be read, is told by the number of its line. Some recorded answers were damaged on purpose, of each
 // entry point some: crates/replay/stdout names them all (`--expect 7500` wrote it), so that a replay that agrees with
-// everything fails. A read or a write that fails ends the program with its error.
+// everything fails. A read, a write or an allocation that fails ends the program with its error.
 #![tactic(auto)]
 
 mod answer;
@@ -12,24 +12,51 @@ mod calls;
 mod output;
 mod reader;
 
-ghost use Rattle.std.specs.Prelude.{◌≡◌, take, IfOk, IfSome};
+ghost use Rattle.std.specs.Prelude.{◌≡◌, ◌≤◌, take, vec_len, IfOk, IfSome};
 
-use reader::{NUMBERS, read_numbers};
-use std::alloc::Global;
+use reader::{Fault, Line, read_numbers};
+use std::alloc::{AllocError, Global};
 use std::io;
 use std::io::Read;
 
 // The most bytes of input. More are not read, and then the last line is missing.
 const BYTES: usize = 524288;
 
+// How many answers stand before the last line, None where it is missing, and the numbers of the lines that differ.
+#[derive(Drop)]
+struct Replay {
+    answers: Option<usize>,
+    differ: Vec<usize>,
+}
+
 // Whether a call is answered here as its line has it; None at the last line.
-fn replay_line(line: &[u8]) -> Option<bool> {
-    let mut room = [0; NUMBERS];
-    match read_numbers(line, &mut room) {
-        Some([0]) => None,
-        Some([entry, rest @ ..]) => Some(calls::agrees(*entry, rest).unwrap_or(false)),
-        _ => Some(false),
+fn replay_line(alloc: Global, line: &[u8]) -> Result<Option<bool>, Fault> {
+    let numbers = read_numbers(alloc, line)?;
+    match numbers.as_slice() {
+        [0] => Ok(None),
+        rest => calls::agrees(Line { rest, alloc }).map(Some),
     }
+}
+
+// Replays the lines of a text up to the last one.
+fn replay_text(alloc: Global, text: &[u8]) -> Result<Replay, AllocError>
+    ensures { IfOk result (λ found. IfSome found.answers (λ answers. vec_len found.differ ≤ answers)) }
+{
+    let mut differ = Vec::new(alloc);
+    let lines = text.split_inclusive(|&byte| byte == b'\n');
+    for (before, line) in lines.enumerate() {
+        match replay_line(alloc, line.strip_suffix(b"\n").unwrap_or(line)) {
+            Ok(None) => {
+                let answers = Some(before);
+                return Ok(Replay { answers, differ });
+            }
+            Ok(Some(true)) => {}
+            Ok(Some(false)) | Err(Fault::Unreadable) => differ.push(before + 1)?,
+            Err(Fault::OutOfMemory) => return Err(AllocError),
+        }
+    }
+    let answers = None;
+    Ok(Replay { answers, differ })
 }
 
 // The bytes of the input, of which no more than BYTES are read.
@@ -41,21 +68,15 @@ fn read_text<R: Read + Drop>(alloc: Global, input: R) -> io::Result<Vec<u8>>
     Ok(text)
 }
 
-// The loop stands here and not in a function over `impl Print`: under a type parameter the check takes no invariant of
-// a loop whose iterator holds a closure.
 fn main(rt: HostRuntime) -> io::Result<()> {
     let text = read_text(rt.alloc(), rt.stdin())?;
-    let mut answers: u64 = 0;
-    let mut differ: u64 = 0;
-    for line in text.split_inclusive(|&byte| byte == b'\n') {
-        let Some(agrees) = replay_line(line.strip_suffix(b"\n").unwrap_or(line)) else {
-            return println!(rt; "{answers} answers replayed, {differ} differ");
-        };
-        answers += 1;
-        if !agrees {
-            differ += 1;
-            println!(rt; "line {answers} differs")?;
-        }
+    let replay = replay_text(rt.alloc(), &text)?;
+    for line in &replay.differ {
+        println!(rt; "line {line} differs")?;
     }
-    println!(rt; "the last line is missing")
+    let differ = replay.differ.len();
+    match replay.answers {
+        Some(answers) => println!(rt; "{answers} answers replayed, {differ} differ"),
+        None => println!(rt; "the last line is missing"),
+    }
 }

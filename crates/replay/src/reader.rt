@@ -1,11 +1,28 @@
-// Reads the numbers of a line, and a type or a flag among them. None where what is read doesn't stand there.
-use flat::Flat;
+// Reads the numbers of a line, and the types and flags among them.
+ghost use Rattle.std.specs.Prelude.{◌≡◌, ◌∷◌, ◌++◌, length, IfOk};
+ghost use Rattle.flat.specs.Reply.{truth};
+ghost use Rattle.replay.specs.Answer.{type_record};
 
-// The most numbers of a line.
-pub const NUMBERS: usize = 2048;
+use std::alloc::{AllocError, AllocFailed, Global};
 
-// The most nodes of what is recorded as a type: one more than a type has.
-pub const NODES: usize = Flat::MAX_NODES + 1;
+// Why a line has no answer: what is read doesn't stand there, or memory ran out.
+#[derive(Clone, Copy, Debug, PartialEq, Eq)]
+pub enum Fault {
+    Unreadable,
+    OutOfMemory,
+}
+
+impl From<AllocError> for Fault {
+    fn from(_error: AllocError) -> Fault {
+        Fault::OutOfMemory
+    }
+}
+
+impl<T: Drop> From<AllocFailed<T>> for Fault {
+    fn from(_error: AllocFailed<T>) -> Fault {
+        Fault::OutOfMemory
+    }
+}
 
 // A number in decimal, without the sign that `parse` would take too.
 fn number(word: &[u8]) -> Option<u64> {
@@ -15,52 +32,80 @@ fn number(word: &[u8]) -> Option<u64> {
     str::from_utf8(word).ok()?.parse().ok()
 }
 
-// Reads the numbers of a line, which have one space between them, to `room`.
-pub fn read_numbers<'a>(line: &[u8], room: &'a mut [u64; NUMBERS]) -> Option<&'a [u64]> {
-    let mut n = 0;
-    for word in line.split(|&byte| byte == b' ') {
-        *room.get_mut(n)? = number(word)?;
-        n += 1;
-    }
-    room.get(..n)
+// A number that is a byte.
+fn byte(number: u64) -> Result<u8, Fault>
+    ensures { IfOk result (λ n. n ≡ number) }
+{
+    u8::try_from(number).map_err(|_| Fault::Unreadable)
 }
 
-// As many numbers as the first one says, and what follows them.
-fn counted(line: &[u64]) -> Option<(&[u64], &[u64])> {
-    let (&n, rest) = line.split_first()?;
-    rest.split_at_checked(n as usize)
+// The numbers of a line, which have one space between them.
+pub fn read_numbers(alloc: Global, line: &[u8]) -> Result<Vec<u64>, Fault> {
+    line.split(|&byte| byte == b' ')
+        .map(|word| number(word).ok_or(Fault::Unreadable))
+        .try_collect(alloc)
 }
 
-// Copies numbers that are bytes to the front of `room`.
-pub fn to_bytes<'a>(numbers: &[u64], room: &'a mut [u8]) -> Option<&'a [u8]> {
-    let bytes = room.get_mut(..numbers.len())?;
-    for (byte, &number) in bytes.iter_mut().zip(numbers) {
-        *byte = u8::try_from(number).ok()?;
-    }
-    Some(bytes)
-}
-
-// A type that stands at the front of a line: its kinds and its arguments, and what follows it.
-#[derive(Clone, Copy)]
+// A type that stands in a line.
+#[derive(Drop)]
 pub struct TypeRead<'a> {
-    pub kinds: &'a [u8],
+    pub kinds: Vec<u8>,
     pub args: &'a [u64],
+}
+
+// What is still to be read of a line's numbers, and where what is read from them goes.
+#[derive(Drop)]
+pub struct Line<'a> {
     pub rest: &'a [u64],
+    pub alloc: Global,
 }
 
-// Reads a type: the number of its kinds, the kinds, which go to `room`, the number of its arguments, the arguments.
-pub fn read_type<'a>(line: &'a [u64], room: &'a mut [u8; NODES]) -> Option<TypeRead<'a>> {
-    let (kinds, line) = counted(line)?;
-    let kinds = to_bytes(kinds, room)?;
-    let (args, rest) = counted(line)?;
-    Some(TypeRead { kinds, args, rest })
-}
+impl<'a> Line<'a> {
+    pub fn number(&mut self) -> Result<u64, Fault>
+        ensures { IfOk result (λ n. self.old.rest.now ≡ n ∷ self.new.rest.now) }
+    {
+        let (&number, rest) = self.rest.split_first().ok_or(Fault::Unreadable)?;
+        self.rest = rest;
+        Ok(number)
+    }
 
-// Reads a flag, which is 0 or 1, and gives what follows it too.
-pub fn read_flag(line: &[u64]) -> Option<(bool, &[u64])> {
-    match line {
-        [0, rest @ ..] => Some((false, rest)),
-        [1, rest @ ..] => Some((true, rest)),
-        _ => None,
+    pub fn byte(&mut self) -> Result<u8, Fault>
+        ensures { IfOk result (λ n. self.old.rest.now ≡ n ∷ self.new.rest.now) }
+    {
+        byte(self.number()?)
+    }
+
+    // A flag is 0 or 1.
+    pub fn flag(&mut self) -> Result<bool, Fault>
+        ensures { IfOk result (λ on. self.old.rest.now ≡ truth on ∷ self.new.rest.now) }
+    {
+        match self.number()? {
+            0 => Ok(false),
+            1 => Ok(true),
+            _ => Err(Fault::Unreadable),
+        }
+    }
+
+    // As many numbers as the first one says.
+    fn counted(&mut self) -> Result<&'a [u64], Fault>
+        ensures { IfOk result (λ ns. self.old.rest.now ≡ length ns.now ∷ (ns.now ++ self.new.rest.now)) }
+    {
+        let n = self.number()? as usize;
+        let (numbers, rest) = self.rest.split_at_checked(n).ok_or(Fault::Unreadable)?;
+        self.rest = rest;
+        Ok(numbers)
+    }
+
+    // The number of a type's kinds, the kinds, the number of its arguments, the arguments.
+    #[tactic(auto, unfolding(crate::specs::Answer::type_record))]
+    pub fn read_type(&mut self) -> Result<TypeRead<'a>, Fault>
+        ensures { IfOk result (λ t. self.old.rest.now ≡ type_record t.kinds.items t.args.now ++ self.new.rest.now) }
+    {
+        let mut kinds = Vec::new(self.alloc);
+        for &kind in self.counted()? {
+            kinds.push(byte(kind)?)?;
+        }
+        let args = self.counted()?;
+        Ok(TypeRead { kinds, args })
     }
 }
