@@ -1,2 +1,3 @@
--- The worked cases hold.
+-- The worked cases hold, at the code's own limits.
 mod Nested
+pub mod Claim

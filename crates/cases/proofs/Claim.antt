@@ -1,4 +1,5 @@
--- The worked cases hold: by computation, for both flags and for an empty Struct and any other. Assumes nothing.
+-- The worked cases hold at the code's own limits: by computation, for both flags and for an empty Struct and any other.
+-- Assumes nothing.
 use mathlib.Core.Path.{refl}
 use mathlib.Core.Bool.{true, false}
 use Rattle.flat.specs.Argument.{argument_fits, argument_rule}
@@ -29,11 +30,13 @@ use Rattle.supertype_arms.specs.Supertype.{fits_orig_prec_scale, beside_integer,
 use Rattle.supertype_arms.specs.Supertype.{supertype}
 use Rattle.supertype.specs.Pair.{pair_checked, root_supertype, supertype_of}
 use Rattle.channels.specs.Merge.{merged_with, merged_of}
-use Rattle.cases.specs.Cases.{Hold}
+use Rattle.flat.specs.declared.TheConstants.Flat.{MAX_NODES, MAX_DEPTH}
+use Rattle.encoded.specs.declared.TheConstants.Encoding.{ARGUMENT_BYTES}
+use Rattle.channels.specs.declared.TheConstants.ChannelTypes.{CHANNELS}
+use Rattle.cases.specs.Cases.{Hold, CasesHold}
 use Rattle.cases.proofs.Nested.{nested_hold}
-use Rattle.cases.proofs.cases_hold.Goals as goal
 
-pub returns : goal.returns
+pub cases_hold : CasesHold MAX_NODES MAX_DEPTH CHANNELS ARGUMENT_BYTES
 unfolding lists fields_of both_of argument_fits argument_rule count head_kind head_arg size depth kinds_of args_of
     children node_at node_in length_fits kinds_fit arguments_fit reading fitting little_endian number arg_bytes
     args_from encoding count_in kinds_in args_in size_fits decoding among is_float is_unknown_int is_signed_integer
@@ -43,7 +46,7 @@ unfolding lists fields_of both_of argument_fits argument_rule count head_kind he
     floats signed unsigned mixed upcast_where upcast_of lossless lossless_of unknown_arms arms plan_of smallest_fitting
     dyn_number run inner supertype_with known_supertype supertype fits_dec128 fits_orig_prec_scale beside_integer
     is_listed pair_checked root_supertype supertype_of merged_with merged_of
-returns c i true j t empty = (unfold Hold in refl, nested_hold _ i true j t)
-returns c i false j t empty = (unfold Hold in refl, nested_hold _ i false j t)
-returns c i true j t (field name u fs) = (unfold Hold in refl, nested_hold _ i true j t)
-returns c i false j t (field name u fs) = (unfold Hold in refl, nested_hold _ i false j t)
+cases_hold i true j t empty = (unfold Hold in refl, nested_hold _ i true j t)
+cases_hold i false j t empty = (unfold Hold in refl, nested_hold _ i false j t)
+cases_hold i true j t (field name u fs) = (unfold Hold in refl, nested_hold _ i true j t)
+cases_hold i false j t (field name u fs) = (unfold Hold in refl, nested_hold _ i false j t)
