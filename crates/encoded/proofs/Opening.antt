@@ -2,7 +2,7 @@
 -- are the flat form of the tree, so that a walk may start. Assumes nothing.
 use mathlib.Core.Path.{◌≡◌, refl, sym, ap, ap₂, ◌∙◌}
 use mathlib.Core.List.{List, ◌++◌}
-use Prim.Native.Nat.{ℕ, ◌+◌, ◌-◌}
+use Prim.Native.Nat.{ℕ, ◌+◌, ◌-◌, ◌≤◌}
 use Rattle.std.specs.Prelude.{None, Some, Ok, Err}
 use lib.ListN.{length, take, drop}
 use lib.Seq.{take_at}
@@ -94,6 +94,7 @@ module _ {w nodes deep n : ℕ} {s xs xs' : List ℕ} (o : Reads w nodes deep s 
 -- the two arrays are, and these are as good as checked.
 pub record OpenedAs (w nodes deep : ℕ) (s ks xs : List ℕ) : Type 0 where
   pub counted : nodes_in w nodes s ≡ Some (length ks)
+  pub few : length ks ≤ nodes
   pub arrays : Passed nodes deep ks xs
   pub reads : decoding w nodes deep s ≡ type arrays.tree
 
@@ -116,6 +117,7 @@ opened {w} {nodes} {deep} {s} {ks} {xs} q =
     let p : Passed nodes deep ks xs = check_passed (sym (ap checked_of is)) in
     record {
       counted = nodes_sized z ∙ ap Some (sym (kinds_length z) ∙ ap length h.kinds ∙ sym (ap length k));
+      few = rw p.whole at p.form.is_type.within;
       arrays = p;
       reads = r ∙ sym is ∙ p.reads;
     }
