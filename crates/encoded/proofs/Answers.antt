@@ -12,7 +12,7 @@ use borrow.Author.Tests.{lt-ltb, le-leb, eq-eqb, ltb-true, leb-true, eqb-true}
 use borrow.Author.Rules.{part_to_end}
 use lib.Dec.{leb}
 use lib.ListN.{length, get_or, take, drop, length-drop}
-use lib.Seq.{drop-drop, length-take-le, take_at, get_or-take, get_or-drop}
+use lib.Seq.{drop-drop, length-take-le, get_or-take, get_or-drop}
 use Rattle.flat.specs.Tree.{DataType, size, kinds_of, args_of}
 use Rattle.flat.specs.Reading.{Reading, refused, type, unless, reading, checked_of, root_of, RootFits}
 use Rattle.flat.specs.Output.{over, fitting}
@@ -73,12 +73,6 @@ module _ {w nodes n : ℕ} {s : List ℕ} (z : Sized w nodes n s) where
 
   pub args_length : length (args_in w s) ≡ n
   args_length = rw (← args_part, args_from_length)
-
-  -- the arguments of s, read to the front of xs
-  pub args_read :
-      (rest : List ℕ) {xs : List ℕ} → xs ≡ args_from w n (take (length s - (2 + n)) (drop (2 + n) s)) ++ rest
-      → take n xs ≡ args_in w s
-  args_read rest e = rw (e, args_part, take_at (args_in w s) rest n args_length)
 
   pub decoding_sized : (deep : ℕ) → decoding w nodes deep s ≡ reading nodes deep (kinds_in s) (args_in w s)
   unfolding decoding

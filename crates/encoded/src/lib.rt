@@ -40,10 +40,9 @@ pub fn node_count(encoded: &[u8]) -> Option<usize>
         return None;
     }
     let n = bytes::count(encoded);
-    if n == 0 || n > Flat::MAX_NODES || encoded.len() != 2 + (Encoding::ARGUMENT_BYTES + 1) * n {
-        return None;
-    }
-    Some(n)
+    let fits = (1..=Flat::MAX_NODES).contains(&n)
+        && encoded.len() == 2 + (Encoding::ARGUMENT_BYTES + 1) * n;
+    fits.then_some(n)
 }
 
 // Whether bytes are one plain leaf. So short a test is compiled into its callers.
@@ -90,7 +89,9 @@ fn check_in<const N: usize>(encoded: &[u8]) -> Result<(), Error>
     Ok(())
 }
 
-// Whether bytes are an encoded type, of any number of nodes.
+// Whether bytes are an encoded type, of any number of nodes. Four calls of the crates above choose a size too: a trait
+// whose method takes the size would add a struct and an impl to each, and of a closure that is lent the array a proof
+// would not know what it writes to `out`.
 fn check_nodes(encoded: &[u8]) -> Result<(), Error>
     ensures { result ≡ checked_of (decoded encoded.now) }
 {
