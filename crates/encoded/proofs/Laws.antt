@@ -15,12 +15,12 @@ use lib.Seq.{ext_get_or, get_or-take, get_or-drop}
 use borrow.Rule.Slice.PartMut.{put_mid}
 use Rattle.std.proofs.lemmas.List.{take_all, get_or-set_same, get_or-set_other}
 use native.Mathlib.Decide.{dec_lt}
-use Rattle.encoded.specs.Encoding.{little_endian, number, arg_bytes, args_from, encoding, encoded_size}
+use Rattle.encoded.specs.Encoding.{little_endian, number, arg_bytes, args_from, encoding, encoded_size, count_in}
 use Rattle.encoded.specs.RoundTrip.{Below}
 use Rattle.flat.specs.Output.{over}
 use Rattle.std.specs.Simd.{first_chunks}
 use Rattle.std.specs.Int.{from_le_bytes, bytes_low_first}
-use mir.Syntax.{w64}
+use mir.Syntax.{w16, w64}
 
 -- ---- numbers as bytes
 
@@ -42,8 +42,15 @@ number_bytes zero s at k h = refl
 number_bytes (suc w) s at k h =
     rw (drop-cons s (at + k) 0 (omega arith), ← add-suc, number_bytes w s at (suc k) (omega arith))
 
--- the library's number of 8 bytes
-pub le_number : (bs : List ℕ) → length bs ≡ 8 → from_le_bytes w64 bs ≡ number bs
+-- the library's number of 2 bytes, and of 8
+le_number_2 : (bs : List ℕ) → length bs ≡ 2 → from_le_bytes w16 bs ≡ number bs
+le_number_2 bs h = omega (arith, rw (take_all 2 bs (omega arith)) at (number_bytes 2 bs 0 0 (omega arith)))
+
+pub count_number : (s : List ℕ) {bs : List ℕ} → 2 ≤ length s → bs ≡ take 2 s → from_le_bytes w16 bs ≡ count_in s
+unfolding count_in
+count_number s h e = rw e (le_number_2 (take 2 s) (length-take-le 2 s h))
+
+le_number : (bs : List ℕ) → length bs ≡ 8 → from_le_bytes w64 bs ≡ number bs
 le_number bs h = omega (arith, rw (take_all 8 bs (omega arith)) at (number_bytes 8 bs 0 0 (omega arith)))
 
 pub word_number :

@@ -1,14 +1,15 @@
 // Numbers as bytes, low byte first, and runs of them.
-ghost use Rattle.std.specs.Prelude.{◌≡◌, ◌+◌, ◌*◌, ◌≤◌, ◌<◌, length, take, drop};
+ghost use Rattle.std.specs.Prelude.{◌≡◌, cond, leb, ◌+◌, ◌*◌, ◌≤◌, length, take, drop};
 ghost use Rattle.flat.specs.Output.{over};
 ghost use Rattle.encoded.specs.Encoding.{number, arg_bytes, args_from, count_in};
 
-// The count that 2 bytes or more begin with.
-pub fn count(encoded: &[u8]) -> usize
-    requires { 2 ≤ length encoded.now }
-    ensures { (result ≡ count_in encoded.now) × (result < 65536) }
+// The count that bytes begin with, where they are 2 or more.
+pub fn count(encoded: &[u8]) -> Option<usize>
+    ensures { let s = encoded.now in
+        result ≡ cond (leb 2 (length s)) (Some (count_in s)) None }
 {
-    u16::from_le_bytes([encoded[0], encoded[1]]) as usize
+    let low_first = encoded.first_chunk()?;
+    Some(usize::from(u16::from_le_bytes(*low_first)))
 }
 
 // The 8 bytes at a place.

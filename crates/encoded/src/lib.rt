@@ -36,10 +36,7 @@ impl Encoding {
 pub fn node_count(encoded: &[u8]) -> Option<usize>
     ensures { result ≡ counted encoded.now }
 {
-    if encoded.len() < 2 {
-        return None;
-    }
-    let n = bytes::count(encoded);
+    let n = bytes::count(encoded)?;
     let fits = (1..=Flat::MAX_NODES).contains(&n)
         && encoded.len() == 2 + (Encoding::ARGUMENT_BYTES + 1) * n;
     fits.then_some(n)
@@ -123,7 +120,7 @@ pub fn decode(encoded: &[u8], kinds: &mut [u8], args: &mut [u64]) -> Result<usiz
         DecodeEnsures Encoding.ARGUMENT_BYTES Flat.MAX_NODES Flat.MAX_DEPTH s ks xs kinds.new args.new result }
 {
     check(encoded)?;
-    let n = bytes::count(encoded);
+    let n = node_count(encoded).unwrap();
     if kinds.len() < n || args.len() < n {
         return Err(Error::OutputTooShort);
     }
@@ -138,9 +135,10 @@ fn root_of(encoded: &[u8]) -> Result<Node, Error>
     ensures { (result ≡ root_of (decoded encoded.now)) × RootFits result }
 {
     check_nodes(encoded)?;
+    let n = node_count(encoded).unwrap();
     Ok(Node {
         kind: encoded[2],
-        arg: bytes::word(encoded, 2 + bytes::count(encoded)),
+        arg: bytes::word(encoded, 2 + n),
     })
 }
 
