@@ -5,14 +5,14 @@ use mathlib.Core.Path.{◌≡◌, refl, sym, ap, ◌∙◌}
 use mathlib.Core.Bool.{Bool, true, false, cond, and-eq-true_iff}
 use mathlib.Core.List.{List, ◌++◌}
 use Prim.Native.Nat.{ℕ, ◌+◌, ◌-◌, ◌≤◌, ◌<◌}
-use Rattle.std.specs.Prelude.{Result, Ok, Err}
+use Rattle.std.specs.Prelude.{Option, None, Some, IfSome, ok_or, Result, Ok, Err}
 use native.Mathlib.Nat.{add-sub_cancel_left, zero-mul, le_of_mul-le-mul_left}
 use native.Mathlib.Omega.{arith}
 use borrow.Author.Tests.{lt-ltb, le-leb, eq-eqb, ltb-true, leb-true, eqb-true}
 use borrow.Author.Rules.{part_to_end}
 use lib.Dec.{leb}
 use lib.ListN.{length, get_or, take, drop, length-drop}
-use lib.Seq.{length-take-le, take_at, get_or-take, get_or-drop}
+use lib.Seq.{drop-drop, length-take-le, get_or-take, get_or-drop}
 use Rattle.flat.specs.Tree.{DataType, size, kinds_of, args_of}
 use Rattle.flat.specs.Reading.{Reading, refused, type, unless, reading, checked_of, root_of, RootFits}
 use Rattle.flat.specs.Output.{over, fitting}
@@ -47,6 +47,15 @@ module _ {w nodes n : ℕ} {s : List ℕ} (z : Sized w nodes n s) where
   unfolding size_fits
   size_fits_lem = simp (sym z.count, le-leb 2 (length s) (omega (arith, z.size)), lt-ltb 0 n z.some, le-leb n nodes z.few, eq-eqb (length s) (encoded_size w n) z.size)
 
+  -- the parts of s that hold the kinds and the arguments
+  pub kinds_front : take n (drop 2 s) ≡ kinds_in s
+  unfolding kinds_in
+  kinds_front = rw (← z.count)
+
+  pub args_rest : args_from w n (drop n (drop 2 s)) ≡ args_in w s
+  unfolding args_in
+  args_rest = rw (drop-drop, ← z.count)
+
   -- the part of s that holds the kinds
   pub kinds_part : take (2 + n - 2) (drop 2 s) ≡ kinds_in s
   unfolding kinds_in
@@ -65,60 +74,67 @@ module _ {w nodes n : ℕ} {s : List ℕ} (z : Sized w nodes n s) where
   pub args_length : length (args_in w s) ≡ n
   args_length = rw (← args_part, args_from_length)
 
-  -- the arguments of s, read to the front of xs
-  pub args_read :
-      (rest : List ℕ) {xs : List ℕ} → xs ≡ args_from w n (take (length s - (2 + n)) (drop (2 + n) s)) ++ rest
-      → take n xs ≡ args_in w s
-  args_read rest e = rw (e, args_part, take_at (args_in w s) rest n args_length)
-
   pub decoding_sized : (deep : ℕ) → decoding w nodes deep s ≡ reading nodes deep (kinds_in s) (args_in w s)
   unfolding decoding
   decoding_sized deep = rw size_fits_lem
 
--- where the number of nodes is not 0
-pub nodes_some : {w nodes n : ℕ} {s : List ℕ} → n ≡ nodes_in w nodes s → (n ≡ 0 → ⊥) → Sized w nodes n s
-unfolding nodes_in
-nodes_some {w} {nodes} {n} {s} e h = go (size_fits w nodes s) refl e
-  where
-    go : (b : Bool) → size_fits w nodes s ≡ b → n ≡ cond b (count_in s) 0 → Sized w nodes n s
-    go true f e = rw e (sized w nodes s f)
-    go false f e = absurd (h e)
+-- what an `ok_or` that a `?` follows tells of the option
+pub ok_or_some : {T E : Type 0} (o : Option T) (e : E) {x : T} {r : Result T E} → r ≡ ok_or o e → r ≡ Ok x → Some x ≡ o
+ok_or_some None e a b = impossible cc
+ok_or_some (Some y) e a b = cc
 
-pub nodes_sized : {w nodes n : ℕ} {s : List ℕ} → Sized w nodes n s → nodes_in w nodes s ≡ n
+pub ok_or_none :
+    {T E : Type 0} (o : Option T) (e : E) {d : E} {r : Result T E} → r ≡ ok_or o e → r ≡ Err d → (None ≡ o) × (d ≡ e)
+ok_or_none None e a b = (refl, cc)
+ok_or_none (Some y) e a b = impossible cc
+
+-- where bytes have a number of nodes
+pub nodes_some : {w nodes n : ℕ} {s : List ℕ} → Some n ≡ nodes_in w nodes s → Sized w nodes n s
 unfolding nodes_in
-nodes_sized z = rw (size_fits_lem z) (sym z.count)
+nodes_some {w} {nodes} {n} {s} e = go (size_fits w nodes s) refl e
+  where
+    go : (b : Bool) → size_fits w nodes s ≡ b → Some n ≡ cond b (Some (count_in s)) None → Sized w nodes n s
+    go true f e = let m : n ≡ count_in s = cc in rw m (sized w nodes s f)
+    go false f e = impossible cc
+
+pub nodes_sized : {w nodes n : ℕ} {s : List ℕ} → Sized w nodes n s → nodes_in w nodes s ≡ Some n
+unfolding nodes_in
+nodes_sized z = rw (size_fits_lem z) (ap Some (sym z.count))
+
+-- their number is at most m, where each number of nodes that bytes of their length have is
+nodes_most :
+    (w nodes m : ℕ) (s : List ℕ) → (Sized w nodes (count_in s) s → count_in s ≤ m)
+    → IfSome (nodes_in w nodes s) (λ n. n ≤ m)
+unfolding nodes_in
+nodes_most w nodes m s h = go (size_fits w nodes s) refl
+  where
+    go : (b : Bool) → size_fits w nodes s ≡ b → IfSome (cond b (Some (count_in s)) None) (λ n. n ≤ m)
+    go true f = h (sized w nodes s f)
+    go false f = tt
 
 -- the number of nodes is never over the limit
-pub nodes_few : (w nodes : ℕ) (s : List ℕ) → nodes_in w nodes s ≤ nodes
-unfolding nodes_in
-nodes_few w nodes s = go (size_fits w nodes s) refl
-  where
-    go : (b : Bool) → size_fits w nodes s ≡ b → cond b (count_in s) 0 ≤ nodes
-    go true f = (sized w nodes s f).few
-    go false f = omega arith
+pub nodes_few : (w nodes : ℕ) (s : List ℕ) → IfSome (nodes_in w nodes s) (λ n. n ≤ nodes)
+nodes_few w nodes s = nodes_most w nodes nodes s (λ z. z.few)
 
 -- short bytes have few nodes
-pub short_few : (w nodes few : ℕ) (s : List ℕ) → length s ≤ encoded_size w few → nodes_in w nodes s ≤ few
-unfolding nodes_in
-short_few w nodes few s h = go (size_fits w nodes s) refl
-  where
-    go : (b : Bool) → size_fits w nodes s ≡ b → cond b (count_in s) 0 ≤ few
-    go true f = le_of_mul-le-mul_left {k = w + 1} (omega (arith, (sized w nodes s f).size)) (omega arith)
-    go false f = omega arith
+pub short_few :
+    (w nodes few : ℕ) (s : List ℕ) → length s ≤ encoded_size w few → IfSome (nodes_in w nodes s) (λ n. n ≤ few)
+short_few w nodes few s h =
+    nodes_most w nodes few s (λ z. le_of_mul-le-mul_left {k = w + 1} (omega (arith, z.size)) (omega arith))
 
--- where the number of nodes is 0
-pub nodes_none : (w nodes : ℕ) (s : List ℕ) {n : ℕ} → n ≡ nodes_in w nodes s → n ≡ 0 → size_fits w nodes s ≡ false
+-- where bytes have none
+pub nodes_none : (w nodes : ℕ) (s : List ℕ) → None ≡ nodes_in w nodes s → size_fits w nodes s ≡ false
 unfolding nodes_in
-nodes_none w nodes s e h = go (size_fits w nodes s) refl (sym h ∙ e)
+nodes_none w nodes s = go (size_fits w nodes s)
   where
-    go : (b : Bool) → size_fits w nodes s ≡ b → 0 ≡ cond b (count_in s) 0 → b ≡ false
-    go true f e = absurd (omega (arith, (sized w nodes s f).some))
-    go false f e = refl
+    go : (b : Bool) → None ≡ cond b (Some (count_in s)) None → b ≡ false
+    go true e = impossible cc
+    go false e = refl
 
 pub decoding_none :
-    (w nodes deep : ℕ) (s : List ℕ) {n : ℕ} → n ≡ nodes_in w nodes s → n ≡ 0 → decoding w nodes deep s ≡ refused Length
+    (w nodes deep : ℕ) (s : List ℕ) → None ≡ nodes_in w nodes s → decoding w nodes deep s ≡ refused Length
 unfolding decoding
-decoding_none w nodes deep s e h = rw (nodes_none w nodes s e h)
+decoding_none w nodes deep s e = rw (nodes_none w nodes s e)
 
 -- ---- what `check` tells where it passes
 
@@ -165,12 +181,6 @@ encoded_form {w} {nodes} {deep} {n} {s} e c =
     let r = checked_type (decoding w nodes deep s) e in
     let f : EncodedForm w nodes deep (size r.0) s = type_form r.0 r.1 in
     rw (f.sized.count ∙ sym c) at f
-
--- the form of the bytes with the number of nodes that `node_count` answers
-pub counted_form :
-    {w nodes deep n m : ℕ} {s : List ℕ} → EncodedForm w nodes deep n s → m ≡ nodes_in w nodes s
-    → EncodedForm w nodes deep m s
-counted_form f c = rw (sym (c ∙ nodes_sized f.sized)) at f
 
 -- ---- the root, where a check passes
 

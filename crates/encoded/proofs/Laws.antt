@@ -8,15 +8,19 @@ use native.Mathlib.Nat.{div-lt_iff_lt-mul, div-one, div-div-eq-div-mul}
 use native.Mathlib.Numerals.{add-one}
 use native.Mathlib.Omega.{arith}
 use lib.Dec.{lit<}
-use lib.ListN.{length, get_or, take, drop, length-append, length-take, length-drop, take-append-drop}
+use lib.ListN.{length, get_or, take, drop, set, length-append, length-take, length-drop, take-append-drop}
+use lib.ListN.{drop_of_length-le}
 use lib.Seq.{drop-cons, drop-drop, length-take-le, take_at, drop_at}
 use lib.Seq.{ext_get_or, get_or-take, get_or-drop}
 use borrow.Rule.Slice.PartMut.{put_mid}
-use Rattle.std.proofs.lemmas.List.{take_all}
-use Rattle.std.proofs.lemmas.Slice.{take-put_mid}
-use Rattle.encoded.specs.Encoding.{little_endian, number, arg_bytes, args_from, encoding, encoded_size}
+use Rattle.std.proofs.lemmas.List.{take_all, get_or-set_same, get_or-set_other}
+use native.Mathlib.Decide.{dec_lt}
+use Rattle.encoded.specs.Encoding.{little_endian, number, arg_bytes, args_from, encoding, encoded_size, count_in}
 use Rattle.encoded.specs.RoundTrip.{Below}
-use Rattle.std.specs.Int.{bytes_low_first}
+use Rattle.flat.specs.Output.{over}
+use Rattle.std.specs.Simd.{first_chunks}
+use Rattle.std.specs.Int.{from_le_bytes, bytes_low_first}
+use mir.Syntax.{w16, w64}
 
 -- ---- numbers as bytes
 
@@ -37,6 +41,22 @@ unfolding number
 number_bytes zero s at k h = refl
 number_bytes (suc w) s at k h =
     rw (drop-cons s (at + k) 0 (omega arith), ← add-suc, number_bytes w s at (suc k) (omega arith))
+
+-- the library's number of 2 bytes, and of 8
+le_number_2 : (bs : List ℕ) → length bs ≡ 2 → from_le_bytes w16 bs ≡ number bs
+le_number_2 bs h = omega (arith, rw (take_all 2 bs (omega arith)) at (number_bytes 2 bs 0 0 (omega arith)))
+
+pub count_number : (s : List ℕ) {bs : List ℕ} → 2 ≤ length s → bs ≡ take 2 s → from_le_bytes w16 bs ≡ count_in s
+unfolding count_in
+count_number s h e = rw e (le_number_2 (take 2 s) (length-take-le 2 s h))
+
+le_number : (bs : List ℕ) → length bs ≡ 8 → from_le_bytes w64 bs ≡ number bs
+le_number bs h = omega (arith, rw (take_all 8 bs (omega arith)) at (number_bytes 8 bs 0 0 (omega arith)))
+
+pub word_number :
+    (s : List ℕ) (at : ℕ) {bs : List ℕ} → at + 8 ≤ length s → bs ≡ take 8 (drop at s)
+    → from_le_bytes w64 bs ≡ number (take 8 (drop at s))
+word_number s at h e = rw e (le_number (take 8 (drop at s)) (length-take-le 8 (drop at s) (rw length-drop (omega arith))))
 
 -- the library's bytes, from byte i upward, are those of what is left of v
 low_first : (i w v : ℕ) → bytes_low_first i w v ≡ little_endian w (v / 256 ^ i)
@@ -79,6 +99,14 @@ number_below (suc w) [] h f = rw pow-suc (omega (arith, number_below w [] (omega
 number_below (suc w) (b ∷ bs) h f =
     rw pow-suc (omega (arith, f 0 (omega arith), number_below w bs (omega arith) (λ i k. f (suc i) (omega arith))))
 
+-- ---- a list that is written from the front
+
+-- d is p and then what is left of q; ys was written to it behind p
+write_next :
+    (p q : List ℕ) {d : List ℕ} (ys : List ℕ) (at k end : ℕ) → at + k ≡ end → d ≡ p ++ drop at q → length p ≡ at
+    → put_mid at k d ys ≡ (p ++ ys) ++ drop end q
+write_next p q ys at k end h e n = rw (e, take_at p _ at n, drop_at p _ at n, drop-drop, h, append_assoc)
+
 -- ---- runs of arguments
 
 pub args_from_length : (w n : ℕ) (bs : List ℕ) → length (args_from w n bs) ≡ n
@@ -94,6 +122,14 @@ args_from_at w zero bs i h = absurd (omega arith)
 args_from_at w (suc n) bs zero h = rw zero-mul
 args_from_at w (suc n) bs (suc i) h = rw (args_from_at w n (drop w bs) i (omega arith), drop-drop, suc-mul, add_comm w)
 
+-- the chunks of 8 bytes, each in its place
+chunk_at :
+    {X : Type 0} (n k : ℕ) (l d : List X) (i : ℕ) → i < k → get_or (first_chunks n k l) i d ≡ take n (drop (i * n) l)
+chunk_at n zero l d i h = absurd (omega arith)
+chunk_at n (suc k) l d zero h = rw zero-mul refl
+chunk_at n (suc k) l d (suc i) h =
+    rw (suc-mul, add_comm (i * n) n, ← drop-drop) (chunk_at n k (drop n l) d i (omega arith))
+
 -- n arguments that were read each from its own w bytes
 pub args_read_all :
     (n : ℕ) (bs xs : List ℕ) → length xs ≡ n
@@ -102,6 +138,25 @@ args_read_all n bs xs e f =
     ext_get_or 0 _ _ (e ∙ sym (args_from_length 8 n bs))
     (λ i h. let k : i < n = omega arith in
     f i h ∙ ap (λ (j : ℕ). number (take 8 (drop j bs))) (mul_comm 8 i) ∙ sym (args_from_at 8 n bs i k))
+
+-- the next argument was read, from its chunk
+pub args_read_next :
+    (xs bs d : List ℕ) (n i : ℕ) {v : ℕ} → i < length xs → i < n → 8 * n ≤ length bs
+    → ((k : ℕ) → k < i → get_or xs k 0 ≡ number (take 8 (drop (8 * k) bs)))
+    → v ≡ from_le_bytes w64 (get_or (first_chunks 8 n bs) i d)
+    → (k : ℕ) → k < i + 1 → get_or (set xs i v) k 0 ≡ number (take 8 (drop (8 * k) bs))
+args_read_next xs bs d n i {v} h m room f e k l = go (dec_lt k i)
+  where
+    chunk : v ≡ number (take 8 (drop (8 * i) bs))
+    chunk =
+        e ∙ word_number bs (8 * i) (omega arith)
+        (chunk_at 8 n bs d i m ∙ ap (λ (j : ℕ). take 8 (drop j bs)) (mul_comm i 8))
+
+    go : Dec (k < i) → get_or (set xs i v) k 0 ≡ number (take 8 (drop (8 * k) bs))
+    go (yes b) = get_or-set_other xs i k v 0 (λ p. omega arith) ∙ f k b
+    go (no b) =
+        let p : k ≡ i = omega arith in
+        rw p (get_or-set_same xs i v 0 h ∙ chunk)
 
 pub arg_bytes_length : (w : ℕ) (xs : List ℕ) → length (arg_bytes w xs) ≡ length xs * w
 unfolding arg_bytes
@@ -128,21 +183,29 @@ arg_bytes_more w (a ∷ xs) zero h = append-nil (little_endian w a)
 arg_bytes_more w (a ∷ xs) (suc i) h =
     ap (λ (l : List ℕ). little_endian w a ++ l) (arg_bytes_more w xs i (omega arith)) ∙ sym (append_assoc (little_endian w a) _ _)
 
--- the first i arguments were written to the front of out, and then the next one was
+-- the first i arguments were written to the front of o, and then the next one was
 pub args_next :
-    (xs : List ℕ) (i : ℕ) (out : List ℕ) {ys : List ℕ} → i < length xs → 8 * i ≤ length out
-    → take (8 * i) out ≡ arg_bytes 8 (take i xs) → ys ≡ little_endian 8 (get_or xs i 0)
-    → take (8 * (i + 1)) (put_mid (8 * i) (8 * i + 8 - 8 * i) out ys) ≡ arg_bytes 8 (take (i + 1) xs)
-args_next xs i out {ys} h room e f =
-    let long : length ys ≡ 8 = ap length f ∙ little_endian_length 8 _ in
-    rw add-one
-    (take-put_mid (8 * i) (8 * i + 8 - 8 * i) out ys (8 * suc i) (omega arith) room ∙ rw (e, f) (sym (arg_bytes_more 8 xs i h)))
+    (xs : List ℕ) (i : ℕ) (o : List ℕ) {out ys : List ℕ} → i < length xs
+    → out ≡ arg_bytes 8 (take i xs) ++ drop (8 * i) o → ys ≡ little_endian 8 (get_or xs i 0)
+    → put_mid (8 * i) (8 * i + 8 - 8 * i) out ys ≡ arg_bytes 8 (take (i + 1) xs) ++ drop (8 * (i + 1)) o
+args_next xs i o {out} {ys} h e f =
+    let long : length (arg_bytes 8 (take i xs)) ≡ 8 * i = arg_bytes_length 8 (take i xs) ∙ (rw (length-take-le i xs (omega arith)) (mul_comm i 8)) in
+    let next = write_next (arg_bytes 8 (take i xs)) o ys (8 * i) (8 * i + 8 - 8 * i) (8 * (i + 1)) (omega arith) e long in
+    next ∙ rw (f, add-one, arg_bytes_more 8 xs i h) refl
 
--- all were written, and filled out
+-- all were written
 pub args_written :
-    (xs : List ℕ) {i : ℕ} {out : List ℕ} → length xs ≤ i → length out ≤ 8 * i
-    → take (8 * i) out ≡ arg_bytes 8 (take i xs) → out ≡ arg_bytes 8 xs
-args_written xs {i} {out} h k e = sym (take_all (8 * i) out k) ∙ e ∙ ap (arg_bytes 8) (take_all i xs h)
+    (xs o : List ℕ) {i : ℕ} {out : List ℕ} → length xs ≡ i → out ≡ arg_bytes 8 (take i xs) ++ drop (8 * i) o
+    → out ≡ over (arg_bytes 8 xs) o
+args_written xs o {i} {out} h e =
+    let long : length (arg_bytes 8 xs) ≡ 8 * i = arg_bytes_length 8 xs ∙ (rw h (mul_comm i 8)) in
+    rw long (rw (take_all i xs (omega arith)) at e)
+
+-- and filled out
+pub args_filled : (xs o : List ℕ) {out : List ℕ} → length o ≡ 8 * length xs → out ≡ over (arg_bytes 8 xs) o → out ≡ arg_bytes 8 xs
+args_filled xs o h e =
+    let long : length (arg_bytes 8 xs) ≡ 8 * length xs = arg_bytes_length 8 xs ∙ mul_comm (length xs) 8 in
+    rw (drop_of_length-le o {i = length (arg_bytes 8 xs)} (omega arith), append-nil) at e
 
 -- arguments that fit w bytes each are read back from them
 pub args_from_arg_bytes : (w : ℕ) (xs : List ℕ) → Below (256 ^ w) xs → args_from w (length xs) (arg_bytes w xs) ≡ xs
@@ -171,12 +234,6 @@ args_below w n bs f i h =
     rw args_from_at (number_below w (take w (drop (i * w) bs)) (omega arith) (below_take 256 w (drop (i * w) bs) (below_drop 256 (i * w) bs f)))
 
 -- ---- the whole
-
--- d is p and then what is left of q; ys was written to it behind p
-write_next :
-    (p q : List ℕ) {d : List ℕ} (ys : List ℕ) (at k end : ℕ) → at + k ≡ end → d ≡ p ++ drop at q → length p ≡ at
-    → put_mid at k d ys ≡ (p ++ ys) ++ drop end q
-write_next p q ys at k end h e n = rw (e, take_at p _ at n, drop_at p _ at n, drop-drop, h, append_assoc)
 
 -- the count, the kinds and the arguments come to the size of n nodes
 pub size_parts : (w n : ℕ) → encoded_size w n ≡ 2 + n + n * w

@@ -3,9 +3,11 @@ use mathlib.Core.Path.{◌≡◌, refl, sym, ap, ◌∙◌}
 use mathlib.Core.Bool.{Bool, true, false, ◌&&◌}
 use mathlib.Core.List.{List, [], ◌∷◌}
 use Prim.Native.Nat.{ℕ, ◌≤◌, ◌<◌}
-use Rattle.std.specs.Prelude.{Ok}
+use Rattle.std.specs.Prelude.{Option, None, Some, nat_eq, Ok}
+use Rattle.std.specs.Option.{option_eq}
 use native.Mathlib.Omega.{arith}
 use borrow.Author.Rules.{part_to_end}
+use borrow.Author.Tests.{eqb-true}
 use lib.ListN.{length, get_or, take, drop}
 use lib.Seq.{drop-cons}
 use Rattle.flat.specs.Kind
@@ -13,16 +15,22 @@ use Rattle.flat.specs.Argument.{plain_leaf}
 use Rattle.flat.specs.Tree.{leaf, head_kind, head_arg}
 use Rattle.flat.specs.Reading.{type, one_plain, root_of, RootFits}
 use Rattle.flat.specs.declared.Node.{Node}
-use Rattle.flat.proofs.Truths.{both_true}
+use Rattle.flat.proofs.Truths.{both_true, impossible}
 use Rattle.flat.proofs.Plain.{kinds_told, plain_fits, PlainType, plain_type}
 use Rattle.encoded.specs.Encoding.{number, args_from, kinds_in, args_in, size_fits, decoding}
 use Rattle.encoded.specs.Answer.{nodes_in, plain_in}
 use Rattle.encoded.proofs.Answers.{Sized, sized, size_fits_lem, kinds_part, args_part, kinds_length, decoding_sized}
-use Rattle.encoded.proofs.Answers.{nodes_some, nodes_sized}
+use Rattle.encoded.proofs.Answers.{nodes_sized}
 
 -- ---- bytes of one node
-pub nodes_one : {w nodes n : ℕ} {s : List ℕ} → n ≡ nodes_in w nodes s → n ≡ 1 → Sized w nodes 1 s
-nodes_one e h = rw h at (nodes_some e (λ z. omega arith))
+
+-- what `== Some(1)` tells
+pub is_one : (o : Option ℕ) → option_eq nat_eq o (Some 1) ≡ true → Some 1 ≡ o
+is_one None e = impossible cc
+is_one (Some n) e = ap Some (sym (eqb-true n 1 e))
+
+pub not_one : (o : Option ℕ) → false ≡ option_eq nat_eq o (Some 1) → o ≡ Some 1 → ⊥
+not_one o e h = let f : false ≡ option_eq nat_eq (Some 1) (Some 1) = rw h at e in impossible cc
 
 module _ {w nodes : ℕ} {s : List ℕ} (z : Sized w nodes 1 s) where
   one_kind : kinds_in s ≡ get_or s 2 0 ∷ []
@@ -38,19 +46,19 @@ module _ {w nodes : ℕ} {s : List ℕ} (z : Sized w nodes 1 s) where
   one_told = rw (size_fits_lem z, one_kind, one_arg)
 
 -- bytes of any other number of nodes are no plain leaf
-pub others_told : (w nodes : ℕ) (s : List ℕ) {n : ℕ} → n ≡ nodes_in w nodes s → (n ≡ 1 → ⊥) → false ≡ plain_in w nodes s
+pub others_told : (w nodes : ℕ) (s : List ℕ) → (nodes_in w nodes s ≡ Some 1 → ⊥) → false ≡ plain_in w nodes s
 unfolding plain_in
-others_told w nodes s e h = go (size_fits w nodes s) refl
+others_told w nodes s h = go (size_fits w nodes s) refl
   where
     go : (b : Bool) → size_fits w nodes s ≡ b → false ≡ b && one_plain (kinds_in s) (args_in w s)
-    go true f = let z = sized w nodes s f in kinds_told _ _ (λ l. h (e ∙ nodes_sized z ∙ sym (kinds_length z) ∙ l))
+    go true f = let z = sized w nodes s f in kinds_told _ _ (λ l. h (nodes_sized z ∙ ap Some (sym (kinds_length z) ∙ l)))
     go false f = refl
 
 -- What the test tells of the bytes s: they hold the one leaf, with the argument 0, and that is a type.
 pub record PlainBytes (w nodes : ℕ) (s : List ℕ) : Type 0 where
   pub sized : Sized w nodes 1 s
   pub long : 3 ≤ length s
-  pub count : nodes_in w nodes s ≡ 1
+  pub count : nodes_in w nodes s ≡ Some 1
   pub kinds : kinds_in s ≡ get_or s 2 0 ∷ []
   pub args : args_in w s ≡ 0 ∷ []
   pub plain : plain_leaf (get_or s 2 0) 0 ≡ true

@@ -7,7 +7,7 @@ use Prim.Native.Nat.{ℕ, ◌+◌, ◌^◌, ◌≤◌, ◌<◌}
 use Rattle.std.specs.Prelude.{Result, Ok}
 use native.Mathlib.Omega.{arith}
 use borrow.Author.Tests.{le-leb}
-use lib.Dec.{leb}
+use lib.Dec.{leb, lit<, lit≤}
 use lib.ListN.{length, take, drop, length-drop, take-append-drop}
 use lib.Seq.{take_at, drop_at, drop-drop, length-take-le}
 use Rattle.flat.specs.Tree.{DataType, size, kinds_of, args_of}
@@ -23,6 +23,7 @@ use Rattle.encoded.specs.Encoding.{little_endian, arg_bytes, encoding, encoded_s
 use Rattle.encoded.specs.Encoding.{size_fits, decoding}
 use Rattle.encoded.specs.Answer.{fitting_bytes, encoded_of, bytes_over, Encodes}
 use Rattle.encoded.specs.RoundTrip.{Below, ReadsBack}
+use Rattle.encoded.specs.Limits.{StoredReadsBack}
 use Rattle.encoded.proofs.Laws.{below_drop, below_take, little_endian_length, number_little_endian}
 use Rattle.encoded.proofs.Laws.{little_endian_number, args_from_arg_bytes, arg_bytes_args_from, args_below}
 use Rattle.encoded.proofs.Laws.{size_parts, encoding_length}
@@ -176,8 +177,8 @@ decode_tells (type t) {ks} {xs} {ks'} {xs'} {n} d = let f = go (leb (size t) (le
     go true a k x = let m : size t ≡ n = cc in (rw k (take_at _ _ n (length_kinds t ∙ m)), rw x (take_at _ _ n (length_args t ∙ m)))
     go false a k x = impossible cc
 
-pub reads_back : {w nodes deep : ℕ} → nodes < 256 ^ 2 → 2 ^ 64 ≤ 256 ^ w → ReadsBack w nodes deep
-reads_back {w} {nodes} {deep} small wide = record {
+reads_back_at : {w nodes deep : ℕ} → nodes < 256 ^ 2 → 2 ^ 64 ≤ 256 ^ w → ReadsBack w nodes deep
+reads_back_at {w} {nodes} {deep} small wide = record {
   written = λ t v fit. type_back w nodes deep t small v (below_more (args_of t) wide fit);
   read = type_bytes w nodes deep;
   encoded = λ ks xs out out' n fit e ls ys ls' ys' answer k x d.
@@ -193,3 +194,7 @@ reads_back {w} {nodes} {deep} small wide = record {
       let g = encode_gives w t (omega arith) (rw (k, x, passes nodes deep t (decoded_holds w nodes deep s t r).is_type) at e) in
       (g.0 ∙ ap Ok (sym l), rw (type_bytes w nodes deep s t bytes r) at g.1);
 }
+
+-- at the code's own limits: a count of its nodes fits 2 bytes, and an argument its own
+pub reads_back : StoredReadsBack
+reads_back = reads_back_at (lit< tt) (lit≤ tt)

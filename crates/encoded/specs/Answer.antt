@@ -1,6 +1,6 @@
 -- The answers of the calls on encoded types, and the bytes that `encode` leaves. Assumes nothing: these are
 -- definitions.
-use Rattle.std.specs.Prelude.{◌≡◌, Bool, cond, ◌&&◌, List, ℕ, leb, length, Result, Ok, Err}
+use Rattle.std.specs.Prelude.{◌≡◌, Bool, cond, ◌&&◌, List, ℕ, leb, length, Option, None, Some, Result, Ok, Err}
 use Rattle.flat.specs.Tree.{size, kinds_of, args_of}
 use Rattle.flat.specs.Reading.{Reading, refused, type, unless, reading, one_plain}
 use Rattle.flat.specs.Output.{over, fitting, written_of, Writes}
@@ -8,23 +8,23 @@ use Rattle.flat.specs.declared.error.Error.{Error}
 use Rattle.flat.specs.declared.error.Error.TheVariants.{OutputTooShort}
 use Rattle.encoded.specs.Encoding.{encoding, encoded_size, count_in, kinds_in, args_in, size_fits, decoding}
 
--- the number of nodes that bytes of the right length hold, 0 of any others
-unfoldable pub nodes_in : ℕ → ℕ → List ℕ → ℕ
-nodes_in w nodes s = cond (size_fits w nodes s) (count_in s) 0
+-- the number of nodes that bytes of the right length hold
+unfoldable pub nodes_in : ℕ → ℕ → List ℕ → Option ℕ
+nodes_in w nodes s = cond (size_fits w nodes s) (Some (count_in s)) None
 
 -- bytes that are one plain leaf
 unfoldable pub plain_in : ℕ → ℕ → List ℕ → Bool
 plain_in w nodes s = size_fits w nodes s && one_plain (kinds_in s) (args_in w s)
 
--- The lent arguments after `open`. They are read before they are checked, so bytes of the right length leave theirs
+-- The lent arguments after `read`. They are read before they are checked, so bytes of the right length leave theirs
 -- even where they are refused.
-unfoldable pub args_opened : ℕ → ℕ → List ℕ → List ℕ → List ℕ
-args_opened w nodes s xs = cond (size_fits w nodes s) (over (args_in w s) xs) xs
+unfoldable pub args_left : ℕ → ℕ → List ℕ → List ℕ → List ℕ
+args_left w nodes s xs = cond (size_fits w nodes s) (over (args_in w s) xs) xs
 
--- What `open` comes to: its answer, and the lent arguments, xs before the call and xs' after it.
-pub record Opens (w nodes deep : ℕ) (s xs xs' : List ℕ) (answer : Result ℕ Error) : Type 0 where
+-- What `read` comes to: its answer, and the lent arguments, xs before the call and xs' after it.
+pub record Reads (w nodes deep : ℕ) (s xs xs' : List ℕ) (answer : Result ℕ Error) : Type 0 where
   pub answers : answer ≡ written_of (decoding w nodes deep s)
-  pub args : xs' ≡ args_opened w nodes s xs
+  pub args : xs' ≡ args_left w nodes s xs
 
 -- 8: the output, of m bytes, is shorter than the result, where there is one
 unfoldable pub fitting_bytes : ℕ → ℕ → Reading → Reading

@@ -3,3 +3,5 @@ pub mod Encoding
 pub mod Answer
 pub mod Found
 pub mod RoundTrip
+pub mod Limits
+pub mod Opening

@@ -1,13 +1,15 @@
 // Numbers as bytes, low byte first, and runs of them.
-ghost use Rattle.std.specs.Prelude.{◌≡◌, ◌+◌, ◌*◌, ◌≤◌, ◌<◌, length, take, drop};
+ghost use Rattle.std.specs.Prelude.{◌≡◌, cond, leb, ◌+◌, ◌*◌, ◌≤◌, length, take, drop};
+ghost use Rattle.flat.specs.Output.{over};
 ghost use Rattle.encoded.specs.Encoding.{number, arg_bytes, args_from, count_in};
 
-// The count that 2 bytes or more begin with.
-pub fn count(encoded: &[u8]) -> usize
-    requires { 2 ≤ length encoded.now }
-    ensures { (result ≡ count_in encoded.now) × (result < 65536) }
+// The count that bytes begin with, where they are 2 or more.
+pub fn count(encoded: &[u8]) -> Option<usize>
+    ensures { let s = encoded.now in
+        result ≡ cond (leb 2 (length s)) (Some (count_in s)) None }
 {
-    u16::from_le_bytes([encoded[0], encoded[1]]) as usize
+    let low_first = encoded.first_chunk()?;
+    Some(usize::from(u16::from_le_bytes(*low_first)))
 }
 
 // The 8 bytes at a place.
@@ -15,16 +17,7 @@ pub fn word(s: &[u8], at: usize) -> u64
     requires { at + 8 ≤ length s.now }
     ensures { result ≡ number (take 8 (drop at s.now)) }
 {
-    u64::from_le_bytes([
-        s[at],
-        s[at + 1],
-        s[at + 2],
-        s[at + 3],
-        s[at + 4],
-        s[at + 5],
-        s[at + 6],
-        s[at + 7],
-    ])
+    u64::from_le_bytes(*s[at..].first_chunk().unwrap())
 }
 
 // Reads as many arguments as args holds, from the front of src.
@@ -32,16 +25,19 @@ pub fn read_args(src: &[u8], args: &mut [u64])
     requires { 8 * length args.old ≤ length src.now }
     ensures { args.new ≡ args_from 8 (length args.old) src.now }
 {
+    let (words, _) = src.as_chunks();
+    // by the index: of what is written through an adapter of `iter_mut` no proof knows
     for (i, arg) in args.iter_mut().enumerate() {
-        *arg = word(src, 8 * i);
+        *arg = u64::from_le_bytes(words[i]);
     }
 }
 
-// Writes the arguments, which take all of out.
+// Writes the arguments to the front of out.
 pub fn write_args(args: &[u64], out: &mut [u8])
-    requires { length out.old ≡ 8 * length args.now }
-    ensures { out.new ≡ arg_bytes 8 args.now }
+    requires { 8 * length args.now ≤ length out.old }
+    ensures { out.new ≡ over (arg_bytes 8 args.now) out.old }
 {
+    // by the place: of what is written through `chunks_exact_mut` no proof knows
     for (i, arg) in args.iter().enumerate() {
         let at = 8 * i;
         out[at..at + 8].copy_from_slice(&arg.to_le_bytes());

@@ -3,16 +3,17 @@
 #![tactic(auto)]
 
 mod bytes;
-mod round_trip;
+mod opened;
 
-ghost use Rattle.std.specs.Prelude.{◌≡◌, ◌≤◌, length};
+ghost use Rattle.std.specs.Prelude.{◌≡◌, ◌≤◌, length, IfSome};
 ghost use Rattle.flat.specs.Reading.{checked_of, root_of, RootFits};
-ghost use Rattle.flat.specs.Output.{over};
-ghost use Rattle.encoded.specs.Encoding.{args_in, decoding};
-ghost use Rattle.encoded.specs.Answer.{nodes_in, plain_in, Opens, EncodeEnsures, DecodeEnsures, Puts};
+ghost use Rattle.encoded.specs.Answer.{plain_in, EncodeEnsures, DecodeEnsures, Puts, Reads};
+ghost use Rattle.encoded.specs.Limits.{decoded, counted};
+ghost use Rattle.encoded.specs.Opening.{flat_of, arrays_of};
 
 use flat::error::Error;
 use flat::{Flat, Node, argument};
+pub use opened::Opened;
 
 // The layout of an encoded type.
 #[derive(Clone, Copy)]
@@ -30,75 +31,80 @@ impl Encoding {
     pub const SOME: usize = 64;
 }
 
-// How many nodes an encoded type has; 0 where its length is not that of any.
+// How many nodes an encoded type has; none where its length is not that of any.
 #[tactic(auto, unfolding(crate::specs::Answer::nodes_in, crate::specs::Encoding::size_fits))]
-pub fn node_count(encoded: &[u8]) -> usize
-    ensures { result ≡ nodes_in Encoding.ARGUMENT_BYTES Flat.MAX_NODES encoded.now }
+pub fn node_count(encoded: &[u8]) -> Option<usize>
+    ensures { result ≡ counted encoded.now }
 {
-    if encoded.len() < 2 {
-        return 0;
-    }
-    let n = bytes::count(encoded);
-    if n == 0 || n > Flat::MAX_NODES || encoded.len() != 2 + (Encoding::ARGUMENT_BYTES + 1) * n {
-        return 0;
-    }
-    n
+    let n = bytes::count(encoded)?;
+    let fits = (1..=Flat::MAX_NODES).contains(&n)
+        && encoded.len() == 2 + (Encoding::ARGUMENT_BYTES + 1) * n;
+    fits.then_some(n)
 }
 
 // Whether bytes are one plain leaf. So short a test is compiled into its callers.
 pub fn is_plain(encoded: &[u8]) -> bool
     ensures { result ≡ plain_in Encoding.ARGUMENT_BYTES Flat.MAX_NODES encoded.now }
 {
-    node_count(encoded) == 1 && argument::is_plain(encoded[2], bytes::word(encoded, 3))
+    node_count(encoded) == Some(1) && argument::is_plain(encoded[2], bytes::word(encoded, 3))
 }
 
-// Checks an encoded type of n nodes, with room for its arguments.
-fn check_with(encoded: &[u8], n: usize, args: &mut [u64]) -> Result<(), Error>
-    requires { let counted = nodes_in Encoding.ARGUMENT_BYTES Flat.MAX_NODES encoded.now in
-        let room = length args.old in
-        (n ≡ counted) × (n ≡ 0 → ⊥) × (n ≤ room) }
+// Checks an encoded type and reads its arguments to the front of args, and answers the number of nodes: refusals 1 to
+// 5. Not an entry point, but a helper for the crates here, as `open` is: it asks for room, and it reads the arguments
+// before it checks them, so a refusal can leave args changed.
+pub fn read(encoded: &[u8], args: &mut [u64]) -> Result<usize, Error>
+    requires { IfSome (counted encoded.now) (λ n. n ≤ length args.old) }
     ensures { let s = encoded.now in
-        let read = over (args_in Encoding.ARGUMENT_BYTES s) args.old in
-        (result ≡ checked_of (decoding Encoding.ARGUMENT_BYTES Flat.MAX_NODES Flat.MAX_DEPTH s)) × (args.new ≡ read) }
+        Reads Encoding.ARGUMENT_BYTES Flat.MAX_NODES Flat.MAX_DEPTH s args.old args.new result }
 {
-    let m = 2 + n;
-    bytes::read_args(&encoded[m..], &mut args[..n]);
-    flat::check(&encoded[2..m], &args[..n])
+    let n = node_count(encoded).ok_or(Error::Length)?;
+    let (kinds, words) = encoded[2..].split_at(n);
+    bytes::read_args(words, &mut args[..n]);
+    flat::check(kinds, &args[..n])?;
+    Ok(n)
 }
 
-// Checks an encoded type of n nodes, with an array of its own for at most N arguments.
-fn check_in<const N: usize>(encoded: &[u8], n: usize) -> Result<(), Error>
-    requires { let counted = nodes_in Encoding.ARGUMENT_BYTES Flat.MAX_NODES encoded.now in
-        (n ≡ counted) × (n ≡ 0 → ⊥) × (n ≤ N) × (N ≤ Flat.MAX_NODES) }
-    ensures { let is = decoding Encoding.ARGUMENT_BYTES Flat.MAX_NODES Flat.MAX_DEPTH encoded.now in
-        result ≡ checked_of is }
+// Checks an encoded type, and gives its two arrays, its arguments in the array lent for them: refusals 1 to 5.
+pub fn open<'a>(encoded: &'a [u8], args: &'a mut [u64]) -> Result<Opened<'a>, Error>
+    requires { IfSome (counted encoded.now) (λ n. n ≤ length args.old) }
+    ensures { arrays_of result ≡ flat_of (decoded encoded.now) }
+{
+    let n = read(encoded, args)?;
+    Ok(Opened {
+        kinds: &encoded[2..2 + n],
+        args: &args[..n],
+    })
+}
+
+// Checks an encoded type, with an array of its own for at most N arguments.
+fn check_in<const N: usize>(encoded: &[u8]) -> Result<(), Error>
+    requires { IfSome (counted encoded.now) (λ n. n ≤ N) × (N ≤ Flat.MAX_NODES) }
+    ensures { result ≡ checked_of (decoded encoded.now) }
 {
     let mut args = [0u64; N];
-    check_with(encoded, n, &mut args)
+    read(encoded, &mut args)?;
+    Ok(())
 }
 
-// Whether bytes are an encoded type, of any number of nodes.
+// Whether bytes are an encoded type, of any number of nodes. Four calls of the crates above choose a size too: a trait
+// whose method takes the size would add a struct and an impl to each, and of a closure that is lent the array a proof
+// would not know what it writes to `out`.
 fn check_nodes(encoded: &[u8]) -> Result<(), Error>
-    ensures { let is = decoding Encoding.ARGUMENT_BYTES Flat.MAX_NODES Flat.MAX_DEPTH encoded.now in
-        result ≡ checked_of is }
+    ensures { result ≡ checked_of (decoded encoded.now) }
 {
-    let n = node_count(encoded);
-    if n == 0 {
-        return Err(Error::Length);
-    }
+    let n = node_count(encoded).ok_or(Error::Length)?;
     if n <= Encoding::FEW {
-        return check_in::<{ Encoding::FEW }>(encoded, n);
+        return check_in::<{ Encoding::FEW }>(encoded);
     }
     if n <= Encoding::SOME {
-        return check_in::<{ Encoding::SOME }>(encoded, n);
+        return check_in::<{ Encoding::SOME }>(encoded);
     }
-    check_in::<{ Flat::MAX_NODES }>(encoded, n)
+    check_in::<{ Flat::MAX_NODES }>(encoded)
 }
 
 // Whether bytes are an encoded type.
 pub fn check(encoded: &[u8]) -> Result<(), Error>
-    ensures { let is = decoding Encoding.ARGUMENT_BYTES Flat.MAX_NODES Flat.MAX_DEPTH encoded.now in
-        result ≡ checked_of is }
+    ensures { result ≡ checked_of (decoded encoded.now) }
 {
     if is_plain(encoded) {
         return Ok(());
@@ -114,7 +120,7 @@ pub fn decode(encoded: &[u8], kinds: &mut [u8], args: &mut [u64]) -> Result<usiz
         DecodeEnsures Encoding.ARGUMENT_BYTES Flat.MAX_NODES Flat.MAX_DEPTH s ks xs kinds.new args.new result }
 {
     check(encoded)?;
-    let n = bytes::count(encoded);
+    let n = node_count(encoded).unwrap();
     if kinds.len() < n || args.len() < n {
         return Err(Error::OutputTooShort);
     }
@@ -124,40 +130,21 @@ pub fn decode(encoded: &[u8], kinds: &mut [u8], args: &mut [u64]) -> Result<usiz
     Ok(n)
 }
 
-// Checks an encoded type and reads its arguments to the front of args: refusals 1 to 5. Its kinds stay where they
-// are, `&encoded[2..2 + n]`. Not an entry point, but a helper for the crates here, which lend it arrays of their own:
-// it asks for room, and it reads the arguments before it checks them, so a refusal can leave args changed.
-pub fn open(encoded: &[u8], args: &mut [u64]) -> Result<usize, Error>
-    requires { let counted = nodes_in Encoding.ARGUMENT_BYTES Flat.MAX_NODES encoded.now in
-        counted ≤ length args.old }
-    ensures { let s = encoded.now in
-        let xs = args.old in
-        Opens Encoding.ARGUMENT_BYTES Flat.MAX_NODES Flat.MAX_DEPTH s xs args.new result }
-{
-    let n = node_count(encoded);
-    if n == 0 {
-        return Err(Error::Length);
-    }
-    check_with(encoded, n, args)?;
-    Ok(n)
-}
-
 // The root of bytes that are not one plain leaf.
 fn root_of(encoded: &[u8]) -> Result<Node, Error>
-    ensures { let is = decoding Encoding.ARGUMENT_BYTES Flat.MAX_NODES Flat.MAX_DEPTH encoded.now in
-        (result ≡ root_of is) × RootFits result }
+    ensures { (result ≡ root_of (decoded encoded.now)) × RootFits result }
 {
     check_nodes(encoded)?;
+    let n = node_count(encoded).unwrap();
     Ok(Node {
         kind: encoded[2],
-        arg: bytes::word(encoded, 2 + node_count(encoded)),
+        arg: bytes::word(encoded, 2 + n),
     })
 }
 
 // Checks an encoded type, and gives its root: refusals 1 to 5.
 pub fn check_root(encoded: &[u8]) -> Result<Node, Error>
-    ensures { let is = decoding Encoding.ARGUMENT_BYTES Flat.MAX_NODES Flat.MAX_DEPTH encoded.now in
-        (result ≡ root_of is) × RootFits result }
+    ensures { (result ≡ root_of (decoded encoded.now)) × RootFits result }
 {
     if is_plain(encoded) {
         return Ok(Node {

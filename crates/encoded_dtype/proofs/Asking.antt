@@ -4,24 +4,17 @@ use mathlib.Core.Bool.{Bool}
 use mathlib.Core.List.{List}
 use Rattle.std.specs.Prelude.{Ok}
 use Prim.Native.Nat.{ℕ, ◌<◌}
-use native.Mathlib.Nat.{add-sub_cancel_left}
-use lib.ListN.{length, take, drop}
+use lib.ListN.{length}
 use Rattle.flat.specs.Tree.{size}
 use Rattle.flat.specs.Reading.{checked_of}
 use Rattle.flat.proofs.Meaning.{Passed, check_passed}
 use Rattle.encoded.specs.Encoding.{kinds_in, args_in, decoding}
-use Rattle.encoded.specs.Answer.{nodes_in}
-use Rattle.encoded.proofs.Answers.{Sized, kinds_part, nodes_sized, decoding_sized, EncodedForm, type_form}
+use Rattle.encoded.proofs.Answers.{decoding_sized, EncodedForm, type_form}
 use Rattle.encoded.proofs.Plain.{PlainBytes}
 use Rattle.dtype.specs.Predicates.{predicate_of, told_by}
 use Rattle.dtype.specs.Answer.{answer_of}
 use Rattle.dtype.specs.declared.predicate.Predicate.{Predicate}
 use Rattle.dtype.proofs.Answers.{some_node, answered}
-
--- the kinds of as many nodes as the bytes have
-pub counted_kinds : {w nodes n : ℕ} {s : List ℕ} → Sized w nodes n s → take (nodes_in w nodes s) (drop 2 s) ≡ kinds_in s
-counted_kinds {w} {nodes} {n} {s} z =
-    let k : take n (drop 2 s) ≡ kinds_in s = rw add-sub_cancel_left at (kinds_part z) in rw (nodes_sized z) k
 
 -- one plain leaf is a type of one node
 pub plain_node : {w nodes : ℕ} (deep : ℕ) {s : List ℕ} → PlainBytes w nodes s → EncodedForm w nodes deep 1 s

@@ -2,11 +2,11 @@
 use mathlib.Core.Path.{◌≡◌, refl, sym, ap, ◌∙◌}
 use mathlib.Core.Bool.{Bool, true, false, cond, not, ◌&&◌}
 use mathlib.Core.List.{List, [], ◌∷◌}
-use Rattle.std.specs.Prelude.{Result, Err}
-use Prim.Native.Nat.{ℕ, ◌+◌, ◌-◌, ◌≤◌}
+use Rattle.std.specs.Prelude.{IfSome, Result, Err}
+use Prim.Native.Nat.{ℕ, ◌≤◌}
 use native.Mathlib.Omega.{arith}
 use lib.ListN.{length, get_or, take, drop, replicate, length-replicate}
-use Rattle.flat.specs.Tree.{DataType, leaf, size, head_kind, kinds_of, args_of}
+use Rattle.flat.specs.Tree.{DataType, leaf, size, kinds_of, args_of}
 use Rattle.flat.specs.Reading.{Reading, refused, type}
 use Rattle.flat.specs.Walk.{type_at}
 use Rattle.flat.specs.declared.error.Error.{Error}
@@ -15,7 +15,7 @@ use Rattle.encoded.specs.Encoding.{decoding}
 use Rattle.encoded.specs.Answer.{nodes_in, fitting_bytes, Encodes, Puts}
 use Rattle.encoded.proofs.Answers.{kinds_part, encodes_refused, puts_type}
 use Rattle.encoded.proofs.Plain.{PlainBytes}
-use Rattle.encoded.proofs.Opening.{Opened}
+use Rattle.encoded.proofs.Opening.{OpenedAs}
 use Rattle.dtype.specs.Physical.{to_physical, physical_kind}
 use Rattle.dtype_build.specs.Build.{or_unknown, materialized, physical}
 use Rattle.dtype_build.specs.Leaf.{physical_in, materialized_in, leaf_with, map_leaves, has_any, HasRoom, BuiltType}
@@ -60,11 +60,11 @@ unfolding kinds_of
 plain_reads deep p = record { reads = p.reads deep; kinds = kinds_part p.sized ∙ p.kinds }
 
 -- an opened type
-pub opened_reads : {w nodes deep n : ℕ} {s xs : List ℕ} → Opened w nodes deep n s xs
-    → ReadsAs w nodes deep s (take (2 + n - 2) (drop 2 s)) (type_at (take (2 + n - 2) (drop 2 s)) (take n xs))
+pub opened_reads : {w nodes deep : ℕ} {s ks xs : List ℕ} → OpenedAs w nodes deep s ks xs
+    → ReadsAs w nodes deep s ks (type_at ks xs)
 opened_reads o =
-    let t = sym o.parts.front in
-    record { reads = o.reads ∙ ap type t; kinds = o.parts.form.kinds ∙ ap kinds_of t }
+    let t = sym o.arrays.front in
+    record { reads = o.reads ∙ ap type t; kinds = o.arrays.form.kinds ∙ ap kinds_of t }
 
 -- the test for refusal 7
 module _ (f : ℕ → ℕ → ℕ) (allow : Bool) {w nodes deep : ℕ} {s ks : List ℕ} {t : DataType} (v : ReadsAs w nodes deep s ks t) where
@@ -111,26 +111,23 @@ plain_form f k {y} e p =
     let l : leaf_with f k 0 ≡ leaf y 0 = zero_is f k ∙ ap (λ (j : ℕ). leaf j 0) (sym e) in
     puts_type (leaf_with f k 0) (sym (ap kinds_of l)) (sym (ap args_of l)) p
 
--- ---- an opened type of n nodes
-module _ {w nodes deep n : ℕ} {s xs : List ℕ} (o : Opened w nodes deep n s xs) where
-  nodes_at : size (type_at (take (2 + n - 2) (drop 2 s)) (take n xs)) ≡ n
-  nodes_at = ap size o.parts.front ∙ o.tree_size
-
+-- ---- an opened type
+module _ {w nodes deep : ℕ} {s ks xs : List ℕ} (o : OpenedAs w nodes deep s ks xs) where
   -- there is room to build it where there is room for its arguments
   pub form_room :
-      {room : ℕ} → nodes_in w nodes s ≤ room
-      → HasRoom (size (type_at (take (2 + n - 2) (drop 2 s)) (take n xs))) (replicate room 0) (replicate room 0)
-  form_room {room} h =
-      let fits : size (type_at (take (2 + n - 2) (drop 2 s)) (take n xs)) ≤ room = omega (arith, nodes_at, o.counted) in
+      (room : ℕ) → IfSome (nodes_in w nodes s) (λ n. n ≤ room)
+      → HasRoom (size (type_at ks xs)) (replicate room 0) (replicate room 0)
+  form_room room h =
+      let within : length ks ≤ room = rw o.counted at h in
+      let fits : size (type_at ks xs) ≤ room = omega (arith, ap size o.arrays.front, o.arrays.whole) in
       record { kinds = rw length-replicate fits; args = rw length-replicate fits }
 
   -- the type was built in two arrays, and encoded from there
   pub form_encoded :
-      (f : ℕ → ℕ → ℕ) (allow : Bool) → false ≡ (has_any (take (2 + n - 2) (drop 2 s)) && not allow)
-      → {m : ℕ} {K A K' A' : List ℕ}
-      → BuiltType (map_leaves (leaf_with f) (type_at (take (2 + n - 2) (drop 2 s)) (take n xs))) K A K' A' m
+      (f : ℕ → ℕ → ℕ) (allow : Bool) → false ≡ (has_any ks && not allow)
+      → {m : ℕ} {K A K' A' : List ℕ} → BuiltType (map_leaves (leaf_with f) (type_at ks xs)) K A K' A' m
       → {out out' : List ℕ} {a : Result ℕ Error} → Puts w (take m K') (take m A') out out' a
       → Encodes w (fitting_bytes w (length out) (form_of f allow (decoding w nodes deep s))) out out' a
   form_encoded f allow e b p =
-      let t = map_leaves (leaf_with f) (type_at (take (2 + n - 2) (drop 2 s)) (take n xs)) in
+      let t = map_leaves (leaf_with f) (type_at ks xs) in
       let at = front t b in rw (form_type f allow (opened_reads o) e) (puts_type t at.1 at.2 p)

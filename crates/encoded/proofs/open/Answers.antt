@@ -1,25 +1,28 @@
--- `encoded::open` meets its contract. Assumes nothing.
-use Rattle.std.proofs.lemmas.Result.{err_from_is_err_and}
+-- `encoded::open` meets its contract: the two arrays stand where `read` left them. Assumes nothing.
+use native.Mathlib.Omega.{arith}
+use mathlib.Core.Path.{sym}
 use Rattle.flat.proofs.Truths.{Fact, fact}
-use Rattle.encoded.proofs.Answers.{nodes_some}
-use Rattle.encoded.proofs.Opening.{opens_none, opens_type, opens_refused}
+use Rattle.encoded.proofs.Laws.{size_parts}
+use Rattle.encoded.proofs.Opening.{read_form, read_length, read_flat, read_checked}
 use Rattle.encoded.proofs.open.Goals as goal
-use Rattle.encoded.proofs.open.Goals.{After-check_with}
+use Rattle.encoded.proofs.open.Goals.{In_ok-n}
 
-pub returns-then-n-eq0 : goal.returns-then-n-eq0
-returns-then-n-eq0 c = opens_none c.node_count-n.ensures c.if-n-eq0.true
+abbrev form : In_ok-n → Fact
+form c = fact (read_form c.in_ok-n.ensures)
 
--- the bytes are as long as their count says
-abbrev sized : After-check_with → Fact
-sized c = fact (nodes_some c.node_count-n.ensures c.if-n-eq0.false)
+pub overflow_add-result : goal.overflow_add-result
+overflow_add-result c = let f = (form (goal.at.overflow_add-result c).In_ok-n).proof in omega (arith, f.sized.few)
 
-pub returns-in_err-check_with : goal.returns-in_err-check_with
-returns-in_err-check_with c =
-    let p = err_from_is_err_and c.from_residual.result c.from_residual.ensures.1 in
-    rw (p.1, p.2)
-    (opens_refused (sized (goal.at.returns-in_err-check_with c).After-check_with).proof c.check_with.ensures.1
-    c.in_err-check_with.ensures.0)
+pub slice_bounds-result-end : goal.slice_bounds-result-end
+slice_bounds-result-end c =
+    let f = (form (goal.at.slice_bounds-result-end c).In_ok-n).proof in
+    omega (arith, f.sized.size, size_parts 8 c.in_ok-n.n)
+
+pub slice_bounds-result-end-2 : goal.slice_bounds-result-end-2
+slice_bounds-result-end-2 c = sym (read_length c.in_ok-n.ensures)
+
+pub invariant_of-result : goal.invariant_of-result
+invariant_of-result c = record { checked = read_checked c.in_ok-n.ensures }
 
 pub returns : goal.returns
-returns c =
-    opens_type (sized (goal.at.returns c).After-check_with).proof c.check_with.ensures.1 c.in_ok-check_with.ensures.0
+returns c = read_flat c.in_ok-n.ensures

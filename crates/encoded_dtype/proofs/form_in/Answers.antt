@@ -1,36 +1,24 @@
 -- `encoded_dtype::form_in` meets its contract. Assumes nothing.
-use native.Mathlib.Omega.{arith}
-use mathlib.Core.Path.{refl}
 use Rattle.std.proofs.lemmas.Result.{err_from_is_err_and}
 use Rattle.encoded.proofs.Opening.{opened, unopened}
 use Rattle.encoded_dtype.proofs.Forms.{opened_reads, form_none, refused_bytes, unopened_form, form_room, form_encoded}
 use Rattle.encoded_dtype.proofs.form_in.Goals as goal
 
-pub returns-in_err-n : goal.returns-in_err-n
-returns-in_err-n g c =
+pub returns-in_err-whole : goal.returns-in_err-whole
+returns-in_err-whole g c =
     let p = err_from_is_err_and c.from_residual.result c.from_residual.ensures.1 in
-    rw (p.1, p.2) (refused_bytes _ _ (unopened_form _ _ (unopened c.in_err-n.ensures refl)))
+    rw (p.1, p.2) (refused_bytes _ _ (unopened_form _ _ (unopened _ c.in_err-whole.ensures)))
 
 pub returns-then-any_refused : goal.returns-then-any_refused
 returns-then-any_refused g c =
-    refused_bytes _ _ (form_none _ _ (opened_reads (opened c.in_ok-n.ensures refl)) c.if-any_refused.ensures)
+    refused_bytes _ _ (form_none _ _ (opened_reads (opened c.in_ok-whole.ensures)) c.if-any_refused.ensures)
 
 pub node_form-m-requires-clause-valid : goal.node_form-m-requires-clause-valid
-node_form-m-requires-clause-valid g c = (opened c.in_ok-n.ensures refl).parts.valid
+node_form-m-requires-clause-valid g c = (opened c.in_ok-whole.ensures).arrays.valid
 
 pub node_form-m-requires-clause-has_room : goal.node_form-m-requires-clause-has_room
-node_form-m-requires-clause-has_room g c = form_room (opened c.in_ok-n.ensures refl) c.requires.0
+node_form-m-requires-clause-has_room g c = form_room (opened c.in_ok-whole.ensures) _ c.requires.0
 
 pub returns : goal.returns
 returns g c =
-    form_encoded (opened c.in_ok-n.ensures refl) _ _ c.if-any_refused.ensures c.node_form-m.ensures c.put.ensures
-
-pub overflow_add-kinds : goal.overflow_add-kinds
-overflow_add-kinds g c = omega (arith, (opened c.in_ok-n.ensures refl).inside)
-
-pub slice_bounds-kinds-end : goal.slice_bounds-kinds-end
-slice_bounds-kinds-end g c = omega (arith, (opened c.in_ok-n.ensures refl).inside)
-
-pub shared_whole_as_front-node_form : goal.shared_whole_as_front-node_form
-shared_whole_as_front-node_form g c =
-    (omega (arith, (opened c.in_ok-n.ensures refl).counted, c.requires.0), omega (arith, c.requires.1))
+    form_encoded (opened c.in_ok-whole.ensures) _ _ c.if-any_refused.ensures c.node_form-m.ensures c.put.ensures

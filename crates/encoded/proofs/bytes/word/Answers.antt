@@ -1,10 +1,10 @@
--- `encoded::bytes::word` meets its contract: the number, byte by byte. Assumes nothing.
-use native.Mathlib.Nat.{add-zero}
-use native.Mathlib.Omega.{arith}
-use Rattle.encoded.proofs.Laws.{number_bytes}
+-- `encoded::bytes::word` meets its contract: the number of the first 8 bytes from there. Assumes nothing.
+use mathlib.Core.Path.{◌∙◌}
+use borrow.Author.Rules.{part_to_end}
+use Rattle.encoded.proofs.Laws.{word_number}
 use Rattle.encoded.proofs.bytes.word.Goals as goal
 
 pub returns : goal.returns
 returns c =
-    let at = c.args.at in
-    omega (arith, rw (add-zero at) at (number_bytes 8 c.args.s.now at 0 (omega arith)))
+    let first = rw part_to_end at (rw c.unwrap.ensures at c.first_chunk.ensures.cases).same in
+    c.from_le_bytes.ensures ∙ word_number c.args.s.now c.args.at c.requires first

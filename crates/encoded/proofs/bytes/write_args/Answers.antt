@@ -11,8 +11,8 @@ loop-i-init c = refl
 
 pub loop-i-preserved : goal.loop-i-preserved
 loop-i-preserved c =
-    args_next _ _ _ (omega arith) (omega arith) c.loop-i.invariant
+    args_next _ _ _ (omega arith) c.loop-i.invariant
     (c.copy_from_slice.ensures.after ∙ c.to_le_bytes.ensures ∙ le_bytes 8 _)
 
 pub returns : goal.returns
-returns c = args_written c.args.args.now (omega arith) (omega arith) c.loop-i.invariant
+returns c = args_written c.args.args.now c.args.out.now (omega arith) c.loop-i.invariant
