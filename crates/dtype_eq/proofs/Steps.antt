@@ -3,7 +3,7 @@
 use mathlib.Core.Path.{◌≡◌, refl, sym, ◌∙◌}
 use mathlib.Core.Bool.{Bool, true, false, not, ◌&&◌, and-false}
 use mathlib.Core.List.{List, [], ◌∷◌}
-use Prim.Native.Nat.{ℕ, zero, suc, ◌+◌, ◌-◌, ◌≤◌, ◌<◌}
+use Prim.Native.Nat.{ℕ, ◌+◌, ◌≤◌, ◌<◌}
 use native.Mathlib.Omega.{arith}
 use native.Mathlib.Numerals.{add-one}
 use lib.Dec.{eqb}
@@ -11,7 +11,6 @@ use lib.ListN.{length, get_or, drop, length-drop, drop_of_length-le}
 use lib.Seq.{drop-cons}
 use borrow.Author.Tests.{eq-eqb, ne_eqb, not-true, not-false}
 use lib.Pointwise.{pointwise}
-use Rattle.std.specs.List.{list_any, range_with_len}
 use Rattle.std.specs.Cmp.Lexicographic.{same_text}
 use Rattle.flat.proofs.Truths.{impossible}
 use Rattle.flat.proofs.Positions.{rest}
@@ -147,29 +146,3 @@ module _ {ks xs ls ys : List ℕ} {at : ℕ} (t : Trying ks xs ls ys at) where
   occurs_end h =
       let short : length (drop at ks) < length ls = rw length-drop (omega (arith, t.within)) in
       sym (t.leaves ∙ occurs_short (drop at ks) (drop at xs) ls ys short t.pattern)
-
--- how many positions there are
-abbrev pub positions : List ℕ → List ℕ → ℕ
-positions ks ls = length ks - length ls + 1
-
--- every position, one after the other
-module _ (ks xs ls ys : List ℕ) where
-  abbrev pub starts_at : ℕ → Bool
-  starts_at at = starts_with (from at ks) (from at xs) ls ys
-
-  any_from : (n at : ℕ) → Trying ks xs ls ys at → at + n + length ls ≡ length ks + 1
-      → list_any starts_at (range_with_len at n) ≡ occurs ks xs ls ys
-  any_from zero at t h = occurs_end t (omega arith)
-  any_from (suc n) at t h =
-      go (starts_at at) refl
-      (λ e. any_from n (at + 1) (occurs_on t refl (omega arith) e) (omega arith))
-    where
-      go : (r : Bool) → starts_at at ≡ r → (starts_at at ≡ false → list_any starts_at (range_with_len (at + 1) n) ≡ occurs ks xs ls ys)
-          → list_any starts_at (range_with_len at (suc n)) ≡ occurs ks xs ls ys
-      go true e later = rw e (occurs_here t refl e)
-      go false e later = rw e (later e)
-
-  pub occurs_any : length ks ≡ length xs → length ls ≡ length ys → length ls ≤ length ks
-      → list_any starts_at (range_with_len 0 (positions ks ls)) ≡ occurs ks xs ls ys
-  occurs_any e f h =
-      any_from (positions ks ls) 0 (record { even = e; pattern = f; within = omega arith; leaves = refl }) (omega arith)
