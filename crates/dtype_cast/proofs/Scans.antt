@@ -8,6 +8,8 @@ use native.Mathlib.Omega.{arith}
 use lib.Dec.{eqb}
 use lib.ListN.{length, drop}
 use borrow.Author.Tests.{eq-eqb, ne_eqb, eqb-true}
+use lib.Pointwise.{pointwise}
+use Rattle.std.specs.Cmp.Lexicographic.{same_text}
 use Rattle.std.specs.List.{list_all, zip}
 use Rattle.flat.specs.Kind
 use Rattle.flat.specs.Tree.{DataType, leaf, list, array, struct, Fields, empty, field, count, head_kind, size}
@@ -45,6 +47,17 @@ nodes_yes (k ∷ ks) [] (l ∷ ls) ys e f h = absurd (omega arith)
 nodes_yes (k ∷ ks) (a ∷ xs) (l ∷ ls) [] e f h = absurd (omega arith)
 nodes_yes (k ∷ ks) (a ∷ xs) (l ∷ ls) (b ∷ ys) e f h =
     rw (nodes_yes ks xs ls ys (omega arith) (omega arith) (omega arith))
+
+pub same_yes : (ks xs : List ℕ) → length ks ≡ length xs → all_yes ks xs ks xs ≡ true
+unfolding all_yes node_yes
+same_yes [] xs e = refl
+same_yes (k ∷ ks) [] e = absurd (omega arith)
+same_yes (k ∷ ks) (a ∷ xs) e = rw (eq-eqb k k refl, eq-eqb a a refl, same_yes ks xs (omega arith))
+
+pub found_same : (ks xs ls ys : List ℕ) {p q : Bool} → length ks ≡ length xs → p ≡ pointwise eqb ks ls → p ≡ true
+    → q ≡ pointwise eqb xs ys → q ≡ true → true ≡ all_yes ks xs ls ys
+found_same ks xs ls ys e k y a z =
+    rw (← same_text ks ls (sym y ∙ k), ← same_text xs ys (sym z ∙ a)) (sym (same_yes ks xs e))
 
 -- ---- two nodes that say yes
 -- what two nodes are that say yes, but for two fields

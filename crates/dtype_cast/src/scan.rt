@@ -30,6 +30,10 @@ pub fn all_yes(from_kinds: &[u8], from_args: &[u64], to_kinds: &[u8], to_args: &
         let ys = to_args.now in
         result ≡ all_yes ks xs ls ys }
 {
+    // a type is most often cast to itself, which two quick scans find
+    if from_kinds == to_kinds && from_args == to_args {
+        return true;
+    }
     from_kinds.len() == to_kinds.len()
         && from_kinds
             .iter()

@@ -5,8 +5,12 @@ use borrow.Author.Tests.{tests, ne_eqb}
 use Rattle.std.proofs.lemmas.Iterator.{YieldsList-from_slice, YieldsList-from_zip}
 use Rattle.std.proofs.lemmas.Iterator.Search.{all_from_yields_List}
 use Rattle.dtype_cast.specs.Scan.{node_yes}
-use Rattle.dtype_cast.proofs.Scans.{other_length, nodes_yes}
+use Rattle.dtype_cast.proofs.Scans.{other_length, nodes_yes, found_same}
 use Rattle.dtype_cast.proofs.scan.all_yes.Goals as goal
+
+pub returns-then-eq-2 : goal.returns-then-eq-2
+returns-then-eq-2 c =
+    found_same _ _ _ _ c.requires.from_kinds_len c.eq.ensures c.if-eq.true c.eq-then-eq.ensures c.if-eq-2.true
 
 pub returns-then-from_kinds-to_kinds : goal.returns-then-from_kinds-to_kinds
 returns-then-from_kinds-to_kinds c =
