@@ -32,7 +32,7 @@ pub fn contains_list(kinds: &[u8]) -> bool
     any(kinds, |k| k == Kind::LIST)
 }
 
-#[tactic(auto, unfolding(crate::specs::Match::among, crate::specs::Scan::is_decimal_kind, crate::specs::Scan::is_logical_kind))]
+#[tactic(auto, unfolding(crate::specs::Match::among, crate::specs::Scan::is_logical_kind))]
 pub fn is_logical(kinds: &[u8]) -> bool
     ensures { result ≡ list_any is_logical_kind kinds.now }
 {
