@@ -17,7 +17,7 @@ use Rattle.dtype.specs.Equality.{equal_node, equal, equal_fields}
 use Rattle.dtype.specs.Physical.{physical_leaf, to_physical, physical_fields}
 use Rattle.dtype.specs.Recursive.{is_known, all_known, is_logical, contains_list_recursive, any_contains_list}
 use Rattle.dtype.specs.Recursive.{contains_unknown, any_contains_unknown}
-use Rattle.dtype.specs.Scan.{is_list_kind, is_decimal_kind, is_logical_kind}
+use Rattle.dtype.specs.Scan.{is_list_kind, is_logical_kind}
 use Rattle.dtype.proofs.Pairs.{nodes_same, right_known}
 
 -- f of a type and g of fields: p holds of some node
@@ -74,7 +74,7 @@ other_leaf : (p : ℕ → Bool) (k a j : ℕ) → p k ≡ true → p j ≡ false
 other_leaf p k a j y n h = right_known k a j 0 (λ e. true≢false (sym y ∙ ap p e ∙ n)) (omega arith) (omega arith)
 
 logical_leaf : (k a : ℕ) → is_logical (leaf k a) ≡ is_logical_kind k
-unfolding is_logical equal to_physical physical_leaf is_logical_kind is_decimal_kind is_temporal is_unknown_int among
+unfolding is_logical equal to_physical physical_leaf is_logical_kind is_temporal is_unknown_int among
 logical_leaf k a = go (eqb k Kind.Date) (among (Kind.Datetime ∷ Kind.Duration ∷ Kind.Time ∷ []) k) (eqb k Kind.Decimal) refl refl refl
   where
     go : (b c d : Bool) → eqb k Kind.Date ≡ b → among (Kind.Datetime ∷ Kind.Duration ∷ Kind.Time ∷ []) k ≡ c
@@ -86,7 +86,7 @@ logical_leaf k a = go (eqb k Kind.Date) (among (Kind.Datetime ∷ Kind.Duration 
     go false false false e f h = rw (nodes_same k a k a refl refl)
 
 pub is_logical_lem : Nodewise is_logical_kind is_logical (λ fs. not (equal_fields fs (physical_fields fs)))
-unfolding is_logical equal to_physical is_logical_kind is_decimal_kind is_temporal among
+unfolding is_logical equal to_physical is_logical_kind is_temporal among
 is_logical_lem = record {
   on_leaf = λ k a h. logical_leaf k a;
   on_list = λ t. refl;

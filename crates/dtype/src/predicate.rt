@@ -23,7 +23,8 @@ pub enum Predicate {
     ContainsListRecursive,
 }
 
-// Whether the predicate holds of a type of these kinds.
+// Whether the predicate holds of a type of these kinds. A name stands for two facts, what the kinds tell and what that
+// is of the type; a test handed in would leave both to each caller, here, in encoded_dtype and in capi.
 pub fn told_by(p: Predicate, kinds: &[u8]) -> bool
     requires { 0 < length kinds.now }
     ensures { result ≡ told_by p kinds.now }

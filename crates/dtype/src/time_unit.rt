@@ -13,12 +13,6 @@ pub enum TimeUnit {
 }
 
 impl TimeUnit {
-    pub fn number(self) -> u8
-        ensures { result ≡ unit_number self }
-    {
-        self as u8
-    }
-
     // Its name in two bytes.
     pub fn to_ascii(self) -> [u8; 2]
         ensures { result ≡ to_ascii self }
@@ -28,6 +22,15 @@ impl TimeUnit {
             TimeUnit::Microseconds => [b'u', b's'],
             TimeUnit::Milliseconds => [b'm', b's'],
         }
+    }
+}
+
+// Its number in an argument.
+impl From<TimeUnit> for u8 {
+    ghost from_gives = { λ unit number. number ≡ unit_number unit };
+
+    fn from(unit: TimeUnit) -> u8 {
+        unit as u8
     }
 }
 
@@ -53,6 +56,6 @@ impl Value for TimeUnit {
     ghost value_of = { unit_number };
 
     fn value(self) -> u64 {
-        self as u64
+        u64::from(u8::from(self))
     }
 }

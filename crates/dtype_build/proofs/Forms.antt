@@ -6,9 +6,8 @@ use mathlib.Core.List.{List, [], ◌∷◌, ◌++◌}
 use Rattle.std.specs.Prelude.{Option, None, Some}
 use Rattle.std.specs.Prelude.{option_map, option_and_then}
 use Prim.Native.Nat.{ℕ, suc, ◌+◌, max}
-use native.Mathlib.Omega.{arith}
-use lib.Dec.{eqb, leb}
-use borrow.Author.Tests.{eqb-true, eqb-false, leb-true}
+use lib.Dec.{eqb}
+use borrow.Author.Tests.{eqb-true}
 use Rattle.std.specs.List.{list_any}
 use Rattle.flat.specs.Kind
 use Rattle.flat.specs.Tree.{DataType, leaf, list, array, struct, Fields, empty, field, size, sizes, depth, depths, count, kinds_of, kinds_ofs}
@@ -16,7 +15,6 @@ use Rattle.flat.specs.Reading.{Ruled, RuledFields, IsType}
 use Rattle.flat.specs.Walk.{with_default}
 use Rattle.dtype.specs.Match.{among}
 use Rattle.dtype.specs.Predicate.{is_unknown, is_unknown_int}
-use Rattle.flat.specs.Kind.{between}
 use Rattle.dtype_build.specs.Materialize.{materialize_unknown, materialize_fields, materialize, or_kept}
 use Rattle.dtype.specs.Physical.{to_physical, physical_fields, physical_leaf}
 use Rattle.dtype_build.specs.Leaf.{materialized_leaf, physical_in, materialized_in, leaf_with, map_leaves, map_fields, has_any}
@@ -62,18 +60,9 @@ bind_none f true false false x y = refl
 bind_none f false true false x y = refl
 bind_none f false false false x y = refl
 
-between_other : (n k : ℕ) → eqb k n ≡ false → between n n k ≡ false
-unfolding between
-between_other n k e = go (leb n k) (leb k n) refl refl
-  where
-    go : (b c : Bool) → leb n k ≡ b → leb k n ≡ c → (b && c) ≡ false
-    go true true p q = absurd (omega (arith, leb-true n k p, leb-true k n q, eqb-false k n e))
-    go true false p q = refl
-    go false c p q = refl
-
 -- a leaf
 known_leaf : (allow : Bool) (k a : ℕ) → materialize_unknown allow (leaf k a) ≡ none_if (has_any (k ∷ []) && not allow) (materialized_leaf k a)
-unfolding materialize_unknown materialized_leaf materialize is_unknown is_unknown_int among between
+unfolding materialize_unknown materialized_leaf materialize is_unknown is_unknown_int among
 known_leaf allow k a = by_any (eqb k Kind.UnknownAny) refl
   where
     any : (allow : Bool) → materialize_unknown allow (leaf Kind.UnknownAny a) ≡ none_if (has_any (Kind.UnknownAny ∷ []) && not allow) (materialized_leaf Kind.UnknownAny a)
@@ -94,10 +83,10 @@ known_leaf allow k a = by_any (eqb k Kind.UnknownAny) refl
 
     by_any : (b : Bool) → eqb k Kind.UnknownAny ≡ b → materialize_unknown allow (leaf k a) ≡ none_if (has_any (k ∷ []) && not allow) (materialized_leaf k a)
     by_any true e = rw (eqb-true k Kind.UnknownAny e) (any allow)
-    by_any false e = rw (e, between_other Kind.UnknownAny k e) (other (eqb k Kind.UnknownStr) (eqb k Kind.UnknownFloat) (eqb k Kind.UnknownIntPos) (eqb k Kind.UnknownIntNeg) _ _ _)
+    by_any false e = rw e (other (eqb k Kind.UnknownStr) (eqb k Kind.UnknownFloat) (eqb k Kind.UnknownIntPos) (eqb k Kind.UnknownIntNeg) _ _ _)
 
 mutual
-  unfolding map_leaves materialize_unknown kinds_of between
+  unfolding map_leaves materialize_unknown kinds_of
 
   known_by_leaves : (allow : Bool) (t : DataType) → materialize_unknown allow t ≡ none_if (has_any (kinds_of t) && not allow) (map_leaves materialized_leaf t)
   known_by_leaves allow (leaf k a) = known_leaf allow k a
@@ -108,7 +97,7 @@ mutual
   knowns_are : (allow : Bool) (fs : Fields) → materialize_fields allow fs ≡ none_if (has_any (kinds_ofs fs) && not allow) (map_fields materialized_leaf fs)
   knowns_are allow empty = refl
   knowns_are allow (field name t fs) =
-      rw (known_by_leaves allow t, knowns_are allow fs, any_append (between Kind.UnknownAny Kind.UnknownAny) (kinds_of t) (kinds_ofs fs))
+      rw (known_by_leaves allow t, knowns_are allow fs, any_append (λ j. eqb j Kind.UnknownAny) (kinds_of t) (kinds_ofs fs))
       (bind_none (field name) (has_any (kinds_of t)) (has_any (kinds_ofs fs)) (not allow) (map_leaves materialized_leaf t) (map_fields materialized_leaf fs))
 
 -- the whole call is refused where any stands in the type and isn't allowed

@@ -24,9 +24,6 @@ back at y out L = put_mid (at + 1) (length (set out at y) - (at + 1)) (set out a
 abbrev pub to_be : ℕ → List ℕ → List ℕ → List ℕ
 to_be at P out = take at out ++ over P (drop at out)
 
-pub over_length : (P out : List ℕ) → length P ≤ length out → length (over P out) ≡ length out
-over_length P out h = simp (length-append, length-drop) (omega arith)
-
 pub after_length : (at y : ℕ) (out : List ℕ) → length (after at y out) ≡ length out - (at + 1)
 after_length at y out = length_from (at + 1) (set out at y) ∙ simp length-set
 

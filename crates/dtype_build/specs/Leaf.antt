@@ -9,7 +9,6 @@ use Rattle.flat.specs.Tree.{kinds_of, kinds_ofs, args_of, args_ofs}
 use Rattle.flat.specs.Walk.{with_default}
 use Rattle.flat.specs.Output.{over}
 use Rattle.dtype_build.specs.Materialize.{materialize}
-use Rattle.flat.specs.Kind.{between}
 use Rattle.dtype.specs.Physical.{physical_kind}
 
 -- a leaf with its type known, where there is such a type; any stays
@@ -45,7 +44,7 @@ leaf_with kind_in k a = leaf (kind_in k a) (kept_arg k (kind_in k a) a)
 
 -- any stands among the kinds
 abbrev pub has_any : List ℕ → Bool
-has_any = list_any (between Kind.UnknownAny Kind.UnknownAny)
+has_any = list_any (λ k. eqb k Kind.UnknownAny)
 
 -- n nodes have room in both arrays
 pub record HasRoom (n : ℕ) (K A : List ℕ) : Type 0 where

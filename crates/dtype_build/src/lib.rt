@@ -52,7 +52,7 @@ fn build<F: Form>(
 pub fn any_refused(kinds: &[u8], allow_unknown: bool) -> bool
     ensures { result ≡ (has_any kinds.now && not allow_unknown) }
 {
-    !allow_unknown && scan::any_between(kinds, Kind::UNKNOWN_ANY, Kind::UNKNOWN_ANY)
+    !allow_unknown && scan::any(kinds, |k| k == Kind::UNKNOWN_ANY)
 }
 
 // Writes the type with each unknown type made known to the front of out_kinds and out_args: refusals 1 to 5, 7, then 8.

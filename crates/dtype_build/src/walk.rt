@@ -46,7 +46,8 @@ pub fn node_form<F: Form>(
 }
 
 // Builds the given number of fields at the front of kinds and args, in the form F, at the front of out_kinds and
-// out_args, and returns their number of nodes.
+// out_args, and returns their number of nodes. One place is where a field is read and where it is written, and the walk
+// of its type tells the next; an iterator of fields would find each type's end before it is walked.
 #[cycle(field_form_node_form)]
 fn field_form<F: Form>(
     kinds: &[u8],

@@ -1,14 +1,15 @@
 -- The scan over two types at once: where all nodes of two types say yes, the cast makes sense. Assumes nothing.
 use mathlib.Core.Path.{◌≡◌, refl, sym, subst, ◌∙◌}
-use mathlib.Core.Bool.{Bool, true, false, cond, ◌&&◌, ◌||◌, and-false, or-false}
+use mathlib.Core.Bool.{Bool, true, false, not, cond, ◌&&◌, ◌||◌, and-false, or-false}
 use mathlib.Core.List.{List, [], ◌∷◌, ◌++◌, append_assoc}
 use Rattle.std.specs.Prelude.{Some}
-use Prim.Native.Nat.{ℕ, ◌≤◌, ◌<◌}
+use Prim.Native.Nat.{ℕ, ◌+◌, ◌≤◌, ◌<◌}
 use native.Mathlib.Omega.{arith}
 use lib.Dec.{eqb}
-use lib.ListN.{length, drop}
-use borrow.Author.Tests.{eq-eqb, ne_eqb, eqb-true}
-use Rattle.std.specs.List.{list_all, zip}
+use native.Mathlib.Numerals.{add-one}
+use lib.ListN.{length, get_or, drop, drop_of_length-le}
+use lib.Seq.{drop-cons}
+use borrow.Author.Tests.{eq-eqb, ne_eqb, eqb-true, not-true, not-false}
 use Rattle.flat.specs.Kind
 use Rattle.flat.specs.Tree.{DataType, leaf, list, array, struct, Fields, empty, field, count, head_kind, size}
 use Rattle.flat.specs.Tree.{kinds_of, kinds_ofs, args_of, args_ofs}
@@ -35,16 +36,46 @@ other_length (k ∷ ks) [] (l ∷ ls) ys h = refl
 other_length (k ∷ ks) (a ∷ xs) (l ∷ ls) [] h = refl
 other_length (k ∷ ks) (a ∷ xs) (l ∷ ls) (b ∷ ys) h = rw (← other_length ks xs ls ys (λ e. h (omega arith)), and-false)
 
-pub nodes_yes : (ks xs ls ys : List ℕ) → length ks ≡ length xs → length ls ≡ length ys → length ks ≡ length ls
-    → list_all (λ n. node_yes n.0.0 n.0.1 n.1.0 n.1.1) (zip (zip ks xs) (zip ls ys)) ≡ all_yes ks xs ls ys
-unfolding all_yes
-nodes_yes [] xs [] ys e f h = refl
-nodes_yes [] xs (l ∷ ls) ys e f h = absurd (omega arith)
-nodes_yes (k ∷ ks) xs [] ys e f h = absurd (omega arith)
-nodes_yes (k ∷ ks) [] (l ∷ ls) ys e f h = absurd (omega arith)
-nodes_yes (k ∷ ks) (a ∷ xs) (l ∷ ls) [] e f h = absurd (omega arith)
-nodes_yes (k ∷ ks) (a ∷ xs) (l ∷ ls) (b ∷ ys) e f h =
-    rw (nodes_yes ks xs ls ys (omega arith) (omega arith) (omega arith))
+-- Before node i of two types: the first i nodes on either side say yes, so those that are left decide.
+pub record YesSoFar (ks xs ls ys : List ℕ) (i : ℕ) : Type 0 where
+  pub even : length ks ≡ length xs
+  pub even_right : length ls ≡ length ys
+  pub as_many : length ks ≡ length ls
+  pub within : i ≤ length ks
+  pub rest : all_yes ks xs ls ys ≡ all_yes (drop i ks) (drop i xs) (drop i ls) (drop i ys)
+
+module _ {ks xs ls ys : List ℕ} {i : ℕ} (s : YesSoFar ks xs ls ys i) where
+  module _ (h : i < length ks)
+      {r : Bool} (e : r ≡ node_yes (get_or ks i 0) (get_or xs i 0) (get_or ls i 0) (get_or ys i 0)) where
+    next_two : all_yes ks xs ls ys ≡ (r && all_yes (drop (i + 1) ks) (drop (i + 1) xs) (drop (i + 1) ls) (drop (i + 1) ys))
+    unfolding all_yes
+    next_two =
+        s.rest ∙ rw (
+          e,
+          add-one,
+          drop-cons ks i 0,
+          drop-cons xs i 0 (omega (arith, s.even)),
+          drop-cons ls i 0 (omega (arith, s.as_many)),
+          drop-cons ys i 0 (omega (arith, s.as_many, s.even_right)),
+        )
+
+    pub scan_on : not r ≡ false → YesSoFar ks xs ls ys (i + 1)
+    scan_on f = record {
+      even = s.even;
+      even_right = s.even_right;
+      as_many = s.as_many;
+      within = omega arith;
+      rest = next_two ∙ rw (not-false r f);
+    }
+
+    pub scan_stop : not r ≡ true → false ≡ all_yes ks xs ls ys
+    scan_stop f = sym (next_two ∙ rw (not-true r f))
+
+  pub scan_end : length ks ≤ i → true ≡ all_yes ks xs ls ys
+  unfolding all_yes
+  scan_end h =
+      let g : length ls ≤ i = omega (arith, s.as_many) in
+      sym (s.rest ∙ rw (drop_of_length-le ks h, drop_of_length-le ls g))
 
 -- ---- two nodes that say yes
 -- what two nodes are that say yes, but for two fields

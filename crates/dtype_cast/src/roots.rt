@@ -40,11 +40,9 @@ pub fn before_nested(from: Node, to: Node) -> Option<bool>
     if equal_leaves(from, to) || both_numeric(from.kind, to.kind) || from.kind == Kind::NULL {
         return Some(true);
     }
-    if from.kind == Kind::BOOLEAN {
-        return Some(casts_with_boolean(to.kind));
+    match (from.kind, to.kind) {
+        (Kind::BOOLEAN, other) => Some(casts_with_boolean(other)),
+        (other, Kind::BOOLEAN) => Some(casts_with_boolean(other)),
+        _ => None,
     }
-    if to.kind == Kind::BOOLEAN {
-        return Some(casts_with_boolean(from.kind));
-    }
-    None
 }

@@ -1,13 +1,14 @@
 -- An inner or leaf type stands at the end of the type's flat form, and the kinds alone tell how many nodes it has.
 -- Assumes nothing.
 use mathlib.Core.Path.{◌≡◌, refl, sym, ap, ◌∙◌}
+use mathlib.Core.Bool.{false}
 use mathlib.Core.List.{List, []}
 use Rattle.std.specs.Prelude.{Option, None, Some, unwrap_or}
 use Rattle.std.specs.Prelude.{option_map}
 use Rattle.std.specs.List.{prefix_len}
-use Prim.Native.Nat.{ℕ, suc, ◌+◌, ◌-◌}
+use Prim.Native.Nat.{ℕ, suc, ◌+◌, ◌-◌, ◌<◌}
 use native.Mathlib.Omega.{arith}
-use borrow.Author.Tests.{ne_eqb}
+use borrow.Author.Tests.{ne_eqb, lt-leb}
 use lib.ListN.{length, drop, drop_of_length-le}
 use Rattle.flat.specs.Kind
 use Rattle.flat.specs.Tree.{DataType, leaf, list, array, struct, size, kinds_of, args_of}
@@ -17,7 +18,11 @@ use Rattle.dtype_inner.specs.Inner.{inner_dtype, leaf_dtype, past_arrays, array_
 use Rattle.flat.specs.Kind.{between}
 use Rattle.dtype_inner.specs.Nodes.{inner_nodes, leaf_nodes, array_leaf_nodes}
 use Rattle.dtype_inner.specs.Part.{part_kinds, part_args, Last}
-use Rattle.dtype.proofs.Scans.{is_below}
+
+-- a kind below a run of kinds is none of them
+pub is_below : (low high k : ℕ) → k < low → between low high k ≡ false
+unfolding between
+is_below low high k l = rw (lt-leb low k l)
 
 pub one_more : {n : ℕ} → 1 + n ≡ suc n
 one_more = omega arith

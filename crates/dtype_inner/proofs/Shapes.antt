@@ -14,7 +14,7 @@ use Rattle.dtype_inner.specs.declared.Shape.{Shape}
 use Rattle.dtype_inner.specs.Inner.{widths_of, get_shape}
 use Rattle.flat.specs.Kind.{between}
 use Rattle.dtype_inner.specs.Shape.{shape, shape_found, shape_of, arrays_at, widths_at}
-use Rattle.dtype.proofs.Scans.{is_below}
+use Rattle.dtype_inner.proofs.Endings.{is_below}
 use Rattle.dtype_inner.proofs.Endings.{one_more}
 
 arrays_deep : (t : DataType) → Ruled t → arrays_at (kinds_of t) ≤ depth t

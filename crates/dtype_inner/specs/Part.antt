@@ -3,7 +3,7 @@ use Rattle.std.specs.Prelude.{◌≡◌, List, [], ℕ, ◌+◌, ◌-◌, ◌*�
 use Rattle.std.specs.Prelude.{Option, None, Some, unwrap_or, Result}
 use Rattle.std.specs.Prelude.{option_map}
 use Rattle.std.specs.Borrow.{Bor}
-use Rattle.flat.specs.Tree.{DataType, size, kinds_of, args_of}
+use Rattle.flat.specs.Tree.{DataType, kinds_of, args_of}
 use Rattle.flat.specs.Reading.{Reading, refused, type}
 use Rattle.flat.specs.Output.{optional_of}
 use Rattle.flat.specs.Reply.{value_in}

@@ -17,7 +17,8 @@ use flat::error::Error;
 use flat::kind::Kind;
 use flat::span::leading;
 
-// The widths down an Array's consecutive Arrays: how many, and as many places as a type is deep.
+// The widths down an Array's consecutive Arrays: how many, and as many places as a type is deep. A part of the caller's
+// arguments would do for flat types, but those of an encoded type end with the call.
 #[derive(Clone, Copy, Debug, PartialEq, Eq)]
 pub struct Shape {
     pub count: usize,
@@ -49,20 +50,14 @@ pub fn array_leaf_nodes(kinds: &[u8]) -> Option<usize>
     ensures { result ≡ array_leaf_nodes kinds.now }
 {
     let arrays = leading(kinds, Kind::ARRAY, Kind::ARRAY);
-    if arrays == 0 {
-        return None;
-    }
-    Some(kinds.len() - arrays)
+    (arrays > 0).then(|| kinds.len() - arrays)
 }
 
 // The number of nodes that an answer tells; 0 where there are none.
 fn nodes_in(answer: Result<Option<usize>, Error>) -> usize
     ensures { result ≡ nodes_told answer }
 {
-    match answer {
-        Ok(Some(nodes)) => nodes,
-        _ => 0,
-    }
+    answer.ok().flatten().unwrap_or(0)
 }
 
 // The last n items, a part of the caller's own slice.

@@ -1,6 +1,10 @@
 -- `dtype_build::build` meets its contract: 8, or a leaf, or what the walk builds. Assumes nothing.
 use mathlib.Core.Logic.{inl, inr}
+use mathlib.Core.List.{List}
+use Prim.Native.Nat.{ℕ, ◌≤◌}
 use native.Mathlib.Omega.{arith}
+use lib.ListN.{length}
+use Rattle.flat.specs.Walk.{Valid}
 use Rattle.flat.proofs.Outputs.{writes_refused, few_kinds, few_args}
 use Rattle.dtype_build.proofs.Builds.{Task, built_writes, leaf_built}
 use Rattle.dtype_build.proofs.Forms.{size_map}
@@ -13,31 +17,22 @@ returns-then-out_kinds-kinds g c =
       | inr h ↦ writes_refused (few_args _ _ _ (rw size_map (omega arith)) (rw size_map (omega arith)))
     ]
 
+-- both arrays have room for the type
+abbrev task : (kind_in : ℕ → ℕ → ℕ) (ks xs K A : List ℕ) → Valid ks xs → length ks ≤ length K → length ks ≤ length A → Task
+task kind_in ks xs K A v k a = record {
+  kind_in = kind_in;
+  ks = ks;
+  xs = xs;
+  K = K;
+  A = A;
+  valid = v;
+  room = record { kinds = omega (arith, v.within); args = omega (arith, v.within) };
+}
+
 pub returns-then-kinds-lt-LIST : goal.returns-then-kinds-lt-LIST
 returns-then-kinds-lt-LIST g c =
-    -- both arrays have room for the type
-    let p : Task =
-    record {
-      kind_in = g.F.Form.kind_in;
-      ks = c.args.kinds.now;
-      xs = c.args.args.now;
-      K = c.args.out_kinds.now;
-      A = c.args.out_args.now;
-      valid = c.requires.0;
-      room = record { kinds = omega arith; args = omega arith };
-    } in
+    let p = task g.F.Form.kind_in _ _ _ _ c.requires.0 (omega arith) (omega arith) in
     built_writes p (leaf_built p c.if-kinds-lt-LIST.true c.put_leaf.ensures)
 
 pub returns : goal.returns
-returns g c =
-    let p : Task =
-    record {
-      kind_in = g.F.Form.kind_in;
-      ks = c.args.kinds.now;
-      xs = c.args.args.now;
-      K = c.args.out_kinds.now;
-      A = c.args.out_args.now;
-      valid = c.requires.0;
-      room = record { kinds = omega arith; args = omega arith };
-    } in
-    built_writes p c.node_form.ensures
+returns g c = built_writes (task g.F.Form.kind_in _ _ _ _ c.requires.0 (omega arith) (omega arith)) c.node_form.ensures
