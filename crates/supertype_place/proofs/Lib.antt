@@ -6,3 +6,5 @@ mod Joined
 pub mod Fronts
 pub mod Repeats
 pub mod Tables
+pub mod Views
+pub mod Finds

@@ -2,3 +2,5 @@
 pub mod Place
 pub mod Written
 pub mod Names
+pub mod View
+pub mod Viewed

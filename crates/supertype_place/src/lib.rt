@@ -4,3 +4,4 @@
 pub mod names;
 pub mod node;
 pub mod run;
+pub mod view;
