@@ -8,3 +8,4 @@ pub mod Repeats
 pub mod Tables
 pub mod Views
 pub mod Finds
+pub mod Outs

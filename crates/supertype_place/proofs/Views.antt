@@ -103,7 +103,7 @@ some_read f None e = never e
 some_read f (Some x) e = (x, refl, e)
 
 -- from the test and from the parts
-front_type : (ks xs : List ℕ) → length ks ≤ most_nodes → Valid ks xs → LeavesFit (type_at ks xs) → TypeFront ks xs
+pub front_type : (ks xs : List ℕ) → length ks ≤ most_nodes → Valid ks xs → LeavesFit (type_at ks xs) → TypeFront ks xs
 front_type ks xs m v f = record {
   valid = v;
   fits = f;

@@ -2,5 +2,6 @@
 pub mod Place
 pub mod Written
 pub mod Names
+pub mod Out
 pub mod View
 pub mod Viewed

@@ -3,5 +3,6 @@
 
 pub mod names;
 pub mod node;
+pub mod out;
 pub mod run;
 pub mod view;
