@@ -1,5 +1,5 @@
 -- The steps of two nested types. Assumes nothing.
-use Rattle.std.specs.Prelude.{option_map}
+use Rattle.std.specs.Prelude.{None, Some, option_map}
 use mathlib.Core.Path.{◌≡◌, refl, sym, ap, ◌∙◌}
 use mathlib.Core.Bool.{Bool, true, false, cond, ◌&&◌}
 use Prim.Native.Nat.{ℕ, ◌≤◌, ◌<◌}
@@ -19,6 +19,7 @@ use Rattle.supertype_nested.proofs.Steps.{two_lists, list_with_array, array_with
 use Rattle.supertype_nested.proofs.Steps.{same_count, left_longer, right_longer}
 use Rattle.supertype_nested.proofs.Beside.{taken_in, list_with_struct, struct_with_list}
 use Rattle.supertype_nested.proofs.Beside.{array_with_struct, struct_with_array}
+use Rattle.supertype_step.specs.declared.Side.{Side}
 use Rattle.supertype_step.specs.declared.Step.{Step}
 use Rattle.supertype_step.specs.Decided.{either_fields, run_step, RootOf, is_list, is_array}
 use Rattle.supertype_step.specs.Decided.{Wraps, list_wraps, array_wraps, Decided, DecidedBy}
@@ -41,13 +42,13 @@ module _ (c : TreeCall) (fair : Fair c) (o : SuperTypeOptions) where
           rw (le-ltb (count fs) (count gs) (omega arith), le-ltb (count gs) (count fs) (omega arith))
           (same_count c fair o fs gs (omega arith))
 
-  two_structs : {l r : DataType} → IsStruct l → IsStruct r → Decided c o l r Step.Fields
+  two_structs : {l r : DataType} → IsStruct l → IsStruct r → Decided c o l r (Some Step.Fields)
   unfolding run_step head_kind
   two_structs (fields_of_lem {fs}) (fields_of_lem {fs = gs}) = record { answers = either fs gs; parts = (refl, refl) }
 
   -- a Struct with a List or an Array, on either side
   struct_in : {l r : DataType} → IsStruct l → Wraps r → (is kind.List (head_kind r) && o.allow_implode_list) ≡ true
-      → Decided c o l r Step.WithinRight
+      → Decided c o l r (Some (Step.Within Side.Right))
   unfolding run_step head_kind inner_dtype
   struct_in (fields_of_lem {fs}) (list_wraps {t}) e =
       record {
@@ -57,7 +58,7 @@ module _ (c : TreeCall) (fair : Fair c) (o : SuperTypeOptions) where
   struct_in fields_of_lem array_wraps e = never e
 
   struct_out : {l r : DataType} → IsStruct l → Wraps r → (is kind.List (head_kind r) && o.allow_implode_list) ≡ false
-      → Decided c o l r Step.Nothing
+      → Decided c o l r None
   unfolding run_step head_kind
   struct_out (fields_of_lem {fs}) (list_wraps {t}) e =
       record {
@@ -68,7 +69,7 @@ module _ (c : TreeCall) (fair : Fair c) (o : SuperTypeOptions) where
       record { answers = struct_with_array c o w t fs; parts = tt }
 
   in_struct : {l r : DataType} → Wraps l → IsStruct r → (is kind.List (head_kind l) && o.allow_implode_list) ≡ true
-      → Decided c o l r Step.WithinLeft
+      → Decided c o l r (Some (Step.Within Side.Left))
   unfolding run_step head_kind inner_dtype
   in_struct (list_wraps {t}) (fields_of_lem {fs}) e =
       record {
@@ -78,7 +79,7 @@ module _ (c : TreeCall) (fair : Fair c) (o : SuperTypeOptions) where
   in_struct array_wraps fields_of_lem e = never e
 
   out_struct : {l r : DataType} → Wraps l → IsStruct r → (is kind.List (head_kind l) && o.allow_implode_list) ≡ false
-      → Decided c o l r Step.Nothing
+      → Decided c o l r None
   unfolding run_step head_kind
   out_struct (list_wraps {t}) (fields_of_lem {fs}) e =
       record {
@@ -92,7 +93,7 @@ module _ (c : TreeCall) (fair : Fair c) (o : SuperTypeOptions) where
   abbrev OneWidth : DataType → DataType → Type 0
   OneWidth l r = (head_kind l ≡ kind.Array) × (head_kind r ≡ kind.Array) × (head_arg l ≡ head_arg r)
 
-  wrap_list : {l r : DataType} → Wraps l → Wraps r → (OneWidth l r → ⊥) → Decided c o l r (Step.Under (node kind.List 0))
+  wrap_list : {l r : DataType} → Wraps l → Wraps r → (OneWidth l r → ⊥) → Decided c o l r (Some (Step.Under (node kind.List 0)))
   unfolding run_step head_kind head_arg inner_dtype
   wrap_list (list_wraps {t}) (list_wraps {t = u}) n =
       record { answers = two_lists c fair o t u; parts = (is_list, list_wraps, list_wraps) }
@@ -108,7 +109,7 @@ module _ (c : TreeCall) (fair : Fair c) (o : SuperTypeOptions) where
       }
 
   wrap_array : {l r : DataType} → Wraps l → Wraps r → OneWidth l r
-      → Decided c o l r (Step.Under (node kind.Array (head_arg l)))
+      → Decided c o l r (Some (Step.Under (node kind.Array (head_arg l))))
   unfolding run_step head_kind head_arg inner_dtype
   wrap_array list_wraps v e = absurd (omega (arith, e.0))
   wrap_array array_wraps list_wraps e = absurd (omega (arith, e.1))
@@ -131,36 +132,36 @@ module _ (o : SuperTypeOptions) (a x b y : ℕ) where
       → (is kind.List (head_kind t) && o.allow_implode_list) ≡ q
   at_root q h e = ap (λ (k : ℕ). is kind.List k && o.allow_implode_list) h.kind ∙ e
 
-  pub by_fields : a ≡ kind.Struct → b ≡ kind.Struct → DecidedBy o a x b y Step.Fields
+  pub by_fields : a ≡ kind.Struct → b ≡ kind.Struct → DecidedBy o a x b y (Some Step.Fields)
   by_fields e g c fair l r p q = two_structs c fair o (struct_root l p e) (struct_root r q g)
 
   pub by_right : a ≡ kind.Struct → Wrap b → (is kind.List b && o.allow_implode_list) ≡ true
-      → DecidedBy o a x b y Step.WithinRight
+      → DecidedBy o a x b y (Some (Step.Within Side.Right))
   by_right e w i c fair l r p q =
       struct_in c fair o (struct_root l p e) (wraps_root r q w.0 w.1) (at_root true q i)
 
   pub none_right : a ≡ kind.Struct → Wrap b → (is kind.List b && o.allow_implode_list) ≡ false
-      → DecidedBy o a x b y Step.Nothing
+      → DecidedBy o a x b y None
   none_right e w i c fair l r p q =
       struct_out c fair o (struct_root l p e) (wraps_root r q w.0 w.1) (at_root false q i)
 
   pub by_left : Wrap a → b ≡ kind.Struct → (is kind.List a && o.allow_implode_list) ≡ true
-      → DecidedBy o a x b y Step.WithinLeft
+      → DecidedBy o a x b y (Some (Step.Within Side.Left))
   by_left w g i c fair l r p q =
       in_struct c fair o (wraps_root l p w.0 w.1) (struct_root r q g) (at_root true p i)
 
   pub none_left : Wrap a → b ≡ kind.Struct → (is kind.List a && o.allow_implode_list) ≡ false
-      → DecidedBy o a x b y Step.Nothing
+      → DecidedBy o a x b y None
   none_left w g i c fair l r p q =
       out_struct c fair o (wraps_root l p w.0 w.1) (struct_root r q g) (at_root false p i)
 
   pub by_list : {root : Node} → root ≡ node kind.List 0 → Wrap a → Wrap b
-      → ((a ≡ kind.Array) × (b ≡ kind.Array) × (x ≡ y) → ⊥) → DecidedBy o a x b y (Step.Under root)
+      → ((a ≡ kind.Array) × (b ≡ kind.Array) × (x ≡ y) → ⊥) → DecidedBy o a x b y (Some (Step.Under root))
   by_list h w v n c fair l r p q =
       rw h (wrap_list c fair o (wraps_root l p w.0 w.1) (wraps_root r q v.0 v.1)
       (λ e. n (sym p.kind ∙ e.0, sym q.kind ∙ e.1, sym p.arg ∙ e.2 ∙ q.arg)))
 
-  pub by_array : a ≡ kind.Array → b ≡ kind.Array → x ≡ y → DecidedBy o a x b y (Step.Under (node a x))
+  pub by_array : a ≡ kind.Array → b ≡ kind.Array → x ≡ y → DecidedBy o a x b y (Some (Step.Under (node a x)))
   by_array e g n c fair l r p q =
       rw (e, ← p.arg)
       (wrap_array c fair o (wraps_root l p (omega arith) (omega arith)) (wraps_root r q (omega arith) (omega arith))

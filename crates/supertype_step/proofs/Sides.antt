@@ -1,7 +1,7 @@
 -- The steps of a nested type with a leaf, on either side. Assumes nothing.
 use mathlib.Core.Path.{◌≡◌, refl, sym, ap, ap₂, ◌∙◌}
 use mathlib.Core.Bool.{Bool, true, false, ◌&&◌}
-use Rattle.std.specs.Prelude.{None, Some}
+use Rattle.std.specs.Prelude.{Option, None, Some}
 use Rattle.flat.specs.declared.Node.{Node}
 use Prim.Native.Nat.{ℕ, ◌≤◌, ◌<◌}
 use native.Mathlib.Omega.{arith}
@@ -23,53 +23,77 @@ use Rattle.supertype_nested.proofs.Beside.{IsNested, is_list, is_array, is_struc
 use Rattle.supertype_nested.proofs.Beside.{string_list, null_nested}
 use Rattle.supertype_nested.proofs.Ranges.{beside_string, beside_null, beside_list, list_any, list_none}
 use Rattle.supertype_nested.proofs.Ranges.{array_any, array_none, struct_first, struct_each, struct_any, struct_none}
-use Rattle.supertype_nested.proofs.Ranges.{right_by}
+use Rattle.supertype_step.specs.declared.Side.{Side}
 use Rattle.supertype_step.specs.declared.Step.{Step}
-use Rattle.supertype_step.specs.Decided.{run_step, Decided, DecidedBy}
-use Rattle.supertype_step.specs.Sides.{OfLeft, nothing, node, left, within, first, each, StepBeside, StructBeside}
-use Rattle.supertype_step.specs.Sides.{Turned, DecidedBefore}
+use Rattle.supertype_step.specs.Decided.{at_side, within, first, each, run_step, Decided, DecidedBy}
+use Rattle.supertype_step.specs.Sides.{StepBeside, StructBeside, DecidedBefore}
 use Rattle.supertype_step.proofs.Roots.{leaf_root, nested_root}
 
 -- ---- the steps by the plans
 
-module _ (i : Bool) (a x k : ℕ) where
+-- the type of a side, where two types stand by that side
+there : (s : Side) (t u : DataType) → at_side s (at_side s t u) (at_side s u t) ≡ t
+there Side.Left t u = refl
+there Side.Right t u = refl
+
+module _ (s : Side) (i : Bool) (a x k : ℕ) where
   -- the plan's own answer
   told : {p : TreePlan} → plan_beside i a k ≡ p → (c : TreeCall) (t : DataType) (y : ℕ)
       → run_tree c (plan_beside i a k) t (leaf k y) ≡ run_tree c p t (leaf k y)
   told e c t y = ap (λ (p : TreePlan). run_tree c p t (leaf k y)) e
 
-  to_kind : {v : ℕ} {n : Node} → n ≡ root v 0 → plan_beside i a k ≡ roots (Kind v) → StepBeside i a x k (Step.Node n)
+  to_kind : {v : ℕ} {n : Node} → n ≡ root v 0 → plan_beside i a k ≡ roots (Kind v)
+      → StepBeside s i a x k (Some (Step.Node n))
   unfolding run_tree run run_step
   to_kind {v} {n} h e =
       record {
         answers = λ c t p y. told e c t y ∙ ap (λ (m : Node). Some (type_of m)) (sym h);
         parts = λ t p y. tt;
-        of_left = node;
       }
 
-  to_none : plan_beside i a k ≡ roots No → StepBeside i a x k Step.Nothing
-  unfolding run_tree run run_step
-  to_none e = record { answers = λ c t p y. told e c t y; parts = λ t p y. tt; of_left = nothing }
+  to_none : plan_beside i a k ≡ roots No → StepBeside s i a x k None
+  unfolding run_tree run
+  to_none e = record { answers = λ c t p y. told e c t y; parts = λ t p y. tt }
 
-  to_left : plan_beside i a k ≡ left_type → StepBeside i a x k Step.Left
+  to_whole : plan_beside i a k ≡ left_type → StepBeside s i a x k (Some (Step.Whole s))
   unfolding run_tree run_step
-  to_left e = record { answers = λ c t p y. told e c t y; parts = λ t p y. tt; of_left = left }
-
-  to_within : a ≡ kind.List → plan_beside i a k ≡ implode_left → StepBeside i a x k Step.WithinLeft
-  unfolding run_tree run_step
-  to_within l e = record { answers = λ c t p y. told e c t y; parts = λ t p y. p.kind ∙ l; of_left = within }
-
-  to_each : a ≡ kind.Struct → plan_beside i a k ≡ each_field → StepBeside i a x k Step.EachLeft
-  unfolding run_tree run_step size
-  to_each s e = record { answers = λ c t p y. told e c t y; parts = λ t p y. (p.kind ∙ s, refl); of_left = each }
-
-  to_first : a ≡ kind.Struct → (x ≡ 0 → ⊥) → plan_beside i a k ≡ first_field → StepBeside i a x k Step.FirstLeft
-  unfolding run_tree run_step
-  to_first s n e =
+  to_whole e =
       record {
-        answers = λ c t p y. told e c t y;
-        parts = λ t p y. (p.kind ∙ s, λ z. n (sym p.arg ∙ z));
-        of_left = first;
+        answers = λ c t p y. told e c t y ∙ ap (λ (t : DataType). Some t) (sym (there s t (leaf k y)));
+        parts = λ t p y. tt;
+      }
+
+  -- both types, where the step reads them
+  both_there : {B : Type 0} (f : DataType → DataType → B) (t u : DataType)
+      → f t u ≡ f (at_side s (at_side s t u) (at_side s u t)) (at_side s (at_side s u t) (at_side s t u))
+  both_there f t u = sym (ap₂ f (there s t u) (there s u t))
+
+  to_within : a ≡ kind.List → plan_beside i a k ≡ implode_left → StepBeside s i a x k (Some (Step.Within s))
+  unfolding run_tree run_step
+  to_within l e =
+      record {
+        answers = λ c t p y. told e c t y ∙ both_there (within c) t (leaf k y);
+        parts = λ t p y. ap head_kind (there s t (leaf k y)) ∙ p.kind ∙ l;
+      }
+
+  to_each : a ≡ kind.Struct → plan_beside i a k ≡ each_field → StepBeside s i a x k (Some (Step.Each s))
+  unfolding run_tree run_step size
+  to_each z e =
+      record {
+        answers = λ c t p y. told e c t y ∙ both_there (each c) t (leaf k y);
+        parts = λ t p y. (ap head_kind (there s t (leaf k y)) ∙ p.kind ∙ z, ap size (there s (leaf k y) t));
+      }
+
+  to_first : a ≡ kind.Struct → (x ≡ 0 → ⊥) → plan_beside i a k ≡ first_field
+      → StepBeside s i a x k (Some (Step.First s))
+  unfolding run_tree run_step
+  to_first z n e =
+      record {
+        answers = λ c t p y. told e c t y ∙ both_there (first c) t (leaf k y);
+        parts = λ t p y. (
+          ap head_kind (there s t (leaf k y)) ∙ p.kind ∙ z,
+          λ w. n (sym p.arg ∙ sym (ap head_arg (there s t (leaf k y))) ∙ w),
+        );
       }
 
   -- a Struct without fields has no first one
@@ -81,30 +105,25 @@ module _ (i : Bool) (a x k : ℕ) where
   no_first c (struct empty) y e = refl
   no_first c (struct (field n t fs)) y e = absurd (omega (arith, e))
 
-  to_empty : x ≡ 0 → plan_beside i a k ≡ first_field → StepBeside i a x k Step.Nothing
-  unfolding run_step
+  to_empty : x ≡ 0 → plan_beside i a k ≡ first_field → StepBeside s i a x k None
   to_empty z e =
-      record {
-        answers = λ c t p y. told e c t y ∙ no_first c t y (p.arg ∙ z);
-        parts = λ t p y. tt;
-        of_left = nothing;
-      }
+      record { answers = λ c t p y. told e c t y ∙ no_first c t y (p.arg ∙ z); parts = λ t p y. tt }
 
--- ---- the nested type on the left
+-- ---- the nested type on either side
 
 -- String and Null
-module _ (i : Bool) (a x k : ℕ) where
-  pub at_string : {n : Node} → n ≡ root kind.String 0 → k ≡ kind.String → StepBeside i a x k (Step.Node n)
-  at_string h e = to_kind i a x k h (ap (plan_beside i a) e ∙ beside_string i a)
+module _ (s : Side) (i : Bool) (a x k : ℕ) where
+  pub at_string : {n : Node} → n ≡ root kind.String 0 → k ≡ kind.String → StepBeside s i a x k (Some (Step.Node n))
+  at_string h e = to_kind s i a x k h (ap (plan_beside i a) e ∙ beside_string i a)
 
-  pub at_null : k ≡ kind.Null → StepBeside i a x k Step.Left
-  at_null e = to_left i a x k (ap (plan_beside i a) e ∙ beside_null i a)
+  pub at_null : k ≡ kind.Null → StepBeside s i a x k (Some (Step.Whole s))
+  at_null e = to_whole s i a x k (ap (plan_beside i a) e ∙ beside_null i a)
 
 -- the kind of a leaf that is neither
 abbrev Other : ℕ → Type 0
 Other k = (k < kind.List) × (k ≡ kind.String → ⊥) × (k ≡ kind.Null → ⊥)
 
-module _ (x k : ℕ) (other : Other k) where
+module _ (s : Side) (x k : ℕ) (other : Other k) where
   high : k ≤ kind.UnknownIntNeg
   high = omega (arith, other.0)
 
@@ -115,8 +134,8 @@ module _ (x k : ℕ) (other : Other k) where
   no_null = other.2
 
   -- a Struct with a number, a dyn number among them
-  pub at_each : is_primitive_numeric k ≡ true → k < kind.UnknownAny → StructBeside x k Step.EachLeft
-  at_each e l i = to_each i kind.Struct x k refl (struct_each k high no_string no_null i (omega arith) e)
+  pub at_each : is_primitive_numeric k ≡ true → k < kind.UnknownAny → StructBeside s x k (Some (Step.Each s))
+  at_each e l i = to_each s i kind.Struct x k refl (struct_each k high no_string no_null i (omega arith) e)
 
   -- an unknown type that counts as a number is a dyn one
   dyn : is_primitive_numeric k ≡ true → kind.UnknownAny ≤ k → kind.UnknownFloat ≤ k
@@ -127,19 +146,19 @@ module _ (x k : ℕ) (other : Other k) where
           never (of_run is_primitive_numeric false kind.UnknownAny 2 (unfold says in tt) k (omega arith) ∙ e)
       go (no g) = omega arith
 
-  pub at_empty : is_primitive_numeric k ≡ true → kind.UnknownAny ≤ k → x ≡ 0 → StructBeside x k Step.Nothing
-  at_empty e l n i = to_empty i kind.Struct x k n (struct_first k high no_string no_null i (dyn e l))
+  pub at_empty : is_primitive_numeric k ≡ true → kind.UnknownAny ≤ k → x ≡ 0 → StructBeside s x k None
+  at_empty e l n i = to_empty s i kind.Struct x k n (struct_first k high no_string no_null i (dyn e l))
 
-  pub at_first : is_primitive_numeric k ≡ true → kind.UnknownAny ≤ k → (x ≡ 0 → ⊥) → StructBeside x k Step.FirstLeft
-  at_first e l n i = to_first i kind.Struct x k refl n (struct_first k high no_string no_null i (dyn e l))
+  pub at_first : is_primitive_numeric k ≡ true → kind.UnknownAny ≤ k → (x ≡ 0 → ⊥) → StructBeside s x k (Some (Step.First s))
+  at_first e l n i = to_first s i kind.Struct x k refl n (struct_first k high no_string no_null i (dyn e l))
 
   -- a Struct with another leaf
-  pub struct_nothing : is_primitive_numeric k ≡ false → k < kind.UnknownAny → StructBeside x k Step.Nothing
-  struct_nothing e l i = to_none i kind.Struct x k (struct_none k high no_string no_null i l e)
+  pub struct_nothing : is_primitive_numeric k ≡ false → k < kind.UnknownAny → StructBeside s x k None
+  struct_nothing e l i = to_none s i kind.Struct x k (struct_none k high no_string no_null i l e)
 
   pub struct_unknown : {n : Node} → n ≡ root kind.UnknownAny 0 → is_primitive_numeric k ≡ false → kind.UnknownAny ≤ k
-      → StructBeside x k (Step.Node n)
-  struct_unknown h e l i = to_kind i kind.Struct x k h (go (dec_lt k kind.UnknownFloat))
+      → StructBeside s x k (Some (Step.Node n))
+  struct_unknown h e l i = to_kind s i kind.Struct x k h (go (dec_lt k kind.UnknownFloat))
     where
       go : Dec (k < kind.UnknownFloat) → plan_beside i kind.Struct k ≡ roots (Kind kind.UnknownAny)
       go (yes g) = struct_any k high no_string no_null i l g
@@ -149,11 +168,11 @@ module _ (x k : ℕ) (other : Other k) where
 
   module _ (i : Bool) (a : ℕ) where
     -- a List that takes the leaf in
-    pub at_list : (is kind.List a && i) ≡ true → StepBeside i a x k Step.WithinLeft
+    pub at_list : (is kind.List a && i) ≡ true → StepBeside s i a x k (Some (Step.Within s))
     at_list e =
         let q = both_true (is kind.List a) i e in
         let l = eqb-true a kind.List q.0 in
-        to_within i a x k l
+        to_within s i a x k l
         (ap₂ (λ (i : Bool) (a : ℕ). plan_beside i a k) q.1 l ∙ beside_list k high no_string no_null)
 
     -- a List that doesn't, and an Array
@@ -173,20 +192,20 @@ module _ (x k : ℕ) (other : Other k) where
               at kind.List (omega arith) (ap (λ (i : Bool). plan_beside i kind.List k) (off (omega arith)) ∙ of_list)
           go (no h) = at kind.Array (omega arith) of_Array
 
-      pub at_none : k < kind.UnknownAny → StepBeside i a x k Step.Nothing
+      pub at_none : k < kind.UnknownAny → StepBeside s i a x k None
       at_none u =
-          to_none i a x k
+          to_none s i a x k
           (plan_out (roots No) (list_none k high no_string no_null u) (array_none k high no_string no_null i u))
 
-      pub at_unknown : {n : Node} → n ≡ root kind.UnknownAny 0 → kind.UnknownAny ≤ k → StepBeside i a x k (Step.Node n)
+      pub at_unknown : {n : Node} → n ≡ root kind.UnknownAny 0 → kind.UnknownAny ≤ k → StepBeside s i a x k (Some (Step.Node n))
       at_unknown h u =
-          to_kind i a x k h
+          to_kind s i a x k h
           (plan_out (roots (Kind kind.UnknownAny)) (list_any k high no_string no_null u)
           (array_any k high no_string no_null i u))
 
 -- So the first try is the step's.
-pub by_beside : (o : SuperTypeOptions) (a x b y : ℕ) (step : Step) → kind.List ≤ a → b < kind.List
-    → StepBeside o.allow_implode_list a x b step → DecidedBy o a x b y step
+pub by_beside : (o : SuperTypeOptions) (a x b y : ℕ) (step : Option Step) → kind.List ≤ a → b < kind.List
+    → StepBeside Side.Left o.allow_implode_list a x b step → DecidedBy o a x b y step
 by_beside o a x b y step h g d c fair l r p q =
     rw (leaf_root r q g)
     (record {
@@ -199,44 +218,18 @@ by_beside o a x b y step h g d c fair l r p q =
 
 -- ---- the nested type on the right
 
--- the steps turned, and the one that stays, which is none of those
-pub turn_left : Turned Step.Left Step.Right
-unfolding run_step
-turn_left = record { answers = λ c l r. refl; parts = λ l r h. h }
-
-pub turn_within : Turned Step.WithinLeft Step.WithinRight
-unfolding run_step
-turn_within = record { answers = λ c l r. refl; parts = λ l r h. h }
-
-pub turn_first : Turned Step.FirstLeft Step.FirstRight
-unfolding run_step
-turn_first = record { answers = λ c l r. refl; parts = λ l r h. h }
-
-pub turn_each : Turned Step.EachLeft Step.EachRight
-unfolding run_step
-turn_each = record { answers = λ c l r. refl; parts = λ l r h. h }
-
-pub turn_other : (P : Step → Type 0) → (P Step.Left → ⊥) → (P Step.WithinLeft → ⊥) → (P Step.FirstLeft → ⊥)
-    → (P Step.EachLeft → ⊥) → {step : Step} → OfLeft step → P step → Turned step step
-unfolding run_step
-turn_other P no-left no_within no_first no-each nothing h = record { answers = λ c l r. refl; parts = λ l r h. h }
-turn_other P no-left no_within no_first no-each node h = record { answers = λ c l r. refl; parts = λ l r h. h }
-turn_other P no-left no_within no_first no-each left h = absurd (no-left h)
-turn_other P no-left no_within no_first no-each within h = absurd (no_within h)
-turn_other P no-left no_within no_first no-each first h = absurd (no_first h)
-turn_other P no-left no_within no_first no-each each h = absurd (no-each h)
-
 module _ (c : TreeCall) (fair : Fair c) (o : SuperTypeOptions) where
   -- a List takes String in first
   string_in : {n : DataType} (y : ℕ) → IsNested n → (is kind.List (head_kind n) && o.allow_implode_list) ≡ true
-      → Decided c o (leaf kind.String y) n Step.StringWithin
+      → Decided c o (leaf kind.String y) n (Some Step.StringWithin)
   unfolding run_step head_kind inner_dtype
   string_in y (is_list {t}) e = record { answers = string_list c o y e t; parts = refl }
   string_in y is_array e = never e
   string_in y is_struct e = never e
 
-  -- of another leaf the order does not count
-  either_side : {n : DataType} (k y : ℕ) → k ≤ kind.UnknownIntNeg → (k ≡ kind.String → ⊥) → IsNested n
+  -- otherwise the order does not count
+  either_side : {n : DataType} (k y : ℕ) → k ≤ kind.UnknownIntNeg
+      → (k ≡ kind.String → (is kind.List (head_kind n) && o.allow_implode_list) ≡ false) → IsNested n
       → supertype_tree_with c o (leaf k y) n
       ≡ run_tree c (plan_beside o.allow_implode_list (head_kind n) k) n (leaf k y)
   unfolding head_kind run_tree inner_dtype
@@ -256,41 +249,29 @@ module _ (c : TreeCall) (fair : Fair c) (o : SuperTypeOptions) where
           (ap (λ (p : TreePlan). run_tree c p (list t) (leaf k y))
           (ap (plan_beside o.allow_implode_list kind.List) q ∙ beside_null o.allow_implode_list kind.List))
       go true e false n =
-          leaf_list c o k y h fair e t (ne_eqb k kind.String s)
+          let apart : (k ≡ kind.String → ⊥) = λ q. never (sym (s q) ∙ e) in
+          leaf_list c o k y h fair e t (ne_eqb k kind.String apart)
           ∙ sym
           (ap (λ (p : TreePlan). run_tree c p (list t) (leaf k y))
-          (ap (λ (i : Bool). plan_beside i kind.List k) e ∙ beside_list k h s (eqb-false k kind.Null n)))
+          (ap (λ (i : Bool). plan_beside i kind.List k) e ∙ beside_list k h apart (eqb-false k kind.Null n)))
 
 module _ (o : SuperTypeOptions) (k b y : ℕ) (h : k < kind.List) (g : kind.List ≤ b) where
   pub by_string : k ≡ kind.String → (is kind.List b && o.allow_implode_list) ≡ true
-      → DecidedBefore o k b y Step.StringWithin
+      → DecidedBefore o k b y (Some Step.StringWithin)
   by_string s e x c fair l r p q =
       rw (leaf_root l p h, s)
       (string_in c fair o x (nested_root r q g)
       (ap (λ (b : ℕ). is kind.List b && o.allow_implode_list) q.kind ∙ e))
 
-  pub to_string_lem : {n : Node} → n ≡ root kind.String 0 → k ≡ kind.String
-      → (is kind.List b && o.allow_implode_list) ≡ false → DecidedBefore o k b y (Step.Node n)
-  unfolding run_step run_tree run
-  to_string_lem z s e x c fair l r p q =
-      rw (z, leaf_root l p h)
-      (record {
-        answers =
-            right_by c o k x (omega arith) (nested_root r q g) (roots (Kind kind.String))
-            (ap (plan_beside o.allow_implode_list (head_kind r)) s ∙ beside_string o.allow_implode_list (head_kind r))
-            (ap (λ (b : ℕ). is kind.List b && o.allow_implode_list) q.kind ∙ e);
-        parts = tt;
-      })
-
-  pub by_turned : (k ≡ kind.String → ⊥) → {step turned : Step} → StepBeside o.allow_implode_list b y k step
-      → Turned step turned → DecidedBefore o k b y turned
-  by_turned s {step} {turned} d u x c fair l r p q =
+  pub by_other : (k ≡ kind.String → (is kind.List b && o.allow_implode_list) ≡ false) → {step : Option Step}
+      → StepBeside Side.Right o.allow_implode_list b y k step → DecidedBefore o k b y step
+  by_other s d x c fair l r p q =
       rw (leaf_root l p h)
       (record {
         answers =
-            either_side c fair o k x (omega arith) s (nested_root r q g)
+            either_side c fair o k x (omega arith)
+            (λ e. ap (λ (b : ℕ). is kind.List b && o.allow_implode_list) q.kind ∙ s e) (nested_root r q g)
             ∙ ap (λ (b : ℕ). run_tree c (plan_beside o.allow_implode_list b k) r (leaf k x)) q.kind
-            ∙ d.answers c r q x
-            ∙ u.answers c r (leaf k x);
-        parts = u.parts r (leaf k x) (d.parts r q x);
+            ∙ d.answers c r q x;
+        parts = d.parts r q x;
       })

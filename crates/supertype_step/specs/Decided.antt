@@ -15,6 +15,7 @@ use Rattle.supertype_nested.specs.Nested.{SuperTypeOptions, TreeCall, join_each,
 use Rattle.supertype_nested.specs.Nested.{options, supertype_tree_with}
 use Rattle.supertype_nested.specs.Laws.{LeavesFit}
 use Rattle.supertype_nested.specs.Step.{Fair, zip_either}
+use Rattle.supertype_step.specs.declared.Side.{Side}
 use Rattle.supertype_step.specs.declared.Step.{Step}
 use Rattle.supertype_step.specs.declared.Options.{Options as Flags}
 
@@ -41,21 +42,25 @@ first c l r = if_struct None (if_field None (λ name t fs. c t r)) l
 abbrev pub each : TreeCall → DataType → DataType → Option DataType
 each c l r = if_struct None (λ fs. option_map struct (join_each c fs r)) l
 
+-- of two types that of a side; the other one is at_side side r l
+abbrev pub at_side : Side → DataType → DataType → DataType
+at_side Side.Left l r = l
+at_side Side.Right l r = r
+
 -- what a step answers for two types, by the calls c on their parts
 unfoldable pub run_step : TreeCall → Step → DataType → DataType → Option DataType
-run_step c Step.Nothing l r = None
 run_step c (Step.Node n) l r = Some (type_of n)
-run_step c Step.Left l r = Some l
-run_step c Step.Right l r = Some r
+run_step c (Step.Whole s) l r = Some (at_side s l r)
 run_step c (Step.Under n) l r = option_and_then (λ t. option_and_then (λ u. option_map (above n) (c t u)) (inner_dtype r)) (inner_dtype l)
-run_step c Step.WithinLeft l r = within c l r
-run_step c Step.WithinRight l r = within c r l
+run_step c (Step.Within s) l r = within c (at_side s l r) (at_side s r l)
 run_step c Step.StringWithin l r = option_or (within c r l) (Some (leaf kind.String 0))
-run_step c Step.FirstLeft l r = first c l r
-run_step c Step.FirstRight l r = first c r l
-run_step c Step.EachLeft l r = each c l r
-run_step c Step.EachRight l r = each c r l
+run_step c (Step.First s) l r = first c (at_side s l r) (at_side s r l)
+run_step c (Step.Each s) l r = each c (at_side s l r) (at_side s r l)
 run_step c Step.Fields l r = if_struct None (λ fs. if_struct None (λ gs. option_map struct (either_fields c fs gs)) r) l
+
+-- and what a decision answers: None where it is for no step
+abbrev pub answered : TreeCall → Option Step → DataType → DataType → Option DataType
+answered c step l r = option_and_then (λ s. run_step c s l r) step
 
 -- ---- what the code promises of a step
 
@@ -86,26 +91,26 @@ pub data Wraps : DataType → Type 0 where
 
 -- the parts that a step calls for are there
 abbrev pub HasParts : Step → DataType → DataType → Type 0
-HasParts Step.Nothing l r = Unit {0}
 HasParts (Step.Node n) l r = Unit {0}
-HasParts Step.Left l r = Unit {0}
-HasParts Step.Right l r = Unit {0}
+HasParts (Step.Whole s) l r = Unit {0}
 HasParts (Step.Under n) l r = IsOver n × Wraps l × Wraps r
-HasParts Step.WithinLeft l r = head_kind l ≡ kind.List
-HasParts Step.WithinRight l r = head_kind r ≡ kind.List
+HasParts (Step.Within s) l r = head_kind (at_side s l r) ≡ kind.List
 HasParts Step.StringWithin l r = head_kind r ≡ kind.List
-HasParts Step.FirstLeft l r = (head_kind l ≡ kind.Struct) × (head_arg l ≡ 0 → ⊥)
-HasParts Step.FirstRight l r = (head_kind r ≡ kind.Struct) × (head_arg r ≡ 0 → ⊥)
-HasParts Step.EachLeft l r = (head_kind l ≡ kind.Struct) × (size r ≡ 1)
-HasParts Step.EachRight l r = (head_kind r ≡ kind.Struct) × (size l ≡ 1)
+HasParts (Step.First s) l r = (head_kind (at_side s l r) ≡ kind.Struct) × (head_arg (at_side s l r) ≡ 0 → ⊥)
+HasParts (Step.Each s) l r = (head_kind (at_side s l r) ≡ kind.Struct) × (size (at_side s r l) ≡ 1)
 HasParts Step.Fields l r = (head_kind l ≡ kind.Struct) × (head_kind r ≡ kind.Struct)
 
--- The step answers for two types as the source's two tries do, over the inner calls c.
-pub record Decided (c : TreeCall) (o : SuperTypeOptions) (l r : DataType) (step : Step) : Type 0 where
-  pub answers : supertype_tree_with c o l r ≡ run_step c step l r
-  pub parts : HasParts step l r
+-- those of a decision
+abbrev pub PartsOf : Option Step → DataType → DataType → Type 0
+PartsOf None l r = Unit {0}
+PartsOf (Some step) l r = HasParts step l r
+
+-- The decision answers for two types as the source's two tries do, over the inner calls c.
+pub record Decided (c : TreeCall) (o : SuperTypeOptions) (l r : DataType) (step : Option Step) : Type 0 where
+  pub answers : supertype_tree_with c o l r ≡ answered c step l r
+  pub parts : PartsOf step l r
 
 -- And it does so for every two types with these roots, over all fair inner calls, as the function's own are.
-abbrev pub DecidedBy : SuperTypeOptions → (a x b y : ℕ) → Step → Type 0
+abbrev pub DecidedBy : SuperTypeOptions → (a x b y : ℕ) → Option Step → Type 0
 DecidedBy o a x b y step =
     (c : TreeCall) → Fair c → (l r : DataType) → RootOf l a x → RootOf r b y → Decided c o l r step

@@ -7,7 +7,7 @@ ghost use Rattle.flat.specs.Kind.{Null, String, List, Struct};
 ghost use Rattle.supertype_arms.specs.Node.{fits};
 ghost use Rattle.supertype_arms.specs.Supertype.{is};
 ghost use Rattle.supertype_step.specs.Decided.{options_of, NodeFits, DecidedBy};
-ghost use Rattle.supertype_step.specs.Sides.{OfLeft, StepBeside, StructBeside, Turned, DecidedBefore};
+ghost use Rattle.supertype_step.specs.Sides.{StepBeside, StructBeside, DecidedBefore};
 
 use dtype::kind::is_primitive_numeric;
 use flat::Node;
@@ -21,23 +21,31 @@ pub struct Options {
     pub allow_primitive_to_string: bool,
 }
 
-// One step: None, one node, either type, a node over the join of both inner types, a List of one's inner type with the
-// other type, the same with String where there is none, the first field with the other type, each field with it, or the
-// fields of both.
+// One of the two types of a call.
 #[derive(Clone, Copy, Debug, PartialEq, Eq)]
-pub enum Step {
-    Nothing,
-    Node(Node),
+pub enum Side {
     Left,
     Right,
+}
+
+// One step of a supertype.
+#[derive(Clone, Copy, Debug, PartialEq, Eq)]
+pub enum Step {
+    // one node
+    Node(Node),
+    // that type
+    Whole(Side),
+    // the node over the join of both inner types
     Under(Node),
-    WithinLeft,
-    WithinRight,
+    // a List of that one's inner type with the other type
+    Within(Side),
+    // the same of the right one, with String where there is none
     StringWithin,
-    FirstLeft,
-    FirstRight,
-    EachLeft,
-    EachRight,
+    // that one's first field with the other type
+    First(Side),
+    // each field of that one with the other type
+    Each(Side),
+    // the fields of both
     Fields,
 }
 
@@ -48,100 +56,80 @@ fn takes_in(implode: bool, kind: u8) -> bool
     kind == Kind::LIST && implode
 }
 
-// A Struct on the left with a leaf that is neither String nor Null.
-fn struct_beside(count: u64, leaf: u8) -> Step
+// A Struct on one side, with a leaf that is neither String nor Null.
+fn struct_beside(side: Side, count: u64, leaf: u8) -> Option<Step>
     requires { (leaf < List) × (leaf ≡ String → ⊥) × (leaf ≡ Null → ⊥) }
-    ensures { StructBeside count leaf result }
+    ensures { StructBeside side count leaf result }
 {
     let known = leaf < Kind::UNKNOWN_ANY;
     match is_primitive_numeric(leaf) {
-        true if known => Step::EachLeft,
-        true if count == 0 => Step::Nothing,
-        true => Step::FirstLeft,
-        false if known => Step::Nothing,
-        false => Step::Node(plain(Kind::UNKNOWN_ANY)),
+        true if known => Some(Step::Each(side)),
+        true if count == 0 => None,
+        true => Some(Step::First(side)),
+        false if known => None,
+        false => Some(Step::Node(plain(Kind::UNKNOWN_ANY))),
     }
 }
 
-// A nested type on the left with a leaf.
-fn beside(implode: bool, n: Node, leaf: u8) -> Step
+// A nested type on one side, with a leaf.
+fn beside(side: Side, implode: bool, n: Node, leaf: u8) -> Option<Step>
     requires { (List ≤ n.kind) × (n.kind ≤ Struct) × (leaf < List) }
-    ensures { StepBeside implode n.kind n.arg leaf result }
+    ensures { StepBeside side implode n.kind n.arg leaf result }
 {
     match leaf {
-        Kind::STRING => Step::Node(plain(Kind::STRING)),
-        Kind::NULL => Step::Left,
-        _ if n.kind == Kind::STRUCT => struct_beside(n.arg, leaf),
-        _ if takes_in(implode, n.kind) => Step::WithinLeft,
-        _ if leaf < Kind::UNKNOWN_ANY => Step::Nothing,
-        _ => Step::Node(plain(Kind::UNKNOWN_ANY)),
+        Kind::STRING => Some(Step::Node(plain(Kind::STRING))),
+        Kind::NULL => Some(Step::Whole(side)),
+        _ if n.kind == Kind::STRUCT => struct_beside(side, n.arg, leaf),
+        _ if takes_in(implode, n.kind) => Some(Step::Within(side)),
+        _ if leaf < Kind::UNKNOWN_ANY => None,
+        _ => Some(Step::Node(plain(Kind::UNKNOWN_ANY))),
     }
 }
 
-// The step of a nested type with a leaf, with left and right exchanged.
-fn turned(step: Step) -> Step
-    requires { OfLeft step }
-    ensures { Turned step result }
-{
-    match step {
-        Step::Left => Step::Right,
-        Step::WithinLeft => Step::WithinRight,
-        Step::FirstLeft => Step::FirstRight,
-        Step::EachLeft => Step::EachRight,
-        other => other,
-    }
-}
-
-// A leaf with a nested type on the right: String tries a List first.
-fn before(o: Options, leaf: u8, n: Node) -> Step
+// A leaf with a nested type on the right: as on the left, but that String tries a List first.
+fn before(o: Options, leaf: u8, n: Node) -> Option<Step>
     requires { (leaf < List) × (List ≤ n.kind) × (n.kind ≤ Struct) }
     ensures { DecidedBefore (options_of o) leaf n.kind n.arg result }
 {
     match leaf {
-        Kind::STRING if !takes_in(o.allow_implode_list, n.kind) => {
-            Step::Node(plain(Kind::STRING))
-        }
-        Kind::STRING => Step::StringWithin,
-        _ => turned(beside(o.allow_implode_list, n, leaf)),
+        Kind::STRING if takes_in(o.allow_implode_list, n.kind) => Some(Step::StringWithin),
+        _ => beside(Side::Right, o.allow_implode_list, n, leaf),
     }
 }
 
 // Two nested types.
-fn both(o: Options, l: Node, r: Node) -> Step
+fn both(o: Options, l: Node, r: Node) -> Option<Step>
     requires { (List ≤ l.kind) × (l.kind ≤ Struct) × (List ≤ r.kind) × (r.kind ≤ Struct) }
     ensures { DecidedBy (options_of o) l.kind l.arg r.kind r.arg result }
 {
     match (l.kind, r.kind) {
-        (Kind::STRUCT, Kind::STRUCT) => Step::Fields,
-        (Kind::STRUCT, b) if takes_in(o.allow_implode_list, b) => Step::WithinRight,
-        (Kind::STRUCT, _) => Step::Nothing,
-        (a, Kind::STRUCT) if takes_in(o.allow_implode_list, a) => Step::WithinLeft,
-        (_, Kind::STRUCT) => Step::Nothing,
-        (Kind::ARRAY, Kind::ARRAY) if l.arg == r.arg => Step::Under(l),
-        _ => Step::Under(plain(Kind::LIST)),
+        (Kind::STRUCT, Kind::STRUCT) => Some(Step::Fields),
+        (Kind::STRUCT, b) if takes_in(o.allow_implode_list, b) => Some(Step::Within(Side::Right)),
+        (Kind::STRUCT, _) => None,
+        (a, Kind::STRUCT) if takes_in(o.allow_implode_list, a) => Some(Step::Within(Side::Left)),
+        (_, Kind::STRUCT) => None,
+        (Kind::ARRAY, Kind::ARRAY) if l.arg == r.arg => Some(Step::Under(l)),
+        _ => Some(Step::Under(plain(Kind::LIST))),
     }
 }
 
 // Two leaves.
-fn leaves(o: Options, l: Node, r: Node) -> Step
+fn leaves(o: Options, l: Node, r: Node) -> Option<Step>
     requires { (fits l ≡ true) × (fits r ≡ true) }
     ensures { DecidedBy (options_of o) l.kind l.arg r.kind r.arg result }
 {
-    match node_supertype(o.allow_primitive_to_string, l, r) {
-        Some(n) => Step::Node(n),
-        None => Step::Nothing,
-    }
+    node_supertype(o.allow_primitive_to_string, l, r).map(Step::Node)
 }
 
-// The step that the roots of two types decide.
-pub fn decide(o: Options, l: Node, r: Node) -> Step
+// The step that the roots of two types decide, None where the source answers None.
+pub fn decide(o: Options, l: Node, r: Node) -> Option<Step>
     requires { NodeFits l.kind l.arg × NodeFits r.kind r.arg }
     ensures { DecidedBy (options_of o) l.kind l.arg r.kind r.arg result }
 {
     match (l.kind < Kind::LIST, r.kind < Kind::LIST) {
         (true, true) => leaves(o, l, r),
         (true, false) => before(o, l.kind, r),
-        (false, true) => beside(o.allow_implode_list, l, r.kind),
+        (false, true) => beside(Side::Left, o.allow_implode_list, l, r.kind),
         (false, false) => both(o, l, r),
     }
 }
