@@ -1,4 +1,5 @@
 -- The steps of two nested types. Assumes nothing.
+use Rattle.std.specs.Bool.{then_some}
 use Rattle.std.specs.Prelude.{None, Some, option_map}
 use mathlib.Core.Path.{◌≡◌, refl, sym, ap, ◌∙◌}
 use mathlib.Core.Bool.{Bool, true, false, cond, ◌&&◌}
@@ -135,25 +136,19 @@ module _ (o : SuperTypeOptions) (a x b y : ℕ) where
   pub by_fields : a ≡ kind.Struct → b ≡ kind.Struct → DecidedBy o a x b y (Some Step.Fields)
   by_fields e g c fair l r p q = two_structs c fair o (struct_root l p e) (struct_root r q g)
 
-  pub by_right : a ≡ kind.Struct → Wrap b → (is kind.List b && o.allow_implode_list) ≡ true
-      → DecidedBy o a x b y (Some (Step.Within Side.Right))
-  by_right e w i c fair l r p q =
-      struct_in c fair o (struct_root l p e) (wraps_root r q w.0 w.1) (at_root true q i)
+  pub by_right : a ≡ kind.Struct → Wrap b → {i : Bool} → i ≡ (is kind.List b && o.allow_implode_list)
+      → DecidedBy o a x b y (then_some i (Step.Within Side.Right))
+  by_right e w {i = true} h c fair l r p q =
+      struct_in c fair o (struct_root l p e) (wraps_root r q w.0 w.1) (at_root true q (sym h))
+  by_right e w {i = false} h c fair l r p q =
+      struct_out c fair o (struct_root l p e) (wraps_root r q w.0 w.1) (at_root false q (sym h))
 
-  pub none_right : a ≡ kind.Struct → Wrap b → (is kind.List b && o.allow_implode_list) ≡ false
-      → DecidedBy o a x b y None
-  none_right e w i c fair l r p q =
-      struct_out c fair o (struct_root l p e) (wraps_root r q w.0 w.1) (at_root false q i)
-
-  pub by_left : Wrap a → b ≡ kind.Struct → (is kind.List a && o.allow_implode_list) ≡ true
-      → DecidedBy o a x b y (Some (Step.Within Side.Left))
-  by_left w g i c fair l r p q =
-      in_struct c fair o (wraps_root l p w.0 w.1) (struct_root r q g) (at_root true p i)
-
-  pub none_left : Wrap a → b ≡ kind.Struct → (is kind.List a && o.allow_implode_list) ≡ false
-      → DecidedBy o a x b y None
-  none_left w g i c fair l r p q =
-      out_struct c fair o (wraps_root l p w.0 w.1) (struct_root r q g) (at_root false p i)
+  pub by_left : Wrap a → b ≡ kind.Struct → {i : Bool} → i ≡ (is kind.List a && o.allow_implode_list)
+      → DecidedBy o a x b y (then_some i (Step.Within Side.Left))
+  by_left w g {i = true} h c fair l r p q =
+      in_struct c fair o (wraps_root l p w.0 w.1) (struct_root r q g) (at_root true p (sym h))
+  by_left w g {i = false} h c fair l r p q =
+      out_struct c fair o (wraps_root l p w.0 w.1) (struct_root r q g) (at_root false p (sym h))
 
   pub by_list : {root : Node} → root ≡ node kind.List 0 → Wrap a → Wrap b
       → ((a ≡ kind.Array) × (b ≡ kind.Array) × (x ≡ y) → ⊥) → DecidedBy o a x b y (Some (Step.Under root))

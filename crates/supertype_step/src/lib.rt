@@ -102,14 +102,13 @@ fn both(o: Options, l: Node, r: Node) -> Option<Step>
     requires { (List ≤ l.kind) × (l.kind ≤ Struct) × (List ≤ r.kind) × (r.kind ≤ Struct) }
     ensures { DecidedBy (options_of o) l.kind l.arg r.kind r.arg result }
 {
-    match (l.kind, r.kind) {
-        (Kind::STRUCT, Kind::STRUCT) => Some(Step::Fields),
-        (Kind::STRUCT, b) if takes_in(o.allow_implode_list, b) => Some(Step::Within(Side::Right)),
-        (Kind::STRUCT, _) => None,
-        (a, Kind::STRUCT) if takes_in(o.allow_implode_list, a) => Some(Step::Within(Side::Left)),
-        (_, Kind::STRUCT) => None,
-        (Kind::ARRAY, Kind::ARRAY) if l.arg == r.arg => Some(Step::Under(l)),
-        _ => Some(Step::Under(plain(Kind::LIST))),
+    let implode = o.allow_implode_list;
+    match (l.kind == Kind::STRUCT, r.kind == Kind::STRUCT) {
+        (true, true) => Some(Step::Fields),
+        (true, false) => takes_in(implode, r.kind).then_some(Step::Within(Side::Right)),
+        (false, true) => takes_in(implode, l.kind).then_some(Step::Within(Side::Left)),
+        (false, false) if l.kind == Kind::ARRAY && l == r => Some(Step::Under(l)),
+        (false, false) => Some(Step::Under(plain(Kind::LIST))),
     }
 }
 
