@@ -120,7 +120,6 @@ mutual
       (nodes_append (kinds_of t) (args_of t) (kinds_ofs fs) (args_ofs fs) (length_kinds t ∙ sym (length_args t))
       ∙ ap₂ (λ a b. a ++ b) (type_nodes t) (fields_nodes fs))
 
-
 -- each leaf that fits has a leaf's kind
 mutual
   unfolding Each Good

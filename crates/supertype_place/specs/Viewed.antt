@@ -1,5 +1,5 @@
 -- The type and the fields that a view has, and what its methods tell of them. Assumes nothing: these are definitions.
-use Rattle.std.specs.Prelude.{◌≡◌, Option, None, Some, List, ℕ, zero, suc}
+use Rattle.std.specs.Prelude.{◌≡◌, Option, None, Some, ℕ, zero, suc, get_or}
 use Rattle.flat.specs.Tree.{DataType, Fields, empty, field, size}
 use Rattle.flat.specs.Walk.{type_at, run_at}
 use Rattle.supertype_nested.specs.Union.{named}
@@ -19,6 +19,7 @@ fields_of fs = run_at fs.left fs.kinds.now fs.args.now
 pub record Gives (old : FlatFields) (f : FlatField) (new : FlatFields) : Type 0 where
   pub fields : fields_of old ≡ field f.name (tree_of f.dtype) (fields_of new)
   pub left : old.left ≡ suc new.left
+  pub name : f.name ≡ get_or old.args.now 0 0
   -- where they stand
   pub kinds : f.dtype.kinds.now ≡ from 1 old.kinds.now
   pub args : f.dtype.args.now ≡ from 1 old.args.now

@@ -98,8 +98,11 @@ impl Nodes {
     {
         let mut kinds = ArrayVec::new();
         let mut args = ArrayVec::new();
-        kinds.try_extend_from_slice(&self.kinds.as_slice()[mark..]).unwrap();
-        args.try_extend_from_slice(&self.args.as_slice()[mark..]).unwrap();
+        kinds
+            .try_extend_from_slice(&self.kinds.as_slice()[mark..])
+            .unwrap();
+        args.try_extend_from_slice(&self.args.as_slice()[mark..])
+            .unwrap();
         self.truncate(mark);
         Nodes { kinds, args }
     }

@@ -113,10 +113,9 @@ impl<'a> Iterator for FlatFields<'a> {
     fn next(&mut self) -> Option<FlatField<'a>> {
         let left = self.left.checked_sub(1)?;
         let name = self.args[0];
-        let dtype = FlatType {
-            kinds: &self.kinds[1..],
-            args: &self.args[1..],
-        };
+        let kinds = &self.kinds[1..];
+        let args = &self.args[1..];
+        let dtype = FlatType { kinds, args };
         let n = dtype.nodes();
         *self = FlatFields {
             kinds: &dtype.kinds[n..],
@@ -128,7 +127,7 @@ impl<'a> Iterator for FlatFields<'a> {
 }
 
 impl<'a> FlatFields<'a> {
-    ghost use Rattle.std.specs.Prelude.{◌≤◌, []};
+    ghost use Rattle.std.specs.Prelude.{◌-◌, ◌<◌, ◌≤◌, []};
     ghost use Rattle.supertype_nested.specs.Step.{in_place};
     ghost use Rattle.supertype_nested.specs.Union.{last_or, seen, with_names};
     ghost use Rattle.supertype_place.specs.Viewed.{tree_of, fields_of, FoundIn, front_of};
@@ -143,6 +142,14 @@ impl<'a> FlatFields<'a> {
             args: self.args,
             left: n,
         }
+    }
+
+    // The fields before the one that has `rest` behind it.
+    pub fn up_to(self, rest: FlatFields) -> FlatFields<'a>
+        requires { rest.left < self.left }
+        ensures { fields_of result ≡ front_of (self.entry.left - rest.entry.left - 1) (fields_of self.entry) }
+    {
+        self.front(self.left - rest.left - 1)
     }
 
     // The first field of the name.

@@ -10,13 +10,12 @@ returns-then-field-name c =
     ∙ named_yes _ _ _ _ c.if-field-name.true
 
 pub loop-field-preserved : goal.loop-field-preserved
-loop-field-preserved c =
-    (
-      tt,
-      tt,
-      c.loop-field.invariant.2 ∙ ap (named c.args.name) c.in-Some.ensures.steps.fields
+loop-field-preserved c = (
+  tt,
+  tt,
+  c.loop-field.invariant.2 ∙ ap (named c.args.name) c.in-Some.ensures.steps.fields
       ∙ named_no _ _ _ _ c.if-field-name.false,
-    )
+)
 
 pub returns : goal.returns
 unfolding named

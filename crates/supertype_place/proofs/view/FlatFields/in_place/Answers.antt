@@ -20,8 +20,7 @@ returns-then-l-r c =
 
 pub loop-l-preserved : goal.loop-l-preserved
 loop-l-preserved c =
-    let s = c.in-Some.ensures.steps in
-    (
+    let s = c.in-Some.ensures.steps in (
       (tt, tt),
       tt,
       c.loop-l.invariant.2 ∙ ap₂ in_place s.0.fields s.1.fields ∙ place_yes _ _ _ _ _ _ c.if-l-r.false,

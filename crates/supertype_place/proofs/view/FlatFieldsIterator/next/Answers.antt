@@ -18,26 +18,26 @@ bounds-self-0 c =
     let e = c.in_ok-left.ensures in
     omega (arith, v.pos, v.args, e.0)
 
-pub slice_bounds-dtype-count : goal.slice_bounds-dtype-count
-slice_bounds-dtype-count c =
+pub slice_bounds-kinds-count : goal.slice_bounds-kinds-count
+slice_bounds-kinds-count c =
     let v = run_front c.args.self.now.stand in
     let e = c.in_ok-left.ensures in
     omega (arith, v.pos, v.kinds, e.0)
 
-pub slice_bounds-dtype-start : goal.slice_bounds-dtype-start
-slice_bounds-dtype-start c =
+pub slice_bounds-kinds-start : goal.slice_bounds-kinds-start
+slice_bounds-kinds-start c =
     let v = run_front c.args.self.now.stand in
     let e = c.in_ok-left.ensures in
     omega (arith, v.pos, v.kinds, e.0)
 
-pub slice_bounds-dtype-count-2 : goal.slice_bounds-dtype-count-2
-slice_bounds-dtype-count-2 c =
+pub slice_bounds-args-count : goal.slice_bounds-args-count
+slice_bounds-args-count c =
     let v = run_front c.args.self.now.stand in
     let e = c.in_ok-left.ensures in
     omega (arith, v.pos, v.args, e.0)
 
-pub slice_bounds-dtype-start-2 : goal.slice_bounds-dtype-start-2
-slice_bounds-dtype-start-2 c =
+pub slice_bounds-args-start : goal.slice_bounds-args-start
+slice_bounds-args-start c =
     let v = run_front c.args.self.now.stand in
     let e = c.in_ok-left.ensures in
     omega (arith, v.pos, v.args, e.0)
@@ -91,6 +91,7 @@ returns-clause-steps c =
     record {
       fields = first_field v (omega (arith, e.0)) ∙ behind_as _ _ _ _ e.1 c.nodes-n.ensures;
       left = omega arith;
+      name = refl;
       kinds = refl;
       args = refl;
       kinds_behind = ap (λ (n : ℕ). from n (from 1 c.args.self.now.kinds.now)) c.nodes-n.ensures;
