@@ -1,6 +1,6 @@
 -- Kinds and arguments as nodes, and the nodes of a type. Assumes nothing.
 use mathlib.Core.Path.{◌≡◌, refl, sym, ap, ap₂, ◌∙◌, subst}
-use mathlib.Core.List.{List, [], ◌∷◌, ◌++◌, append-nil}
+use mathlib.Core.List.{List, [], ◌∷◌, ◌++◌, append_assoc, append-nil}
 use Rattle.std.specs.Prelude.{Some, map}
 use Rattle.std.specs.List.{refill}
 use Prim.Native.Nat.{ℕ, zero, suc, ◌+◌, ◌-◌, ◌≤◌, ◌<◌}
@@ -9,7 +9,7 @@ use lib.ListN.{length, take, drop, set, length-append}
 use lib.Dec.{leb}
 use lib.Seq.{take_at}
 use Rattle.flat.specs.Kind as kind
-use Rattle.flat.specs.Tree.{DataType, leaf, list, array, struct, Fields, empty, field, count, size}
+use Rattle.flat.specs.Tree.{DataType, leaf, list, array, struct, Fields, empty, field, append, count, size, sizes}
 use Rattle.flat.specs.Tree.{kinds_of, kinds_ofs, args_of, args_ofs}
 use Rattle.flat.specs.Reader.{node_at}
 use Rattle.flat.specs.Walk.{Valid, type_at}
@@ -22,7 +22,7 @@ use borrow.Author.Tests.{leb-true}
 use Rattle.supertype_nested.specs.Laws.{Each, LeavesFit, FieldsFit}
 use Rattle.supertype_place.specs.View.{from, most_nodes}
 use Rattle.supertype_place.proofs.Views.{TypeFront, front_type}
-use Rattle.flat.proofs.Sizes.{length_kinds, length_args}
+use Rattle.flat.proofs.Sizes.{length_kinds, length_args, length_kindss, length_argss}
 use Rattle.supertype_answer.specs.Join.{node}
 use Rattle.supertype_place.specs.Out.{nodes_at, nodes_of, nodes_ofs, held_at, HeldAt}
 
@@ -149,6 +149,19 @@ pub size_nodes : (t : DataType) → length (nodes_of t) ≡ size t
 size_nodes t =
     ap length (sym (type_nodes t))
     ∙ nodes_length (kinds_of t) (args_of t) (length_kinds t ∙ sym (length_args t)) ∙ length_kinds t
+
+pub sizes_nodes : (fs : Fields) → length (nodes_ofs fs) ≡ sizes fs
+sizes_nodes fs =
+    ap length (sym (fields_nodes fs))
+    ∙ nodes_length (kinds_ofs fs) (args_ofs fs) (length_kindss fs ∙ sym (length_argss fs)) ∙ length_kindss fs
+
+pub nodes_ofs_append : (fs gs : Fields) → nodes_ofs (append fs gs) ≡ nodes_ofs fs ++ nodes_ofs gs
+unfolding nodes_of append
+nodes_ofs_append empty gs = refl
+nodes_ofs_append (field name t fs) gs =
+    ap (λ (l : List Node). node kind.Field name ∷ l)
+    (ap (λ (l : List Node). nodes_of t ++ l) (nodes_ofs_append fs gs)
+    ∙ sym (append_assoc (nodes_of t) (nodes_ofs fs) (nodes_ofs gs)))
 
 -- a type's nodes, read
 pub read_nodes : (t : DataType) → LeavesFit t
