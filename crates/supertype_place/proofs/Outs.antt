@@ -3,16 +3,16 @@ use mathlib.Core.Path.{◌≡◌, refl, sym, ap, ap₂, ◌∙◌, subst}
 use mathlib.Core.List.{List, [], ◌∷◌, ◌++◌, append_assoc, append-nil}
 use Rattle.std.specs.Prelude.{Some, map}
 use Rattle.std.specs.List.{refill}
-use Prim.Native.Nat.{ℕ, zero, suc, ◌+◌, ◌-◌, ◌≤◌, ◌<◌}
+use Prim.Native.Nat.{ℕ, zero, suc, ◌≤◌}
 use native.Mathlib.Omega.{arith}
-use lib.ListN.{length, take, drop, set, length-append}
+use lib.ListN.{length, take, drop, set}
 use lib.Dec.{leb}
 use lib.Seq.{take_at}
 use Rattle.flat.specs.Kind as kind
 use Rattle.flat.specs.Tree.{DataType, leaf, list, array, struct, Fields, empty, field, append, count, size, sizes}
 use Rattle.flat.specs.Tree.{kinds_of, kinds_ofs, args_of, args_ofs}
 use Rattle.flat.specs.Reader.{node_at}
-use Rattle.flat.specs.Walk.{Valid, type_at}
+use Rattle.flat.specs.Walk.{type_at}
 use Rattle.flat.specs.declared.Node.{Node}
 use Rattle.flat.proofs.Positions.{rest}
 use Rattle.flat.proofs.ReadBack.{Good, Goods, read_back}
@@ -25,12 +25,6 @@ use Rattle.supertype_place.proofs.Views.{TypeFront, front_type}
 use Rattle.flat.proofs.Sizes.{length_kinds, length_args, length_kindss, length_argss}
 use Rattle.supertype_answer.specs.Join.{node}
 use Rattle.supertype_place.specs.Out.{nodes_at, nodes_of, nodes_ofs, held_at, HeldAt}
-
-abbrev kind_of : Node → ℕ
-kind_of n = n.kind
-
-abbrev arg_of : Node → ℕ
-arg_of n = n.arg
 
 -- ---- kinds and arguments
 

@@ -3,11 +3,11 @@ use mathlib.Core.Path.{◌≡◌, refl, sym, ap, ap₂, ◌∙◌, subst}
 use mathlib.Core.Bool.{Bool, true, false, not, ◌||◌}
 use mathlib.Core.List.{List, []}
 use mathlib.Core.Logic.{◌⊎◌, inl, inr}
-use Rattle.std.specs.Prelude.{Option, None, Some, is_some, is_none}
+use Rattle.std.specs.Prelude.{Option, None, Some, is_some}
 use Rattle.std.proofs.Math.Bool.{Bool-set}
 use Rattle.std.proofs.Math.Logic.{∥∥₁_elim}
 use Rattle.std.proofs.Math.Nat.{ℕ_set}
-use Prim.Native.Nat.{ℕ, zero, suc, ◌+◌, ◌-◌, ◌%◌, ◌≤◌, ◌<◌}
+use Prim.Native.Nat.{ℕ, zero, suc, ◌+◌, ◌-◌, ◌%◌, ◌<◌}
 use native.Mathlib.Omega.{arith}
 use lib.Dec.{eqb}
 use lib.ListN.{length, get_or, set, replicate, length-replicate, length-set}
@@ -309,9 +309,6 @@ module _ (fs : FlatFields) {o : Option (List (Option ℕ))} (t : ∥ TableOf o f
     (e : o ≡ Some table) where
   told : ∥ Table (fields_of fs) fs.kinds.now fs.args.now table ∥₁
   told = rw e at t
-
-  pub told_size : length table ≡ slots
-  told_size = ∥∥₁_elim told (ℕ_set _ _) (λ T. T.size)
 
   pub told_distinct : repeats [] (fields_of fs) ≡ false
   told_distinct = ∥∥₁_elim told (Bool-set _ _) (λ T. T.distinct)

@@ -24,7 +24,7 @@ use Rattle.flat.proofs.Sizes.{length_kinds, length_args, depth_lt}
 use Rattle.flat.proofs.Spans.{type_ended, type_deeper}
 use Rattle.flat.proofs.Truths.{impossible, never, both_true}
 use Rattle.flat.proofs.Walks.{Unary, length_from, node_of, run_of, type_is, run_is, valid_of}
-use Rattle.flat.proofs.Walks.{type_leaf, one_valid, type_one, unary_size, struct_valid, type_struct, run_end}
+use Rattle.flat.proofs.Walks.{type_leaf, one_valid, type_one, struct_valid, type_struct, run_end}
 use Rattle.flat.proofs.Walks.{field_valid, others_valid, run_field, type_kind, type_arg}
 use Rattle.dtype.specs.Equality.{equal}
 use Rattle.dtype_eq.specs.Nodes.{starts_with}

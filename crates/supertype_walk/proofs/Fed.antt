@@ -1,7 +1,7 @@
 -- A held type with the fields of a name, one after the other. Assumes nothing.
 use mathlib.Core.Path.{◌≡◌, refl, sym, ap, ap₂, ◌∙◌, subst}
 use mathlib.Core.Bool.{Bool, true, false, cond}
-use mathlib.Core.List.{List, [], ◌∷◌, ◌++◌}
+use mathlib.Core.List.{List, ◌++◌}
 use Rattle.std.specs.Prelude.{Option, None, Some, option_and_then}
 use Prim.Native.Nat.{ℕ, suc, ◌+◌, ◌≤◌, ◌<◌}
 use native.Mathlib.Omega.{arith}
@@ -117,10 +117,6 @@ pub record Feeding (i : SuperTypeOptions) (name : ℕ) (fs : Fields) (mark : ℕ
       ≡ join_named (get_supertype i) name (held_at mark out) rest
   pub less : size (held_at mark out) + sizes (named name rest) ≤ size (held_at mark begun) + sizes (named name fs)
   pub space : length out + sizes (named name rest) ≤ room
-
-pub feed_start : (i : SuperTypeOptions) (name : ℕ) (fs : Fields) {mark : ℕ} {out : List Node} → HeldAt mark out
-    → Fits (sizes (named name fs)) out → Feeding i name fs mark out fs out
-feed_start i name fs h m = record { front = refl; held = h; same = refl; less = omega arith; space = m }
 
 module _ {i : SuperTypeOptions} {name : ℕ} {fs : Fields} {mark : ℕ} {begun : List Node} {rest : Fields}
     {out : List Node} (s : Feeding i name fs mark begun rest out) where

@@ -1,6 +1,6 @@
 -- What each step comes to: the join of two types, out of what its call left there. Assumes nothing.
 use mathlib.Core.Path.{◌≡◌, refl, sym, ap, ap₂, ◌∙◌, subst}
-use mathlib.Core.Bool.{Bool, true, false, cond}
+use mathlib.Core.Bool.{Bool, false, cond}
 use mathlib.Core.List.{List, [], ◌∷◌, ◌++◌}
 use Rattle.std.specs.Prelude.{Option, None, Some, option_map, option_and_then, ok_or, Result, Ok, Err}
 use Rattle.std.specs.Option.{option_or}
@@ -22,10 +22,9 @@ use Rattle.dtype_inner.specs.Inner.{inner_dtype}
 use Rattle.supertype_answer.specs.Join.{node, type_of}
 use Rattle.supertype_nested.specs.Laws.{Each, LeavesFit}
 use Rattle.supertype_nested.specs.Nested.{SuperTypeOptions, TreeCall, join_each, join_held, supertype_tree}
-use Rattle.supertype_nested.specs.Nested.{Zip, names_differ, no_join, joined}
+use Rattle.supertype_nested.specs.Nested.{Zip, names_differ}
 use Rattle.supertype_nested.proofs.Recursive.{recursive}
 use Rattle.supertype_nested.proofs.Steps.{tree_fair}
-use Rattle.supertype_place.specs.declared.view.FlatField.{FlatField}
 use Rattle.supertype_place.specs.declared.view.FlatFields.{FlatFields}
 use Rattle.supertype_place.specs.declared.view.FlatType.{FlatType}
 use Rattle.supertype_place.specs.Out.{nodes_of, held_at, HeldAt}
@@ -33,7 +32,7 @@ use Rattle.supertype_place.specs.Viewed.{tree_of, fields_of}
 use Rattle.supertype_place.proofs.Repeats.{count_append}
 use Rattle.supertype_place.proofs.Views.{type_front, run_front, run_many}
 use Rattle.supertype_step.specs.Decided.{either_fields, above, first, each, run_step, at_side, answered, PartsOf, HasParts}
-use Rattle.supertype_step.specs.Decided.{Decided, DecidedBy, RootOf, NodeFits, IsOver, is_list, is_array, Wraps}
+use Rattle.supertype_step.specs.Decided.{Decided, DecidedBy, NodeFits, IsOver, is_list, is_array, Wraps}
 use Rattle.supertype_step.specs.Decided.{list_wraps, array_wraps}
 use Rattle.supertype_step.specs.declared.Side.{Side}
 use Rattle.supertype_step.specs.declared.Step.{Step}

@@ -2,29 +2,28 @@
 use mathlib.Core.Path.{◌≡◌, refl, sym, ap, ap₂, ◌∙◌, subst}
 use mathlib.Core.Bool.{true, false}
 use mathlib.Core.List.{List, [], ◌∷◌, ◌++◌}
-use Rattle.std.specs.Prelude.{Option, None, Some, option_map, option_and_then}
+use Rattle.std.specs.Prelude.{Option, None, option_map}
 use Prim.Native.Nat.{ℕ, suc, ◌+◌, ◌≤◌, ◌<◌}
 use native.Mathlib.Omega.{arith}
-use lib.ListN.{length, take, length-append}
+use lib.ListN.{length, length-append}
 use borrow.Author.Tests.{eq-eqb, ne_eqb}
 use Rattle.flat.specs.Kind as kind
 use Rattle.flat.specs.Tree.{DataType, struct, Fields, empty, field, append, count, size, sizes}
 use Rattle.flat.specs.declared.Node.{Node}
-use Rattle.flat.proofs.Sizes.{size_pos}
 use Rattle.supertype_answer.specs.Join.{node}
 use Rattle.supertype_nested.specs.Nested.{SuperTypeOptions, TreeCall, Zip, names_differ, no_join, joined, zip_on, join_each}
 use Rattle.supertype_nested.specs.Nested.{zip_fields}
 use Rattle.supertype_nested.specs.Union.{named, last_or, join_named, seen, with_names, old_names, new_names, outside}
-use Rattle.supertype_nested.proofs.Found.{If, if_told}
+use Rattle.supertype_nested.proofs.Found.{if_told}
 use Rattle.supertype_nested.proofs.Names.{out_same, outside_none}
 use Rattle.supertype_nested.proofs.Smaller.{Below, tree_smaller}
-use Rattle.supertype_place.specs.Out.{nodes_of, nodes_ofs, room, Fits}
+use Rattle.supertype_place.specs.Out.{nodes_of, room, Fits}
 use Rattle.supertype_place.proofs.Outs.{size_nodes}
-use Rattle.supertype_place.proofs.Repeats.{append_append, append_names, append_none, append_sizes, count_append}
+use Rattle.supertype_place.proofs.Repeats.{append_append, append_names, append_sizes}
 use Rattle.supertype_walk.specs.Comes.{get_supertype, Joined, Filled, Zips}
 use Rattle.supertype_walk.proofs.Going.{Going, zip_o, zip_none, zip_some, zip_before, going_start, going_next}
-use Rattle.supertype_walk.proofs.Going.{going_nothing, going_apart, going_end, going_kept, going_length, going_number}
-use Rattle.supertype_walk.proofs.Told.{kept_on, named_sizes, struct_wrote}
+use Rattle.supertype_walk.proofs.Going.{going_nothing, going_apart, going_end, going_number}
+use Rattle.supertype_walk.proofs.Told.{named_sizes, struct_wrote}
 use Rattle.supertype_walk.proofs.Unions.{parted, last_sizes, some_sizes}
 
 -- how many nodes were written

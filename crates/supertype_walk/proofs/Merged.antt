@@ -2,11 +2,11 @@
 use mathlib.Core.Path.{◌≡◌, refl, sym, ap, ap₂, ◌∙◌}
 use mathlib.Core.List.{List, [], ◌∷◌, ◌++◌, append_assoc}
 use Rattle.std.specs.Prelude.{Option, None, Some, option_map, option_and_then}
-use Prim.Native.Nat.{ℕ, ◌+◌, ◌≤◌, ◌<◌}
+use Prim.Native.Nat.{ℕ, ◌+◌, ◌≤◌}
 use native.Mathlib.Omega.{arith}
-use lib.ListN.{length, take, set, length-append}
+use lib.ListN.{length, set, length-append}
 use Rattle.flat.specs.Kind as kind
-use Rattle.flat.specs.Tree.{DataType, struct, Fields, append, count, size, sizes}
+use Rattle.flat.specs.Tree.{struct, Fields, append, count, sizes}
 use Rattle.flat.specs.declared.Node.{Node}
 use Rattle.flat.proofs.Sizes.{count_le}
 use Rattle.supertype_answer.specs.Join.{node}
@@ -73,14 +73,6 @@ module _ (i : SuperTypeOptions) (fs gs : Fields) where
 
       -- both are fields
       module _ {out : List Node} {b : ℕ} (v : Filled (new_names (get_supertype i) (with_names fs []) gs) mid out b) where
-        out_length : length out ≡ length mid + sizes v.fields
-        out_length =
-            let x = ap length v.wrote ∙ length-append mid (nodes_ofs v.fields) in omega (arith, x, sizes_nodes v.fields)
-
-        -- the Struct's node is there
-        pub mark_within : {mark : ℕ} → mark ≡ length old → mark < length out
-        mark_within h = omega (arith, h, out_length, mid_length, ap length e, length-append old (n ∷ []))
-
         -- the number of names
         pub merged_names : a + b ≤ room
         merged_names =

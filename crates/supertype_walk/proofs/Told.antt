@@ -1,26 +1,25 @@
 -- What a member answered, and what it wrote. Assumes nothing.
-use mathlib.Core.Path.{◌≡◌, refl, sym, ap, ◌∙◌, subst}
+use mathlib.Core.Path.{◌≡◌, sym, ap, ◌∙◌, subst}
 use mathlib.Core.Bool.{Bool, true, false, cond}
 use mathlib.Core.List.{List, [], ◌∷◌, ◌++◌, append_assoc, append-nil}
-use Rattle.std.specs.Prelude.{Option, None, Some, option_map, option_and_then}
+use Rattle.std.specs.Prelude.{Option, None, Some, option_and_then}
 use Prim.Native.Nat.{ℕ, suc, ◌+◌, ◌≤◌, ◌<◌}
 use native.Mathlib.Omega.{arith}
 use lib.Dec.{eqb}
-use lib.ListN.{length, take, drop, set, length-append}
+use lib.ListN.{length, take, set, length-append}
 use lib.Seq.{take-take}
-use Rattle.std.proofs.Math.Seq.{take-append_seam, drop-append_seam, set-append_seam}
+use Rattle.std.proofs.Math.Seq.{take-append_seam, set-append_seam}
 use Rattle.flat.specs.Kind as kind
 use Rattle.flat.specs.Tree.{DataType, struct, Fields, empty, field, count, size, sizes}
 use Rattle.flat.specs.declared.Node.{Node}
 use Rattle.supertype_answer.specs.Join.{node}
 use Rattle.dtype.specs.Equality.{equal}
-use Rattle.supertype_nested.specs.Nested.{SuperTypeOptions, TreeCall, join_held, supertype_tree}
+use Rattle.supertype_nested.specs.Nested.{SuperTypeOptions, TreeCall, join_held}
 use Rattle.supertype_nested.specs.Union.{named, join_named}
 use Rattle.supertype_nested.proofs.Found.{If, if_weaken}
 use Rattle.supertype_nested.proofs.Smaller.{held_sizes, tree_smaller}
 use Rattle.supertype_place.specs.Out.{nodes_of, nodes_ofs}
-use Rattle.supertype_place.proofs.Outs.{size_nodes}
-use Rattle.supertype_walk.specs.Comes.{get_supertype, Joined, Fails, Joins}
+use Rattle.supertype_walk.specs.Comes.{get_supertype, Joins}
 
 -- ---- what stood before
 

@@ -1,11 +1,10 @@
 -- The cycle of joins meets its contracts, member by member: each answer is a law of proofs/ on what is known there. In
 -- a call's requirements stand first how the measure falls, and then what the member asks. Assumes nothing.
-use mathlib.Core.List.{List, [], ◌∷◌, ◌++◌}
-use mathlib.Core.Path.{◌≡◌, refl, sym, ap, ap₂, ◌∙◌, subst}
+use mathlib.Core.List.{[], ◌∷◌, ◌++◌}
+use mathlib.Core.Path.{◌≡◌, refl, sym, ap, ◌∙◌}
 use native.Mathlib.Omega.{arith}
 use lib.ListN.{length, take, length-append}
 use lib.Seq.{length-take-le}
-use Prim.Native.Nat.{ℕ}
 use Rattle.std.specs.Prelude.{None, Some, Err, option_map}
 use Rattle.flat.specs.Kind as kind
 use Rattle.flat.specs.Tree.{struct, empty, sizes, size, head_kind, head_arg}
@@ -37,7 +36,7 @@ use Rattle.supertype_walk.proofs.Loops.{new_end, new_less, new_next, new_nothing
 use Rattle.supertype_walk.proofs.Loops.{new_skip, new_start, old_end, old_less, old_next, old_nothing, old_number}
 use Rattle.supertype_walk.proofs.Loops.{old_parts, old_room, old_skip, old_start, rest_over, zip_apart, zip_end}
 use Rattle.supertype_walk.proofs.Loops.{zip_less, zip_next, zip_nothing, zip_room, zip_start}
-use Rattle.supertype_walk.proofs.Merged.{mark_within, merged, merged_names, new_nothing as union_new, new_room as union_room}
+use Rattle.supertype_walk.proofs.Merged.{merged, merged_names, new_nothing as union_new, new_room as union_room}
 use Rattle.supertype_walk.proofs.Merged.{old_nothing as union_old}
 use Rattle.supertype_walk.proofs.Orders.{all_distinct, left_longer, one_order, right_longer, union_decides, union_turned}
 use Rattle.supertype_walk.proofs.Orders.{zip_decides, zip_ends, zip_in_place}

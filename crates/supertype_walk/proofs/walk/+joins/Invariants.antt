@@ -1,7 +1,6 @@
 -- The cycle of joins: what each member's calls lessen, and what its loop keeps. The measure is the number of nodes left,
 -- and where a call hands on as many, the member's rank. Assumes nothing.
-use Prim.Native.Nat.{ℕ, ◌+◌, ◌-◌, ◌*◌}
-use lib.ListN.{length}
+use Prim.Native.Nat.{ℕ, ◌+◌, ◌*◌}
 use Rattle.flat.specs.Tree.{size, sizes}
 use Rattle.supertype_nested.specs.Union as names
 use Rattle.supertype_place.specs.Out.{held_at}

@@ -1,13 +1,10 @@
 -- `supertype_place::names::Named::find` meets its contract. Assumes nothing.
-use mathlib.Core.Path.{◌≡◌, sym, ap, ap₂, ◌∙◌, subst}
+use mathlib.Core.Path.{ap}
 use Prim.Native.Nat.{◌+◌}
 use native.Mathlib.Omega.{arith}
 use Rattle.std.specs.Prelude.{option_map}
-use Rattle.flat.specs.Tree.{field, empty}
 use Rattle.flat.proofs.Walks.{length_from}
-use Rattle.supertype_nested.specs.Union.{named}
 use Rattle.supertype_place.proofs.Tables.{told_absent, told_type, told_field}
-use Rattle.supertype_place.specs.Viewed.{front_of}
 use Rattle.supertype_place.proofs.Views.{type_front}
 use Rattle.supertype_place.proofs.names.Named.find.Goals as goal
 

@@ -1,5 +1,5 @@
 -- `supertype_place::names::Named::kept` meets its contract. Assumes nothing.
-use mathlib.Core.Path.{refl, sym, ap, ◌∙◌}
+use mathlib.Core.Path.{refl, sym, ap}
 use Rattle.std.specs.Prelude.{option_map}
 use Rattle.supertype_place.proofs.Tables.{seen_before, kept_once, there_is, told_distinct}
 use Rattle.supertype_place.proofs.names.Named.kept.Goals as goal

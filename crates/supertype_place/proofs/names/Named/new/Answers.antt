@@ -1,7 +1,7 @@
 -- `supertype_place::names::Named::new` meets its contract. Assumes nothing.
 use mathlib.Core.Path.{refl}
 use native.Mathlib.Omega.{arith}
-use Rattle.supertype_place.proofs.Tables.{enter_start, enter_end, enter_place, enter_free, enter_taken, enter_again}
+use Rattle.supertype_place.proofs.Tables.{enter_start, enter_end, enter_free, enter_taken, enter_again}
 use Rattle.supertype_place.proofs.Tables.{enter_left, field_shorter, is_nothing, is_something}
 use Rattle.supertype_place.proofs.Views.{type_front, run_front}
 use Rattle.supertype_place.proofs.names.Named.new.Goals as goal

@@ -1,5 +1,5 @@
 -- `supertype_place::view::FlatFields::first_of` meets its contract. Assumes nothing.
-use mathlib.Core.Path.{refl, ap, ◌∙◌}
+use mathlib.Core.Path.{ap, ◌∙◌}
 use Rattle.supertype_nested.specs.Union.{named}
 use Rattle.supertype_place.proofs.Finds.{named_yes, named_no}
 use Rattle.supertype_place.proofs.view.FlatFields.first_of.Goals as goal
