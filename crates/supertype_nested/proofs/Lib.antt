@@ -14,3 +14,4 @@ pub mod Beside
 pub mod Ranges
 pub mod Plain
 pub mod Hold
+pub mod Limits

@@ -71,7 +71,7 @@ pub record NestedLaws : Type 0 where
   pub fits : (o i : SuperTypeOptions) (l r t : DataType) → LeavesFit l → LeavesFit r → supertype_tree o i l r ≡ Some t
       → LeavesFit t
   -- so an answer within the limits is a valid type, where the limit of nodes lets no Struct have more fields than its
-  -- rule does; the code's does not (src/limits.rt)
+  -- rule does; the code's does not (proofs/Limits.antt)
   pub valid : (nodes deep : ℕ) → ((n : ℕ) → 1 + 2 * n ≤ nodes → argument_fits Struct n ≡ true)
       → AnswersValid nodes deep
   pub union : UnionLaws

@@ -1,8 +1,7 @@
--- What the proofs of this crate share, and the laws of types and fields at their places that others cite.
-pub mod Writes
-pub mod Places
-pub mod Seeks
-mod Joined
-pub mod Fronts
+-- What the proofs of this crate share, and the laws of types, fields and nodes that others cite.
+pub mod Views
+pub mod Finds
 pub mod Repeats
+mod Squash
 pub mod Tables
+pub mod Outs

@@ -3,21 +3,16 @@
 use mathlib.Core.Path.{◌≡◌, refl, sym, ap, ◌∙◌}
 use mathlib.Core.Bool.{Bool, true, false, cond, ◌||◌, or-false}
 use mathlib.Core.List.{List, [], ◌∷◌}
-use Rattle.std.specs.Prelude.{Option, None, Some, is_some, OnSome}
-use Prim.Native.Nat.{ℕ}
+use Prim.Native.Nat.{ℕ, ◌+◌}
+use native.Mathlib.Omega.{arith}
 use lib.Dec.{eqb}
-use Rattle.flat.specs.Tree.{DataType, Fields, empty, field, append}
+use Rattle.flat.specs.Tree.{DataType, Fields, empty, field, append, count, size, sizes}
 use Rattle.flat.proofs.Truths.{impossible, never}
 use Rattle.supertype_nested.specs.Step.{repeats}
 use Rattle.supertype_nested.specs.Union.{named, last_or, seen, with_names}
 use Rattle.supertype_nested.proofs.Plain.{Missing, Distinct, none_of, distinct}
-use Rattle.supertype_place.specs.Names.{Once}
-use Rattle.supertype_place.proofs.Seeks.{has_yes, has_no}
-
--- what holds where there is something, which there is
-pub if_given : {T P : Type 0} (o : Option T) → true ≡ is_some o → OnSome o P → P
-if_given None e h = never (sym e)
-if_given (Some x) e h = h
+use Rattle.supertype_place.specs.Viewed.{front_of}
+use Rattle.supertype_place.proofs.Finds.{has_yes, has_no}
 
 -- ---- of fields and others behind them
 
@@ -52,6 +47,32 @@ append_repeats ns (field name t fs) gs = go (seen ns name) (append_repeats (name
         ≡ ((b || repeats (name ∷ ns) fs) || repeats (with_names fs (name ∷ ns)) gs)
     go true h = refl
     go false h = h
+
+pub append_append : (fs gs hs : Fields) → append (append fs gs) hs ≡ append fs (append gs hs)
+unfolding append
+append_append empty gs hs = refl
+append_append (field name t fs) gs hs = ap (field name t) (append_append fs gs hs)
+
+pub append_none : (fs : Fields) → append fs empty ≡ fs
+unfolding append
+append_none empty = refl
+append_none (field name t fs) = ap (field name t) (append_none fs)
+
+pub append_sizes : (fs gs : Fields) → sizes (append fs gs) ≡ sizes fs + sizes gs
+unfolding append size
+append_sizes empty gs = omega arith
+append_sizes (field name t fs) gs = let h = append_sizes fs gs in omega arith
+
+pub count_append : (fs gs : Fields) → count (append fs gs) ≡ count fs + count gs
+unfolding append count
+count_append empty gs = omega arith
+count_append (field name t fs) gs = let h = count_append fs gs in omega arith
+
+-- the first ones
+pub front_done : (fs gs : Fields) → front_of (count fs) (append fs gs) ≡ fs
+unfolding append count front_of
+front_done empty gs = refl
+front_done (field name t fs) gs = ap (field name t) (front_done fs gs)
 
 -- ---- a name among others
 
@@ -120,9 +141,5 @@ module _ (name : ℕ) (before : Fields) (t : DataType) (behind : Fields)
       (none_of _ _ (none_of (repeats [] before) _ (sym (append_repeats [] before (field name t behind)) ∙ e)).1).0
 
   -- nor does one behind it
-  pub once : Once name before behind
-  once =
-      record {
-        new = once_new;
-        last = missing_named name behind (distinct_behind before (field name t behind) (distinct _ e)).0;
-      }
+  pub once_last : named name behind ≡ empty
+  once_last = missing_named name behind (distinct_behind before (field name t behind) (distinct _ e)).0

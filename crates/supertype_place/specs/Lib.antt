@@ -1,4 +1,5 @@
--- Where types and fields stand in two arrays, and what a join leaves in the lent ones.
-pub mod Place
-pub mod Written
+-- Types and fields where they stand in two arrays, and the nodes that a join writes.
+pub mod View
+pub mod Viewed
 pub mod Names
+pub mod Out

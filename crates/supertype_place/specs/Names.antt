@@ -1,61 +1,52 @@
--- Fields found by their name, in a run and by a table. Assumes nothing: these are definitions.
-use Rattle.std.specs.Prelude.{◌≡◌, true, false, Option, None, Some, List, [], ℕ, ◌+◌, ◌-◌, ◌%◌, length, get_or}
-use Rattle.flat.specs.Tree.{DataType, Fields, empty, field}
-use Rattle.flat.specs.Tree as tree
+-- A table of the fields of a Struct that repeats no name. Assumes nothing: these are definitions.
+use Rattle.std.specs.Prelude.{◌≡◌, Bool, true, false, Option, None, Some, List, [], ℕ, ◌+◌, ◌%◌, length, get_or}
+use Rattle.flat.specs.Tree.{Fields, empty, field, append}
+use Rattle.flat.specs.Walk.{type_at}
 use Rattle.supertype_nested.specs.Step.{repeats}
 use Rattle.supertype_nested.specs.Union.{named, last_or, seen, with_names}
-use Rattle.supertype_place.specs.Place.{TypeIn, type_in, RunIn, run_in}
-use Rattle.supertype_place.specs.declared.run.Located.{Located}
-
--- The first field of the name: its type stands at p, and the `left` fields after it have the others of that name.
-pub record FoundIn (name : ℕ) (fs : Fields) (ks xs : List ℕ) (p left : ℕ) : Type 0 where
-  pub type : TypeIn p ks xs
-  pub others : RunIn left (p + tree.size (type_in p ks xs)) ks xs
-  pub found : named name fs
-      ≡ field name (type_in p ks xs) (named name (run_in left (p + tree.size (type_in p ks xs)) ks xs))
-
--- where the first field of the name stands, if there is one
-abbrev pub LocatedIn : ℕ → Fields → (ks xs : List ℕ) → Option Located → Type 0
-LocatedIn name fs ks xs (Some l) = FoundIn name fs ks xs l.at l.left
-LocatedIn name fs ks xs None = named name fs ≡ empty
-
--- ---- a table
+use Rattle.supertype_place.specs.View.{from, type_stands}
+use Rattle.supertype_place.specs.Viewed.{tree_of, fields_of}
+use Rattle.supertype_place.specs.declared.view.FlatField.{FlatField}
+use Rattle.supertype_place.specs.declared.view.FlatFields.{FlatFields}
 
 -- one slot for the names of each remainder
 abbrev pub slots : ℕ
 slots = 512
 
--- A table of fields that repeat no name: a slot has 0, or the place of the type of one of them.
-pub record Table (fs : Fields) (ks xs table : List ℕ) : Type 0 where
+-- A table of fields that repeat no name: a slot has None, or where one of them stands.
+pub record Table (fs : Fields) (ks xs : List ℕ) (table : List (Option ℕ)) : Type 0 where
   pub size : length table ≡ slots
   pub distinct : repeats [] fs ≡ false
-  pub absent : (name : ℕ) → get_or table (name % slots) 0 ≡ 0 → named name fs ≡ empty
-  pub type : (s : ℕ) → (get_or table s 0 ≡ 0 → ⊥) → TypeIn (get_or table s 0) ks xs
-  pub alone : (s : ℕ) → (get_or table s 0 ≡ 0 → ⊥)
-      → named (get_or xs (get_or table s 0 - 1) 0) fs
-      ≡ field (get_or xs (get_or table s 0 - 1) 0) (type_in (get_or table s 0) ks xs) empty
+  pub absent : (name : ℕ) → get_or table (name % slots) None ≡ None → named name fs ≡ empty
+  pub type : (s p : ℕ) → get_or table s None ≡ Some p → type_stands (from (p + 1) ks) (from (p + 1) xs) ≡ true
+  pub alone : (s p : ℕ) → get_or table s None ≡ Some p
+      → named (get_or xs p 0) fs ≡ field (get_or xs p 0) (type_at (from (p + 1) ks) (from (p + 1) xs)) empty
 
 -- a table, where there is one
-abbrev pub TableOf : Option (List ℕ) → Fields → (ks xs : List ℕ) → Type 0
-TableOf (Some table) fs ks xs = Table fs ks xs table
-TableOf None fs ks xs = Unit {0}
+abbrev pub TableOf : Option (List (Option ℕ)) → FlatFields → Type 0
+TableOf (Some table) fs = Table (fields_of fs) fs.kinds.now fs.args.now table
+TableOf None fs = Unit {0}
 
--- ---- the names of the longest
-
--- The type that the union holds for a field's name, where no field before it has the name: it is t, or the last of
--- those behind it.
-pub record LastIn (name : ℕ) (before : Fields) (t : DataType) (behind : Fields) (ks xs : List ℕ) (p : ℕ) : Type 0 where
-  pub new : seen (with_names before []) name ≡ false
-  pub type : TypeIn p ks xs
-  pub last : type_in p ks xs ≡ last_or name t behind
+-- What the union holds for the name of a field that has others before it: their last type, where none before it has
+-- the name.
+pub record Kept (done : Fields) (f : FlatField) (behind : Fields) (g : FlatField) : Type 0 where
+  pub new : seen (with_names done []) f.name ≡ false
+  pub name : g.name ≡ f.name
+  pub last : tree_of g.dtype ≡ last_or f.name (tree_of f.dtype) behind
 
 -- the same, or that a field before it has the name
-abbrev pub LastTypeIn : (name : ℕ) (before : Fields) (t : DataType) (behind : Fields) (ks xs : List ℕ) → Option ℕ
-    → Type 0
-LastTypeIn name before t behind ks xs (Some p) = LastIn name before t behind ks xs p
-LastTypeIn name before t behind ks xs None = seen (with_names before []) name ≡ true
+abbrev pub KeptOr : Fields → FlatField → Fields → Option FlatField → Type 0
+KeptOr done f behind None = seen (with_names done []) f.name ≡ true
+KeptOr done f behind (Some g) = Kept done f behind g
 
--- What a Struct that repeats no name has before and behind a field of the name.
-pub record Once (name : ℕ) (before behind : Fields) : Type 0 where
-  pub new : seen (with_names before []) name ≡ false
-  pub last : named name behind ≡ empty
+-- so it is, whichever fields stand before it
+abbrev pub Keeps : Fields → FlatField → FlatFields → Option FlatField → Type 0
+Keeps fs f rest r =
+    (done : Fields) → fs ≡ append done (field f.name (tree_of f.dtype) (fields_of rest)) → KeptOr done f (fields_of rest) r
+
+-- The name of a field of the shortest is among the longest's or among those of the fields before it, whichever these
+-- are.
+abbrev pub Known : (longest shortest : Fields) → FlatField → FlatFields → Bool → Type 0
+Known longest shortest f rest r =
+    (done : Fields) → shortest ≡ append done (field f.name (tree_of f.dtype) (fields_of rest))
+    → r ≡ seen (with_names done (with_names longest [])) f.name

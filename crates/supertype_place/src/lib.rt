@@ -1,6 +1,6 @@
-// Types and fields at their places in two arrays: how they are read, compared and written there.
+// Types and the fields of Structs as parts of two arrays, and the nodes that a join writes.
 #![tactic(auto)]
 
 pub mod names;
-pub mod node;
-pub mod run;
+pub mod out;
+pub mod view;

@@ -1,260 +1,324 @@
--- What each step comes to: the join of two types, out of what its call left in the lent arrays. Assumes nothing.
+-- What each step comes to: the join of two types, out of what its call left there. Assumes nothing.
 use mathlib.Core.Path.{◌≡◌, refl, sym, ap, ap₂, ◌∙◌, subst}
-use mathlib.Core.List.{List}
-use Rattle.std.specs.Prelude.{Option, None, Some}
-use Rattle.std.specs.Prelude.{option_map, option_and_then}
+use mathlib.Core.Bool.{Bool, false, cond}
+use mathlib.Core.List.{List, [], ◌∷◌, ◌++◌}
+use Rattle.std.specs.Prelude.{Option, None, Some, option_map, option_and_then, ok_or, Result, Ok, Err}
 use Rattle.std.specs.Option.{option_or}
+use Rattle.std.specs.Result.{result_ok}
 use Prim.Native.Nat.{ℕ, suc, ◌+◌, ◌≤◌, ◌<◌}
 use native.Mathlib.Omega.{arith}
-use lib.ListN.{length, get_or}
+use lib.Dec.{leb}
+use lib.ListN.{length, take, drop}
+use borrow.Author.Tests.{leb-true}
 use Rattle.flat.specs.Kind as kind
-use Rattle.flat.specs.Tree.{DataType, leaf, list, struct, Fields, size, sizes, kinds_of, args_of}
-use Rattle.flat.proofs.Sizes.{size_pos}
+use Rattle.flat.specs.Argument.{argument_fits}
+use Rattle.flat.specs.Tree.{DataType, leaf, list, array, struct, Fields, empty, field, append, count, size, sizes}
+use Rattle.flat.specs.Tree.{head_kind, head_arg}
+use Rattle.flat.specs.declared.Node.{Node}
+use Rattle.flat.proofs.Truths.{both_true, impossible}
+use Rattle.dtype.specs.Equality.{equal}
 use Rattle.dtype.specs.Match.{if_struct}
 use Rattle.dtype_inner.specs.Inner.{inner_dtype}
-use Rattle.flat.specs.declared.Node.{Node}
 use Rattle.supertype_answer.specs.Join.{node, type_of}
-use Rattle.supertype_nested.specs.Nested.{SuperTypeOptions, TreeCall, join_each, supertype_tree}
+use Rattle.supertype_nested.specs.Laws.{Each, LeavesFit}
+use Rattle.supertype_nested.specs.Nested.{SuperTypeOptions, TreeCall, join_each, join_held, supertype_tree}
+use Rattle.supertype_nested.specs.Nested.{Zip, names_differ}
 use Rattle.supertype_nested.proofs.Recursive.{recursive}
 use Rattle.supertype_nested.proofs.Steps.{tree_fair}
-use Rattle.supertype_place.specs.declared.node.Filled.{Filled}
-use Rattle.supertype_place.specs.Place.{type_in, TypeIn}
-use Rattle.supertype_place.specs.Written.{RoomAt, type_nodes, headed, Joins, Fills, Closed}
-use Rattle.supertype_place.proofs.Writes.{not_yet}
-use Rattle.supertype_step.specs.Decided.{either_fields, above, first, each, run_step, HasParts, IsOver, is_list, is_array}
-use Rattle.supertype_step.specs.Decided.{Decided, DecidedBy}
+use Rattle.supertype_place.specs.declared.view.FlatFields.{FlatFields}
+use Rattle.supertype_place.specs.declared.view.FlatType.{FlatType}
+use Rattle.supertype_place.specs.Out.{nodes_of, held_at, HeldAt}
+use Rattle.supertype_place.specs.Viewed.{tree_of, fields_of}
+use Rattle.supertype_place.proofs.Repeats.{count_append}
+use Rattle.supertype_place.proofs.Views.{type_front, run_front, run_many}
+use Rattle.supertype_step.specs.Decided.{either_fields, above, first, each, run_step, at_side, answered, PartsOf, HasParts}
+use Rattle.supertype_step.specs.Decided.{Decided, DecidedBy, NodeFits, IsOver, is_list, is_array, Wraps}
+use Rattle.supertype_step.specs.Decided.{list_wraps, array_wraps}
+use Rattle.supertype_step.specs.declared.Side.{Side}
 use Rattle.supertype_step.specs.declared.Step.{Step}
-use Rattle.supertype_walk.specs.Room.{JoinRoom, EachRoom, RunRoom, get_supertype}
-use Rattle.supertype_walk.proofs.Closes.{closed_none, closed_joins}
-use Rattle.supertype_walk.proofs.Parts.{root_of_lem}
-use Rattle.supertype_walk.proofs.Told.{told_none, told_some, still_joins, joins_is, joins_none, front_of}
+use Rattle.supertype_walk.specs.declared.walk.Unzipped.{Unzipped}
+use Rattle.supertype_walk.specs.Comes.{get_supertype, Joined, Fails, Joins, Zipped}
+use Rattle.supertype_walk.proofs.Going.{zip_o, zip_none, zip_some}
+use Rattle.supertype_walk.proofs.Told.{joins_is}
 
--- ---- what was decided of two types
+-- ---- a type at its root
 
--- What the code has at a step: where the two types stand, room for their join, and what their roots decide.
-pub record Arm (o : SuperTypeOptions) (at : ℕ) (ks xs : List ℕ) (by : ℕ) (ls ys : List ℕ) (to : ℕ) (K A : List ℕ)
-    (step : Step) : Type 0 where
-  pub left : TypeIn at ks xs
-  pub right : TypeIn by ls ys
-  pub room : JoinRoom to (type_in at ks xs) (type_in by ls ys) K A
-  pub decides : DecidedBy o (get_or ks at 0) (get_or xs at 0) (get_or ls by 0) (get_or ys by 0) step
+root_fits_of : (t : DataType) → LeavesFit t → NodeFits (head_kind t) (head_arg t)
+unfolding Each head_kind head_arg
+root_fits_of (leaf k a) f =
+    let h = both_true (leb k kind.UnknownIntNeg) (argument_fits k a) f in
+    (omega (arith, leb-true k kind.UnknownIntNeg h.0), λ l. h.1)
+root_fits_of (list t) f = (omega arith, λ l. absurd (omega arith))
+root_fits_of (array w t) f = (omega arith, λ l. absurd (omega arith))
+root_fits_of (struct fs) f = (omega arith, λ l. absurd (omega arith))
 
-pub arm_of : (o : SuperTypeOptions) (step : Step) {at : ℕ} {ks xs : List ℕ} {by : ℕ} {ls ys : List ℕ} {to : ℕ}
-    {K A : List ℕ} → TypeIn at ks xs → TypeIn by ls ys → JoinRoom to (type_in at ks xs) (type_in by ls ys) K A
-    → {x y : Node} → x ≡ node (get_or ks at 0) (get_or xs at 0) → y ≡ node (get_or ls by 0) (get_or ys by 0)
-    → DecidedBy o x.kind x.arg y.kind y.arg step → Arm o at ks xs by ls ys to K A step
-arm_of o step v w m {x} {y} e h d =
-    record {
-      left = v;
-      right = w;
-      room = m;
-      decides = rw (e, h) at d;
-    }
+pub root_fits : (t : FlatType) {x : Node} → x ≡ node (head_kind (tree_of t)) (head_arg (tree_of t))
+    → NodeFits x.kind x.arg
+root_fits t e = rw e (root_fits_of (tree_of t) (type_front t.stands).fits)
 
-module _ {o : SuperTypeOptions} {at : ℕ} {ks xs : List ℕ} {by : ℕ} {ls ys : List ℕ} {to : ℕ} {K A : List ℕ} {r : Step}
-    (a : Arm o at ks xs by ls ys to K A r) where
-  pub decided : (i : SuperTypeOptions) (step : Step) → r ≡ step
-      → Decided (get_supertype i) o (type_in at ks xs) (type_in by ls ys) step
-  decided i step e =
-      subst (Decided (get_supertype i) o (type_in at ks xs) (type_in by ls ys)) e
-      (a.decides (get_supertype i) (tree_fair i i) (type_in at ks xs) (type_in by ls ys) (root_of_lem a.left)
-      (root_of_lem a.right))
+-- ---- under a List or an Array
 
-  pub has_parts : (step : Step) → r ≡ step → HasParts step (type_in at ks xs) (type_in by ls ys)
-  has_parts step e = (decided o step e).parts
+pub wraps_kind : {t : DataType} → Wraps t → (kind.List ≤ head_kind t) × (head_kind t ≤ kind.Array)
+unfolding head_kind
+wraps_kind list_wraps = (omega arith, omega arith)
+wraps_kind array_wraps = (omega arith, omega arith)
 
--- ---- a node over a type
+pub list_kind : {t u : DataType} → u ≡ t → head_kind t ≡ kind.List → (kind.List ≤ head_kind u) × (head_kind u ≤ kind.Array)
+list_kind e h = let k = ap head_kind e ∙ h in (omega (arith, k), omega (arith, k))
 
-over_nodes : {n : Node} {to : ℕ} {K A K' A' : List ℕ} {r : Option ℕ} → IsOver n → (q : Option DataType)
-    → Joins (headed n) q to K A K' A' r → Joins type_nodes (option_map (above n) q) to K A K' A' r
-unfolding size kinds_of args_of
-over_nodes is_list None w = record { answers = w.answers; wrote = w.wrote }
-over_nodes is_list (Some t) w = record { answers = w.answers; wrote = w.wrote }
-over_nodes is_array None w = record { answers = w.answers; wrote = w.wrote }
-over_nodes is_array (Some t) w = record { answers = w.answers; wrote = w.wrote }
+pub inner_size : (t : DataType) {u : DataType} → inner_dtype t ≡ Some u → size t ≡ suc (size u)
+unfolding inner_dtype size
+inner_size (leaf k a) e = impossible cc
+inner_size (list t) e = ap suc (ap size (let h = e in cc))
+inner_size (array w t) e = ap suc (ap size (let h = e in cc))
+inner_size (struct fs) e = impossible cc
 
-list_nodes : {to : ℕ} {K A K' A' : List ℕ} {r : Option ℕ} (q : Option DataType)
-    → Joins (headed (node kind.List 0)) q to K A K' A' r → Joins type_nodes (option_map list q) to K A K' A' r
-list_nodes q w = over_nodes is_list q w
+-- under a Struct
+pub struct_size : {t : DataType} {fs : Fields} → t ≡ struct fs → size t ≡ suc (sizes fs)
+unfolding size
+struct_size e = ap size e
+
+pub first_size : {t u : DataType} {fs gs : Fields} {name : ℕ} → t ≡ struct fs → fs ≡ field name u gs → size u < size t
+unfolding size
+first_size e h = omega (arith, ap size e, ap sizes h)
+
+pub no_fields_arg : (t : DataType) {fs : Fields} → t ≡ struct fs → fs ≡ empty → head_arg t ≡ 0
+unfolding head_arg count
+no_fields_arg t e h = ap head_arg e ∙ ap count h
+
+-- the nodes of both
+pub side_sizes : (s : Side) (l r : DataType) {t u : DataType} → t ≡ at_side s l r → u ≡ at_side s r l
+    → size t + size u ≡ size l + size r
+side_sizes Side.Left l r e h = omega (arith, ap size e, ap size h)
+side_sizes Side.Right l r e h = omega (arith, ap size e, ap size h)
+
+-- ---- what was decided
+
+-- What the code has at a step.
+pub record Arm (o i : SuperTypeOptions) (l r : DataType) (step : Step) : Type 0 where
+  pub answers : supertype_tree o i l r ≡ run_step (get_supertype i) step l r
+  pub parts : HasParts step l r
+
+module _ (o i : SuperTypeOptions) (l r : FlatType) {x y : Node}
+    (e : x ≡ node (head_kind (tree_of l)) (head_arg (tree_of l)))
+    (h : y ≡ node (head_kind (tree_of r)) (head_arg (tree_of r))) (found : Option Step)
+    (d : DecidedBy o x.kind x.arg y.kind y.arg found) where
+  decided : Decided (get_supertype i) o (tree_of l) (tree_of r) found
+  decided =
+      d (get_supertype i) (tree_fair i i) (tree_of l) (tree_of r)
+      (record { kind = sym (ap (λ n. n.kind) e); arg = sym (ap (λ n. n.arg) e); fits = (type_front l.stands).fits })
+      (record { kind = sym (ap (λ n. n.kind) h); arg = sym (ap (λ n. n.arg) h); fits = (type_front r.stands).fits })
+
+  pub arm_of : {s step : Step} → found ≡ Some s → s ≡ step → Arm o i (tree_of l) (tree_of r) step
+  arm_of {s} {step} f g =
+      let k : found ≡ Some step = f ∙ ap Some g in
+      record {
+        answers = recursive o i (tree_of l) (tree_of r) ∙ decided.answers
+            ∙ ap (λ (s : Option Step). answered (get_supertype i) s (tree_of l) (tree_of r)) k;
+        parts = subst (λ (s : Option Step). PartsOf s (tree_of l) (tree_of r)) k decided.parts;
+      }
+
+  -- for no step
+  pub none_decided : found ≡ None → supertype_tree o i (tree_of l) (tree_of r) ≡ None
+  none_decided f =
+      recursive o i (tree_of l) (tree_of r) ∙ decided.answers
+      ∙ ap (λ (s : Option Step). answered (get_supertype i) s (tree_of l) (tree_of r)) f
 
 -- ---- the steps
 
-module _ (o i : SuperTypeOptions) where
-  abbrev c : TreeCall
-  c = get_supertype i
+over_nodes : {n : Node} → IsOver n → (t : DataType) → n ∷ nodes_of t ≡ nodes_of (above n t)
+unfolding nodes_of
+over_nodes is_list t = refl
+over_nodes is_array t = refl
 
-  module _ {l r : DataType} where
-    settled : {step : Step} → Decided (get_supertype i) o l r step → (q : Option DataType) → run_step c step l r ≡ q
-        → supertype_tree o i l r ≡ q
-    settled d q e = recursive o i l r ∙ d.answers ∙ e
+over_joins : {n : Node} → IsOver n → (q : Option DataType) (old new : List Node) (r : Option (Unit {0}))
+    → Joins (λ v. n ∷ nodes_of v) q old new r → Joins nodes_of (option_map (above n) q) old new r
+over_joins {n} o q old new (Some u) w =
+    record {
+      type = above n w.type;
+      is = ap (option_map (above n)) w.is;
+      wrote = w.wrote ∙ ap (λ (l : List Node). old ++ l) (over_nodes o w.type);
+    }
+over_joins {n} o q old new None w = record { none = ap (option_map (above n)) w.none; kept = w.kept }
 
-    pub joins_nothing : Decided (get_supertype i) o l r Step.Nothing → (to : ℕ) (K A : List ℕ)
-        → Joins type_nodes (supertype_tree o i l r) to K A K A None
+list_joins : {m : Node} → m ≡ node kind.List 0 → (q : Option DataType) (old new : List Node) (r : Option (Unit {0}))
+    → Joins (λ v. m ∷ nodes_of v) q old new r → Joins nodes_of (option_map list q) old new r
+list_joins {m} e q old new r w = over_joins is_list q old new r (rw e at w)
+
+module _ {o i : SuperTypeOptions} {l r : DataType} where
+  pub arm_node : {n : Node} → Arm o i l r (Step.Node n) → (old new : List Node) → new ≡ old ++ n ∷ []
+      → Joined nodes_of (supertype_tree o i l r) old new
+  unfolding run_step nodes_of
+  arm_node {n} a old new e = record { type = type_of n; is = a.answers; wrote = e }
+
+  pub arm_whole : {s : Side} → Arm o i l r (Step.Whole s) → {u : DataType} → u ≡ at_side s l r → (old new : List Node)
+      → new ≡ old ++ nodes_of u → Joined nodes_of (supertype_tree o i l r) old new
+  unfolding run_step
+  arm_whole {s} a {u} h old new e = record { type = u; is = a.answers ∙ ap Some (sym h); wrote = e }
+
+  -- by what its call leaves
+  module _ (old new : List Node) (z : Option (Unit {0})) where
+    pub arm_under : {n : Node} → Arm o i l r (Step.Under n) → {t u : DataType} → inner_dtype l ≡ Some t
+        → inner_dtype r ≡ Some u → Joins (λ v. n ∷ nodes_of v) (get_supertype i t u) old new z
+        → Joins nodes_of (supertype_tree o i l r) old new z
     unfolding run_step
-    joins_nothing d to K A = joins_none (settled d None refl) (not_yet to K A)
+    arm_under {n} a {t} {u} e h w =
+        joins_is nodes_of old new z
+        (sym
+        (a.answers
+        ∙ ap₂ (λ (p q : Option DataType). option_and_then (λ t. option_and_then (λ u. option_map (above n) ((get_supertype i) t u)) q) p) e h))
+        (over_joins a.parts.0 ((get_supertype i) t u) old new z w)
 
-    module _ {to : ℕ} {K A K' A' : List ℕ} {a : Option ℕ} where
-      pub joins_node : {n : Node} → Decided (get_supertype i) o l r (Step.Node n)
-          → Joins type_nodes (Some (type_of n)) to K A K' A' a → Joins type_nodes (supertype_tree o i l r) to K A K' A' a
-      unfolding run_step
-      joins_node {n} d w = joins_is (sym (settled d (Some (type_of n)) refl)) w
+    pub arm_within : {s : Side} → Arm o i l r (Step.Within s) → {t : DataType} {one other : DataType}
+        → one ≡ at_side s l r → other ≡ at_side s r l → inner_dtype one ≡ Some t → {m : Node} → m ≡ node kind.List 0
+        → Joins (λ v. m ∷ nodes_of v) (get_supertype i t other) old new z
+        → Joins nodes_of (supertype_tree o i l r) old new z
+    unfolding run_step
+    arm_within {s} a {t} {one} {other} p q e {m} k w =
+        joins_is nodes_of old new z
+        (sym
+        (a.answers
+        ∙ ap₂ (λ (a b : DataType). option_and_then (λ t. option_map list ((get_supertype i) t b)) (inner_dtype a)) (sym p) (sym q)
+        ∙ ap (λ (p : Option DataType). option_and_then (λ t. option_map list ((get_supertype i) t other)) p) e))
+        (list_joins k ((get_supertype i) t other) old new z w)
 
-      pub joins_left : Decided (get_supertype i) o l r Step.Left → Joins type_nodes (Some l) to K A K' A' a
-          → Joins type_nodes (supertype_tree o i l r) to K A K' A' a
-      unfolding run_step
-      joins_left d w = joins_is (sym (settled d (Some l) refl)) w
+    -- the first field
+    pub arm_first : {s : Side} → Arm o i l r (Step.First s) → {one other : DataType} → one ≡ at_side s l r
+        → other ≡ at_side s r l → {name : ℕ} {t : DataType} {fs : Fields} → one ≡ struct (field name t fs)
+        → Joins nodes_of (get_supertype i t other) old new z → Joins nodes_of (supertype_tree o i l r) old new z
+    unfolding run_step
+    arm_first {s} a {one} {other} p q {name} {t} {fs} e w =
+        joins_is nodes_of old new z
+        (sym (a.answers ∙ ap₂ (first (get_supertype i)) (sym p) (sym q) ∙ ap (λ (l : DataType). first (get_supertype i) l other) e)) w
 
-      pub joins_right : Decided (get_supertype i) o l r Step.Right → Joins type_nodes (Some r) to K A K' A' a
-          → Joins type_nodes (supertype_tree o i l r) to K A K' A' a
-      unfolding run_step
-      joins_right d w = joins_is (sym (settled d (Some r) refl)) w
+    -- each field
+    pub arm_each : {s : Side} → Arm o i l r (Step.Each s) → {one other : DataType} → one ≡ at_side s l r
+        → other ≡ at_side s r l → {fs : Fields} → one ≡ struct fs
+        → Joins nodes_of (option_map struct (join_each (get_supertype i) fs other)) old new z
+        → Joins nodes_of (supertype_tree o i l r) old new z
+    unfolding run_step
+    arm_each {s} a {one} {other} p q {fs} e w =
+        joins_is nodes_of old new z
+        (sym (a.answers ∙ ap₂ (each (get_supertype i)) (sym p) (sym q) ∙ ap (λ (l : DataType). each (get_supertype i) l other) e)) w
 
-      -- a node over the inner types
-      pub joins_under : {n : Node} → Decided (get_supertype i) o l r (Step.Under n) → (t u : DataType)
-          → inner_dtype l ≡ Some t → inner_dtype r ≡ Some u → Joins (headed n) (get_supertype i t u) to K A K' A' a
-          → Joins type_nodes (supertype_tree o i l r) to K A K' A' a
-      unfolding run_step
-      joins_under {n} d t u e h w =
-          joins_is
-          (sym
-          (settled d (option_map (above n) (c t u))
-          (ap₂ (λ (p q : Option DataType). option_and_then (λ t. option_and_then (λ u. option_map (above n) (c t u)) q) p) e h)))
-          (over_nodes d.parts.0 (c t u) w)
+    -- the fields of both
+    pub arm_fields : Arm o i l r Step.Fields → {fs gs : Fields} → l ≡ struct fs → r ≡ struct gs
+        → Joins nodes_of (option_map struct (either_fields (get_supertype i) fs gs)) old new z
+        → Joins nodes_of (supertype_tree o i l r) old new z
+    unfolding run_step
+    arm_fields a {fs} {gs} e h w =
+        joins_is nodes_of old new z
+        (sym
+        (a.answers
+        ∙ ap₂
+        (λ (l r : DataType). if_struct None (λ fs. if_struct None (λ gs. option_map struct (either_fields (get_supertype i) fs gs)) r) l)
+        e h))
+        w
 
-      pub joins_within_left : Decided (get_supertype i) o l r Step.WithinLeft → (t : DataType) → inner_dtype l ≡ Some t
-          → Joins (headed (node kind.List 0)) (get_supertype i t r) to K A K' A' a
-          → Joins type_nodes (supertype_tree o i l r) to K A K' A' a
-      unfolding run_step
-      joins_within_left d t e w =
-          joins_is
-          (sym (settled d (option_map list (c t r)) (ap (λ (p : Option DataType). option_and_then (λ t. option_map list (c t r)) p) e)))
-          (list_nodes (c t r) w)
+  -- a List of the right one's inner type with String, if there is one
+  module _ (a : Arm o i l r Step.StringWithin) {u : DataType} (e : inner_dtype r ≡ Some u) {m : Node}
+      (k : m ≡ node kind.List 0) where
+    string_is : supertype_tree o i l r ≡ option_or (option_map list (get_supertype i u l)) (Some (leaf kind.String 0))
+    unfolding run_step
+    string_is =
+        a.answers
+        ∙ ap (λ (p : Option DataType). option_or (option_and_then (λ u. option_map list ((get_supertype i) u l)) p) (Some (leaf kind.String 0))) e
 
-      pub joins_within_right : Decided (get_supertype i) o l r Step.WithinRight → (u : DataType) → inner_dtype r ≡ Some u
-          → Joins (headed (node kind.List 0)) (get_supertype i u l) to K A K' A' a
-          → Joins type_nodes (supertype_tree o i l r) to K A K' A' a
-      unfolding run_step
-      joins_within_right d u e w =
-          joins_is
-          (sym (settled d (option_map list (c u l)) (ap (λ (p : Option DataType). option_and_then (λ u. option_map list (c u l)) p) e)))
-          (list_nodes (c u l) w)
+    pub arm_string_list : (old new : List Node) → Joined (λ v. m ∷ nodes_of v) (get_supertype i u l) old new
+        → Joined nodes_of (supertype_tree o i l r) old new
+    unfolding nodes_of
+    arm_string_list old new w =
+        record {
+          type = list w.type;
+          is = string_is
+              ∙ ap (λ (q : Option DataType). option_or (option_map list q) (Some (leaf kind.String 0))) w.is;
+          wrote = w.wrote ∙ ap (λ (m : Node). old ++ (m ∷ nodes_of w.type)) k;
+        }
 
-      -- the first field
-      pub joins_first_left : Decided (get_supertype i) o l r Step.FirstLeft → (name : ℕ) (t : DataType) (fs : Fields)
-          → l ≡ struct (Fields.field name t fs) → Joins type_nodes (get_supertype i t r) to K A K' A' a
-          → Joins type_nodes (supertype_tree o i l r) to K A K' A' a
-      unfolding run_step
-      joins_first_left d name t fs e w =
-          joins_is (sym (settled d (c t r) (ap (λ (l : DataType). first c l r) e))) w
+    pub arm_string : (old mid : List Node) → Fails (get_supertype i u l) old mid → {cut new : List Node} {mark : ℕ}
+        → mark ≡ length old → cut ≡ take mark mid → {n : Node} → n ≡ node kind.String 0 → new ≡ cut ++ n ∷ []
+        → Joined nodes_of (supertype_tree o i l r) old new
+    unfolding nodes_of
+    arm_string old mid w {cut} {new} {mark} h g {n} j e =
+        record {
+          type = leaf kind.String 0;
+          is = string_is
+              ∙ ap (λ (q : Option DataType). option_or (option_map list q) (Some (leaf kind.String 0))) w.none;
+          wrote = e
+              ∙ ap₂ (λ (l : List Node) (n : Node). l ++ n ∷ [])
+              (g ∙ ap (λ (m : ℕ). take m mid) h ∙ w.kept) j;
+        }
 
-      pub joins_first_right : Decided (get_supertype i) o l r Step.FirstRight → (name : ℕ) (u : DataType) (gs : Fields)
-          → r ≡ struct (Fields.field name u gs) → Joins type_nodes (get_supertype i u l) to K A K' A' a
-          → Joins type_nodes (supertype_tree o i l r) to K A K' A' a
-      unfolding run_step
-      joins_first_right d name u gs e w =
-          joins_is (sym (settled d (c u l) (ap (λ (r : DataType). first c r l) e))) w
+-- ---- fields
 
-      -- a List of the right one's inner type with String, if there is one
-      module _ (d : Decided (get_supertype i) o l r Step.StringWithin) (u : DataType) (e : inner_dtype r ≡ Some u)
-          (w : Joins (headed (node kind.List 0)) (get_supertype i u l) to K A K' A' a) where
-        string_is : supertype_tree o i l r ≡ option_or (option_map list (c u l)) (Some (leaf kind.String 0))
-        unfolding run_step
-        string_is =
-            settled d (option_or (option_map list (c u l)) (Some (leaf kind.String 0)))
-            (ap (λ (p : Option DataType). option_or (option_and_then (λ u. option_map list (c u l)) p) (Some (leaf kind.String 0))) e)
+-- what a join told that has an answer
+pub joined_was : {f : DataType → List Node} {q : Option DataType} {old new : List Node} {r : Option (Unit {0})}
+    {u : Unit {0}} → r ≡ Some u → Joins f q old new r → Joined f q old new
+joined_was {f} {q} {old} {new} e w = subst (Joins f q old new) e w
 
-        pub joins_string_list : (n : ℕ) → a ≡ Some n
-            → Joins type_nodes (supertype_tree o i l r) to K A K' A' (Some n)
-        joins_string_list n h =
-            joins_is
-            (sym
-            (string_is
-            ∙ ap (λ (q : Option DataType). option_or (option_map list q) (Some (leaf kind.String 0))) (told_some w n h).1))
-            (joins_is (ap (option_map list) (told_some w n h).1)
-            (list_nodes (c u l) (subst (Joins (headed (node kind.List 0)) (c u l) to K A K' A') h w)))
+-- and one that has none
+pub joined_none : (f : DataType → List Node) {q : Option DataType} {old new : List Node} {r : Option (Unit {0})}
+    → r ≡ None → Joins f q old new r → Fails q old new
+joined_none f {q} {old} {new} e w = subst (Joins f q old new) e w
 
-        pub joins_string : {K'' A'' : List ℕ} {b : Option ℕ} → a ≡ None → to ≤ length K → to ≤ length A
-            → Joins type_nodes (Some (leaf kind.String 0)) to K' A' K'' A'' b
-            → Joins type_nodes (supertype_tree o i l r) to K A K'' A'' b
-        joins_string h p q x =
-            joins_is
-            (sym
-            (string_is
-            ∙ ap (λ (q : Option DataType). option_or (option_map list q) (Some (leaf kind.String 0))) (told_none w h)))
-            (front_of x (still_joins w p q))
+-- the error that stands for a None
+pub none_is : {T E : Type 0} {o : Option T} {d e : E} → Err d ≡ ok_or o e → o ≡ None → d ≡ e
+none_is {e = e} h n = let k = h ∙ ap (λ o. ok_or o e) n in cc
 
-    -- fields, closed as a Struct, or None
-    module _ {to : ℕ} {K A K' A' : List ℕ} {a : Option Filled} (m : to < length K) (n : to < length A) where
-      module _ (d : Decided (get_supertype i) o l r Step.EachLeft) (fs : Fields) (e : l ≡ struct fs)
-          (w : Fills (join_each (get_supertype i) fs r) (to + 1) K A K' A' a) where
-        each_left : option_map struct (join_each c fs r) ≡ supertype_tree o i l r
-        unfolding run_step
-        each_left = sym (settled d (option_map struct (join_each c fs r)) (ap (λ (l : DataType). each c l r) e))
+-- a Struct of some fields
+pub struct_some : (q : Option Fields) {t : DataType} → option_map struct q ≡ Some t → (fs : Fields) × (q ≡ Some fs)
+struct_some None e = impossible cc
+struct_some (Some fs) e = (fs, refl)
 
-        pub none_each_left : a ≡ None → Joins type_nodes (supertype_tree o i l r) to K A K' A' None
-        none_each_left h = joins_is each_left (closed_none w m n h)
+pub struct_none : (q : Option Fields) → option_map struct q ≡ None → q ≡ None
+struct_none None e = refl
+struct_none (Some fs) e = impossible cc
 
-        pub joins_each_left : (f : Filled) → a ≡ Some f → {K'' A'' : List ℕ} {b : ℕ} → Closed f to K' A' K'' A'' b
-            → Joins type_nodes (supertype_tree o i l r) to K A K'' A'' (Some b)
-        joins_each_left f h z = joins_is each_left (closed_joins w m n f h z)
+-- the loop over the fields of both, where it decides
+pub zipped_ok : (z : Zip) (q : Option Fields) (old new : List Node) (r : Result (Unit {0}) Unzipped) → z ≡ zip_o q
+    → Zipped z old new r → Joins nodes_of (option_map struct q) old new (result_ok r)
+zipped_ok z q old new (Ok u) e w =
+    record {
+      type = struct w.fields;
+      is = ap (option_map struct) (zip_some q w.fields (sym e ∙ w.is));
+      wrote = w.wrote;
+    }
+zipped_ok z q old new (Err Unzipped.Apart) e w = differs q (sym e ∙ w.is)
+  where
+    differs : {A : Type 0} (q : Option Fields) → zip_o q ≡ names_differ → A
+    differs None h = impossible cc
+    differs (Some fs) h = impossible cc
+zipped_ok z q old new (Err Unzipped.Nothing) e w =
+    record { none = ap (option_map struct) (zip_none q (sym e ∙ w.is)); kept = w.kept }
 
-      module _ (d : Decided (get_supertype i) o l r Step.EachRight) (gs : Fields) (e : r ≡ struct gs)
-          (w : Fills (join_each (get_supertype i) gs l) (to + 1) K A K' A' a) where
-        each_right : option_map struct (join_each c gs l) ≡ supertype_tree o i l r
-        unfolding run_step
-        each_right = sym (settled d (option_map struct (join_each c gs l)) (ap (λ (r : DataType). each c r l) e))
+-- fewer fields stand behind one
+pub left_less : (whole rest new : FlatFields) (done : Fields) → fields_of whole ≡ append done (fields_of rest)
+    → rest.left ≡ suc new.left → new.left < whole.left
+left_less whole rest new done e h =
+    omega (
+      arith,
+      h,
+      run_many (run_front whole.stand),
+      run_many (run_front rest.stand),
+      ap count e,
+      count_append done (fields_of rest),
+    )
 
-        pub none_each_right : a ≡ None → Joins type_nodes (supertype_tree o i l r) to K A K' A' None
-        none_each_right h = joins_is each_right (closed_none w m n h)
+-- ---- the held type
 
-        pub joins_each_right : (f : Filled) → a ≡ Some f → {K'' A'' : List ℕ} {b : ℕ} → Closed f to K' A' K'' A'' b
-            → Joins type_nodes (supertype_tree o i l r) to K A K'' A'' (Some b)
-        joins_each_right f h z = joins_is each_right (closed_joins w m n f h z)
+pub held_other : (c : TreeCall) (t u : DataType) → false ≡ equal t u → c t u ≡ join_held c t u
+held_other c t u e = ap (λ (b : Bool). cond b (Some u) (c t u)) e
 
-      module _ (d : Decided (get_supertype i) o l r Step.Fields) (fs gs : Fields) (e : l ≡ struct fs) (h : r ≡ struct gs)
-          (w : Fills (either_fields (get_supertype i) fs gs) (to + 1) K A K' A' a) where
-        both_fields : option_map struct (either_fields c fs gs) ≡ supertype_tree o i l r
-        unfolding run_step
-        both_fields =
-            sym
-            (settled d (option_map struct (either_fields c fs gs))
-            (ap₂
-            (λ (l r : DataType). if_struct None (λ fs. if_struct None (λ gs. option_map struct (either_fields c fs gs)) r) l)
-            e h))
+-- taken away it stands alone
+pub alone_is : (mark : ℕ) (out : List Node) {l : List Node} → l ≡ drop mark out → held_at 0 l ≡ held_at mark out
+unfolding held_at
+alone_is mark out e = ap (held_at 0) e
 
-        pub none_fields : a ≡ None → Joins type_nodes (supertype_tree o i l r) to K A K' A' None
-        none_fields h = joins_is both_fields (closed_none w m n h)
-
-        pub joins_fields : (f : Filled) → a ≡ Some f → {K'' A'' : List ℕ} {b : ℕ} → Closed f to K' A' K'' A'' b
-            → Joins type_nodes (supertype_tree o i l r) to K A K'' A'' (Some b)
-        joins_fields f h z = joins_is both_fields (closed_joins w m n f h z)
-
--- ---- room for the calls
-
-module _ {to : ℕ} {t u : DataType} {K A : List ℕ} (m : JoinRoom to t u K A) where
-  pub node_room : RoomAt (to + 1) K A
-  node_room = record { kinds = omega (arith, m.kinds, size_pos t); args = omega (arith, m.args, size_pos t) }
-
-  -- of two types of fewer nodes, at the place and after it
-  pub less_room : {l r : DataType} → size l + size r < size t + size u → JoinRoom to l r K A
-  less_room h = record { most = m.most; kinds = omega (arith, m.kinds, h); args = omega (arith, m.args, h) }
-
-  pub under_room : {l r : DataType} → size l + size r < size t + size u → JoinRoom (to + 1) l r K A
-  under_room h = record { most = m.most; kinds = omega (arith, m.kinds, h); args = omega (arith, m.args, h) }
-
-  -- of the fields of a Struct with a leaf
-  pub each_room : {fs : Fields} {r : DataType} → suc (sizes fs) + size r ≡ size t + size u → size r ≡ 1
-      → EachRoom (to + 1) fs r K A
-  each_room h e =
-      record { most = m.most; one = e; kinds = omega (arith, m.kinds, h); args = omega (arith, m.args, h) }
-
-  -- of the fields of two Structs
-  pub fields_room : {fs gs : Fields} → suc (sizes fs) + suc (sizes gs) ≡ size t + size u → RunRoom (to + 1) fs gs K A
-  fields_room h = record { most = m.most; kinds = omega (arith, m.kinds, h); args = omega (arith, m.args, h) }
-
-  -- the place is within
-  pub place_kinds : to < length K
-  place_kinds = omega (arith, node_room.kinds)
-
-  pub place_args : to < length A
-  place_args = omega (arith, node_room.args)
+pub held_alone : {mark : ℕ} {out l : List Node} → HeldAt mark out → l ≡ drop mark out → HeldAt 0 l
+held_alone {mark} {out} h e =
+    let i = sym (alone_is mark out e) in
+    record {
+      fits = subst LeavesFit i h.fits;
+      nodes = e ∙ h.nodes ∙ ap nodes_of i;
+      within = omega arith;
+    }

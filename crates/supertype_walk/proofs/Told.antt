@@ -1,116 +1,79 @@
 -- What a member answered, and what it wrote. Assumes nothing.
-use mathlib.Core.Path.{◌≡◌, refl, sym, ap, ◌∙◌, subst}
+use mathlib.Core.Path.{◌≡◌, sym, ap, ◌∙◌, subst}
 use mathlib.Core.Bool.{Bool, true, false, cond}
-use mathlib.Core.List.{List, [], ◌∷◌, ◌++◌, append-nil}
-use native.Mathlib.Nat.{add-zero}
-use Rattle.std.specs.Prelude.{Option, None, Some}
-use Rattle.std.specs.Prelude.{option_map, option_and_then}
+use mathlib.Core.List.{List, [], ◌∷◌, ◌++◌, append_assoc, append-nil}
+use Rattle.std.specs.Prelude.{Option, None, Some, option_and_then}
 use Prim.Native.Nat.{ℕ, suc, ◌+◌, ◌≤◌, ◌<◌}
 use native.Mathlib.Omega.{arith}
-use native.Mathlib.Numerals.{add-one}
-use lib.ListN.{length, take}
-use Rattle.flat.specs.Tree.{DataType, Fields, empty, field, size, sizes}
+use lib.Dec.{eqb}
+use lib.ListN.{length, take, set, length-append}
+use lib.Seq.{take-take}
+use Rattle.std.proofs.Math.Seq.{take-append_seam, set-append_seam}
+use Rattle.flat.specs.Kind as kind
+use Rattle.flat.specs.Tree.{DataType, struct, Fields, empty, field, count, size, sizes}
 use Rattle.flat.specs.declared.Node.{Node}
-use Rattle.flat.proofs.Truths.{impossible}
+use Rattle.supertype_answer.specs.Join.{node}
 use Rattle.dtype.specs.Equality.{equal}
-use Rattle.supertype_nested.specs.Nested.{SuperTypeOptions, TreeCall, join_held, supertype_tree}
+use Rattle.supertype_nested.specs.Nested.{SuperTypeOptions, TreeCall, join_held}
 use Rattle.supertype_nested.specs.Union.{named, join_named}
 use Rattle.supertype_nested.proofs.Found.{If, if_weaken}
 use Rattle.supertype_nested.proofs.Smaller.{held_sizes, tree_smaller}
-use lib.Dec.{eqb}
-use Rattle.supertype_place.specs.Written.{Wrote, Nodes, type_nodes, headed, WroteNodes, Joins}
-use Rattle.supertype_place.proofs.Writes.{and_then, still}
-use Rattle.supertype_walk.specs.Room.{get_supertype}
+use Rattle.supertype_place.specs.Out.{nodes_of, nodes_ofs}
+use Rattle.supertype_walk.specs.Comes.{get_supertype, Joins}
 
-module _ {f : DataType → Nodes} {q : Option DataType} {to : ℕ} {K A K' A' : List ℕ} {r : Option ℕ}
-    (w : Joins f q to K A K' A' r) where
-  -- the answer None
-  pub told_none : r ≡ None → q ≡ None
-  told_none e = go q (sym w.answers ∙ e)
-    where
-      go : (q : Option DataType) → option_map (λ t. (f t).number) q ≡ None → q ≡ None
-      go None e = refl
-      go (Some t) e = impossible cc
+-- ---- what stood before
 
-  -- the answer of a type: its nodes were written
-  pub told_some : (n : ℕ) → r ≡ Some n
-      → (t : DataType) × (q ≡ Some t) × (n ≡ (f t).number) × Wrote to (f t).number (f t).kinds (f t).args K A K' A'
-  told_some n e = go q refl (sym w.answers ∙ e) w.wrote
-    where
-      go : (p : Option DataType) → q ≡ p → option_map (λ t. (f t).number) p ≡ Some n → WroteNodes to (option_map f p) K A K' A'
-          → (t : DataType) × (q ≡ Some t) × (n ≡ (f t).number)
-          × Wrote to (f t).number (f t).kinds (f t).args K A K' A'
-      go None h e s = impossible cc
-      go (Some t) h e s = (t, h, cc, s)
+pub kept_of : (old xs : List Node) {new : List Node} → new ≡ old ++ xs → take (length old) new ≡ old
+kept_of old xs {new} e = ap (take (length old)) e ∙ take-append_seam old xs
 
--- what was kept
-module _ {f : DataType → Nodes} {q : Option DataType} {to : ℕ} {K A K' A' : List ℕ} {r : Option ℕ}
-    (w : Joins f q to K A K' A' r) (h : to ≤ length K) (g : to ≤ length A) where
-  -- what stood before still stands
-  pub still_joins : Wrote to 0 [] [] K A K' A'
-  still_joins = go q w.wrote
-    where
-      go : (q : Option DataType) → WroteNodes to (option_map f q) K A K' A' → Wrote to 0 [] [] K A K' A'
-      go None v = v
-      go (Some t) v = still h g v
+-- and after what was written, what stands there still
+pub kept_on : (old xs last : List Node) {new : List Node} → new ≡ old ++ xs → take (length new) last ≡ new
+    → take (length old) last ≡ old
+kept_on old xs last {new} e h =
+    sym (take-take (length old) (length new) last (omega (arith, ap length e, length-append old xs)))
+    ∙ ap (take (length old)) h ∙ kept_of old xs e
 
-joins_of : {f : DataType → Nodes} {q : Option DataType} {to : ℕ} {K A K' A' : List ℕ} (t : DataType) (n : ℕ)
-    → q ≡ Some t → n ≡ (f t).number → Wrote to (f t).number (f t).kinds (f t).args K A K' A'
-    → Joins f q to K A K' A' (Some n)
-joins_of {f} {q} {to} {K} {A} {K'} {A'} t n e h w =
-    subst (λ (p : Option DataType). Joins f p to K A K' A' (Some n)) (sym e) record {
-      answers = ap Some h;
-      wrote = w;
+pub kept_all : (old : List Node) → take (length old) old ≡ old
+kept_all old = kept_of old [] (sym (append-nil old))
+
+-- ---- a join by what it equals
+
+pub joins_is : (f : DataType → List Node) {p q : Option DataType} (old new : List Node) (r : Option (Unit {0})) → p ≡ q
+    → Joins f p old new r → Joins f q old new r
+joins_is f {p} {q} old new r e w = subst (λ (z : Option DataType). Joins f z old new r) e w
+
+-- a node, and a join below it
+pub under_of : (n : Node) (q : Option DataType) (old new : List Node) {mid : List Node} (r : Option (Unit {0}))
+    → mid ≡ old ++ n ∷ [] → Joins nodes_of q mid new r → Joins (λ t. n ∷ nodes_of t) q old new r
+under_of n q old new (Some u) e w =
+    record {
+      type = w.type;
+      is = w.is;
+      wrote = w.wrote ∙ ap (λ (l : List Node). l ++ nodes_of w.type) e ∙ append_assoc old (n ∷ []) (nodes_of w.type);
     }
+under_of n q old new None e w = record { none = w.none; kept = kept_on old (n ∷ []) new e w.kept }
 
--- a member's None
-pub joins_none : {f : DataType → Nodes} {q : Option DataType} {to : ℕ} {K A K' A' : List ℕ} → q ≡ None
-    → Wrote to 0 [] [] K A K' A' → Joins f q to K A K' A' None
-joins_none {f} {q} {to} {K} {A} {K'} {A'} e w =
-    subst (λ (p : Option DataType). Joins f p to K A K' A' None) (sym e) record { answers = refl; wrote = w }
+-- a Struct's node, and its fields behind it
+pub struct_wrote : (old : List Node) {begun out : List Node} (n : Node) (fs : Fields) → begun ≡ old ++ n ∷ []
+    → n ≡ node kind.Struct (count fs) → out ≡ begun ++ nodes_ofs fs → out ≡ old ++ nodes_of (struct fs)
+unfolding nodes_of
+struct_wrote old n fs e h w =
+    w ∙ ap (λ (l : List Node). l ++ nodes_ofs fs) e ∙ append_assoc old (n ∷ []) (nodes_ofs fs)
+    ∙ ap (λ (n : Node). old ++ (n ∷ nodes_ofs fs)) h
 
--- ---- a node, and a join below it
-one_first : (to : ℕ) (x : ℕ) → to + (1 + x) ≡ to + suc x
-one_first to x = omega arith
+-- the same, where the node is set at the end
+pub struct_closed : (old : List Node) {begun out : List Node} (n : Node) (fs : Fields) → begun ≡ old ++ n ∷ []
+    → out ≡ begun ++ nodes_ofs fs → {mark names : ℕ} → mark ≡ length old → names ≡ count fs
+    → set out mark (node kind.Struct names) ≡ old ++ nodes_of (struct fs)
+unfolding nodes_of
+struct_closed old n fs e w {mark} {names} m c =
+    ap (λ (l : List Node). set l mark (node kind.Struct names))
+    (w ∙ ap (λ (l : List Node). l ++ nodes_ofs fs) e ∙ append_assoc old (n ∷ []) (nodes_ofs fs))
+    ∙ ap (λ (m : ℕ). set (old ++ (n ∷ nodes_ofs fs)) m (node kind.Struct names)) m
+    ∙ set-append_seam old n (nodes_ofs fs) (node kind.Struct names)
+    ∙ ap (λ (c : ℕ). old ++ (node kind.Struct c ∷ nodes_ofs fs)) c
 
-module _ {n : Node} {to : ℕ} {q : Option DataType} {K A K' A' K'' A'' : List ℕ} {r : Option ℕ}
-    (p : Wrote to 1 (n.kind ∷ []) (n.arg ∷ []) K A K' A') (w : Joins type_nodes q (to + 1) K' A' K'' A'' r) where
-  -- the join below is a type
-  pub under_some : (m : ℕ) → r ≡ Some m → Joins (headed n) q to K A K'' A'' (Some (m + 1))
-  under_some m e =
-      let y = told_some w m e in
-      let z = and_then p y.3 in
-      joins_of y.0 (m + 1) y.1 (add-one m ∙ ap suc y.2) record {
-        kinds = ap (λ (i : ℕ). take i K'') (sym (one_first to (size y.0))) ∙ z.kinds;
-        args = ap (λ (i : ℕ). take i A'') (sym (one_first to (size y.0))) ∙ z.args;
-      }
-
-  -- the join below is None
-  pub under_none : to < length K → to < length A → length K' ≡ length K → length A' ≡ length A → r ≡ None
-      → Joins (headed n) q to K A K'' A'' None
-  under_none h g a b e =
-      joins_none (told_none w e) (still (omega arith) (omega arith)
-      (and_then p (still_joins w (omega arith) (omega arith))))
-
--- fewer nodes than both types
-pub join_nodes : (o i : SuperTypeOptions) (l u : DataType) {to : ℕ} {K A K' A' : List ℕ} {r : Option ℕ}
-    → Joins type_nodes (supertype_tree o i l u) to K A K' A' r → (n : ℕ) → r ≡ Some n → n < size l + size u
-join_nodes o i l u w n e =
-    let y = told_some w n e in
-    let s : size y.0 < size l + size u = subst (If (λ t. size t < size l + size u)) y.1 (tree_smaller o i l u) in
-    omega (arith, s, y.2)
-
--- a join by what it equals
-pub joins_is : {f : DataType → Nodes} {p q : Option DataType} {to : ℕ} {K A K' A' : List ℕ} {r : Option ℕ} → p ≡ q
-    → Joins f p to K A K' A' r → Joins f q to K A K' A' r
-joins_is {f} {p} {q} {to} {K} {A} {K'} {A'} {r} e w = subst (λ (z : Option DataType). Joins f z to K A K' A' r) e w
-
--- ---- the held type stays where they are equal
-pub held_same : (c : TreeCall) (t u : DataType) → true ≡ equal t u → Some u ≡ join_held c t u
-held_same c t u e = ap (λ (b : Bool). cond b (Some u) (c t u)) e
-
--- ---- a name's fields
--- a result of no more nodes than the held type and the name's fields
+-- ---- a name's fields: a result of no more nodes than the held type and the name's fields
 module _ (i : SuperTypeOptions) (name : ℕ) where
   -- of the join of a name
   pub named_sizes : (u : DataType) (fs : Fields)
@@ -142,34 +105,6 @@ module _ (i : SuperTypeOptions) (name : ℕ) where
       go true h r = on (join_held (get_supertype i) t u) held r
       go false h r = h
 
--- so many nodes were written
-pub name_nodes : (i : SuperTypeOptions) (name : ℕ) (u : DataType) (fs : Fields) {to : ℕ} {K A K' A' : List ℕ}
-    {r : Option ℕ}
-    → Joins type_nodes (join_named (get_supertype i) name u fs) to K A K' A' r → (n : ℕ) → r ≡ Some n
-    → n ≤ size u + sizes (named name fs)
-name_nodes i name u fs w n e =
-    let y = told_some w n e in
-    let s : size y.0 ≤ size u + sizes (named name fs) = subst (If (λ t. size t ≤ size u + sizes (named name fs)))
-    y.1 (named_sizes i name u fs) in
-    omega (arith, s, y.2)
-
--- what is written over what a call before left
-pub written_over : {to n : ℕ} {ys zs K A K' A' K'' A'' : List ℕ} → Wrote to 0 [] [] K A K' A'
-    → Wrote to n ys zs K' A' K'' A'' → Wrote to n ys zs K A K'' A''
-written_over {to} {n} {ys} {zs} {K} {A} {K'} {A'} {K''} {A''} v w =
-    record {
-      kinds = w.kinds ∙ ap (λ (l : List ℕ). l ++ ys) (same K K' v.kinds);
-      args = w.args ∙ ap (λ (l : List ℕ). l ++ zs) (same A A' v.args);
-    }
-  where
-    same : (L L' : List ℕ) → take (to + 0) L' ≡ take to L ++ [] → take to L' ≡ take to L
-    same L L' e = ap (λ (i : ℕ). take i L') (sym (add-zero to)) ∙ e ∙ append-nil (take to L)
-
--- a join written over what a call before left
-pub front_of : {f : DataType → Nodes} {q : Option DataType} {to : ℕ} {K A K' A' K'' A'' : List ℕ} {r : Option ℕ}
-    → Joins f q to K' A' K'' A'' r → Wrote to 0 [] [] K A K' A' → Joins f q to K A K'' A'' r
-front_of {f} {q} {to} {K} {A} {K'} {A'} {K''} {A''} {r} w v = record { answers = w.answers; wrote = go q w.wrote }
-  where
-    go : (q : Option DataType) → WroteNodes to (option_map f q) K' A' K'' A'' → WroteNodes to (option_map f q) K A K'' A''
-    go None x = written_over v x
-    go (Some t) x = written_over v x
+-- the held type stays where they are equal
+pub held_same : (c : TreeCall) (t u : DataType) → true ≡ equal t u → Some u ≡ join_held c t u
+held_same c t u e = ap (λ (b : Bool). cond b (Some u) (c t u)) e

@@ -13,7 +13,7 @@ use Rattle.supertype_nested.specs.Nested.{SuperTypeOptions, TreeCall}
 use Rattle.supertype_nested.specs.Union.{named, last_or, join_named, seen, with_names, old_names, new_names, outside}
 use Rattle.supertype_nested.proofs.Found.{If, if_weaken}
 use Rattle.supertype_nested.proofs.Names.{one_seen, out_same}
-use Rattle.supertype_walk.specs.Room.{get_supertype}
+use Rattle.supertype_walk.specs.Comes.{get_supertype}
 use Rattle.supertype_walk.proofs.Told.{named_sizes}
 
 -- the fields of names not seen are those of one such name, and the others

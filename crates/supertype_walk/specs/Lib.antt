@@ -1,3 +1,2 @@
--- What the walk asks of the lent arrays, and how far its loops have come.
-pub mod Room
-pub mod Going
+-- What the members of the walk come to.
+pub mod Comes

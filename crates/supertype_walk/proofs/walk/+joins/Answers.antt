@@ -1,886 +1,692 @@
 -- The cycle of joins meets its contracts, member by member: each answer is a law of proofs/ on what is known there. In
 -- a call's requirements stand first how the measure falls, and then what the member asks. Assumes nothing.
-use Prim.Native.Nat.{ℕ, ◌-◌}
-use Rattle.flat.proofs.Truths.{Fact, fact, handed_on, never}
-use Rattle.std.proofs.lemmas.Result.{err_from_is_err_and}
-use Rattle.std.specs.Prelude.{Err}
-use Rattle.std.proofs.lemmas.Option.{IfSome_then}
-use Rattle.supertype_nested.proofs.Steps.{tree_fair}
-use Rattle.supertype_nested.specs.Nested.{join_each, join_held}
-use Rattle.supertype_place.proofs.Fronts.{along_done}
-use Rattle.supertype_place.proofs.Places.{field_in, run_count}
-use Rattle.supertype_place.proofs.Tables.{table_distinct}
-use Rattle.supertype_place.specs.Place.{run_in, type_in}
-use Rattle.supertype_step.specs.Decided.{options_of, either_fields}
-use Rattle.supertype_walk.proofs.Closes.{closed_fits}
-use Rattle.supertype_walk.proofs.Each.{each_end, each_field_lem, each_less, each_next, each_nodes}
-use Rattle.supertype_walk.proofs.Each.{each_nothing, each_room, each_start}
-use Rattle.supertype_walk.proofs.Fed.{copied_in, copied_nodes, copied_room, copied_type, fed_none, fed_of, found_less}
-use Rattle.supertype_walk.proofs.Fed.{found_room, none_left, stays}
-use Rattle.supertype_walk.proofs.Joined.{arm_of, decided, each_room as joined_each_room, fields_room, has_parts}
-use Rattle.supertype_walk.proofs.Joined.{joins_each_left, joins_each_right, joins_fields, joins_first_left}
-use Rattle.supertype_walk.proofs.Joined.{none_each_left, none_each_right, none_fields}
-use Rattle.supertype_walk.proofs.Joined.{joins_first_right, joins_left, joins_node, joins_nothing, joins_right}
-use Rattle.supertype_walk.proofs.Joined.{joins_string, joins_string_list, joins_under, joins_within_left}
-use Rattle.supertype_walk.proofs.Joined.{joins_within_right, less_room, place_args, place_kinds}
-use Rattle.supertype_walk.proofs.Joined.{under_room}
-use Rattle.supertype_walk.proofs.Merged.{merged, merged_end, merged_names, new_nothing as merged_new_nothing}
-use Rattle.supertype_walk.proofs.Merged.{new_room, old_end as merged_old_end}
-use Rattle.supertype_walk.proofs.Merged.{old_nothing as merged_old_nothing}
-use Rattle.supertype_walk.proofs.News.{new_count, new_end, new_less, new_named_room, new_next, new_nodes}
-use Rattle.supertype_walk.proofs.News.{new_nothing, new_once, new_others, new_skip, new_start, new_told}
-use Rattle.supertype_walk.proofs.Olds.{old_count, old_end, old_last, old_less, old_next, old_nodes, old_nothing}
-use Rattle.supertype_walk.proofs.Olds.{old_once, old_others, old_room, old_skip, old_start, old_was_seen}
-use Rattle.supertype_walk.proofs.Orders.{all_distinct, none_is, fills_front, fills_is, left_longer, one_order, over}
-use Rattle.supertype_walk.proofs.Orders.{places_as, right_longer, told_fields, zip_fills, zip_front, ztold}
-use Rattle.supertype_walk.proofs.Orders.{told_is, union_decides, union_turned, was_apart, was_joined, was_none}
-use Rattle.supertype_walk.proofs.Orders.{was_nothing, zip_as, zip_decides, zip_ends, zip_in_place}
-use Rattle.supertype_walk.proofs.Parts.{first_in, first_is, first_nodes, inner_in, inner_is, inner_nodes_lem, list_kind}
-use Rattle.supertype_walk.proofs.Parts.{root_fits, struct_in, struct_is, struct_nodes, wraps_kind}
-use Rattle.supertype_walk.proofs.Told.{held_same, join_nodes, joins_is, name_nodes, under_none}
-use Rattle.supertype_walk.proofs.Zips.{zip_apart, zip_end_lem, zip_left, zip_less, zip_next, zip_nodes}
-use Rattle.supertype_walk.proofs.Zips.{zip_nothing, zip_right, zip_room}
-use Rattle.supertype_walk.specs.Room.{get_supertype, held_at}
-use mathlib.Core.Path.{ap, refl, sym, ◌∙◌, ◌≡◌}
+use mathlib.Core.List.{[], ◌∷◌, ◌++◌}
+use mathlib.Core.Path.{◌≡◌, refl, sym, ap, ◌∙◌}
 use native.Mathlib.Omega.{arith}
+use lib.ListN.{length, take, length-append}
+use lib.Seq.{length-take-le}
+use Rattle.std.specs.Prelude.{None, Some, Err, option_map}
+use Rattle.flat.specs.Kind as kind
+use Rattle.flat.specs.Tree.{struct, empty, sizes, size, head_kind, head_arg}
+use mathlib.Core.Logic.{inl, inr}
+use Rattle.dtype.specs.Equality.{equal}
+use Rattle.flat.proofs.Sizes.{size_pos}
+use Rattle.flat.proofs.Truths.{handed_on, never}
+use Rattle.std.proofs.lemmas.Result.{err_from_is_err_and}
+use Rattle.supertype_answer.specs.Join.{node}
+use Rattle.supertype_nested.specs.Union.{named}
+use Rattle.supertype_nested.proofs.Steps.{tree_fair}
+use Rattle.supertype_place.specs.Out.{nodes_of, held_at}
+use Rattle.supertype_place.specs.Viewed.{tree_of, fields_of}
+use Rattle.supertype_place.proofs.Tables.{is_nothing, there_is}
+use Rattle.supertype_place.proofs.Views.{type_front, run_front, run_many}
+use Rattle.supertype_step.specs.Decided.{options_of}
+use Rattle.supertype_walk.specs.Comes.{get_supertype}
+use Rattle.supertype_walk.proofs.Fed.{feed_end, feed_less, feed_next, feed_nothing, feed_room, feed_skip}
+use Rattle.supertype_walk.proofs.Fed.{found_again, found_held, found_less, found_nothing, found_on, found_room}
+use Rattle.supertype_walk.proofs.Fed.{found_space, held_length, none_named}
+use Rattle.supertype_walk.proofs.Going.{going_kept, zip_none, zip_some}
+use Rattle.supertype_walk.proofs.Joined.{alone_is, arm_each, arm_fields, arm_first, arm_node, arm_of, arm_string}
+use Rattle.supertype_walk.proofs.Joined.{arm_string_list, arm_under, arm_whole, arm_within, held_alone, held_other}
+use Rattle.supertype_walk.proofs.Joined.{first_size, joined_none, joined_was, none_is, no_fields_arg, struct_size}
+use Rattle.supertype_walk.proofs.Joined.{inner_size, left_less, list_kind, none_decided, root_fits, side_sizes}
+use Rattle.supertype_walk.proofs.Joined.{struct_none, struct_some, wraps_kind, zipped_ok}
+use Rattle.supertype_walk.proofs.Loops.{each_end, each_less, each_next, each_nothing, each_room, each_start}
+use Rattle.supertype_walk.proofs.Loops.{new_end, new_less, new_next, new_nothing, new_number, new_parts, new_room}
+use Rattle.supertype_walk.proofs.Loops.{new_skip, new_start, old_end, old_less, old_next, old_nothing, old_number}
+use Rattle.supertype_walk.proofs.Loops.{old_parts, old_room, old_skip, old_start, rest_over, zip_apart, zip_end}
+use Rattle.supertype_walk.proofs.Loops.{zip_less, zip_next, zip_nothing, zip_room, zip_start}
+use Rattle.supertype_walk.proofs.Merged.{merged, merged_names, new_nothing as union_new, new_room as union_room}
+use Rattle.supertype_walk.proofs.Merged.{old_nothing as union_old}
+use Rattle.supertype_walk.proofs.Orders.{all_distinct, left_longer, one_order, right_longer, union_decides, union_turned}
+use Rattle.supertype_walk.proofs.Orders.{zip_decides, zip_ends, zip_in_place}
+use Rattle.supertype_walk.proofs.Told.{joins_is, kept_all, kept_on, under_of}
 use Rattle.supertype_walk.proofs.walk.+joins.Goals as goal
-use Rattle.supertype_walk.proofs.walk.+joins.Goals.{join-After-decide}
-use Rattle.supertype_walk.proofs.walk.+joins.Goals.{merge-then-n-m-via-then-n-m}
-use Rattle.supertype_walk.proofs.walk.+joins.Goals.{merge-then-n-m-via-else-n-m+then-is_some-2, merge-then-is_some}
+use Rattle.supertype_walk.proofs.walk.+joins.Goals.{merge-then-r-l-via-then-r-l}
+use Rattle.supertype_walk.proofs.walk.+joins.Goals.{merge-then-r-l-via-else-r-l+then-is_some-2, merge-then-is_some}
 use Rattle.supertype_walk.proofs.walk.+joins.Goals.{merge-else-is_some}
 
 -- ---- `again`
 
-pub again-returns-in_default : goal.again-returns-in_default
-again-returns-in_default t c =
-    none_left (options_of c.args.i) _ _ _ c.in_default.ensures (stays c.requires.stand.1)
+pub again-next-requires-then-field-name : goal.again-next-requires-then-field-name
+again-next-requires-then-field-name t c =
+    let v = c.loop-field.invariant.2 in
+    let g = c.in-Some.ensures.steps.fields in
+    let d = c.if-field-name.true in
+    (omega (arith, c.decreases, feed_less v g d), (v.held, feed_room v g d))
 
-pub again-next-requires : goal.again-next-requires
-again-next-requires t c =
-    let i = options_of c.args.i in
-    let u = held_at c.args.to c.args.n c.args.ok.now c.args.oa.now in
-    let f = c.in-Some.ensures in (
-      omega (arith, c.decreases, found_less i u c.requires.stand.1.fits f, c.requires.stand.1.nodes),
-      ((f.type, c.requires.stand.1), found_room i u c.requires.stand.1.fits f c.requires.room),
-    )
+pub again-loop-field-preserved-in-Continue-1 : goal.again-loop-field-preserved-in-Continue-1
+again-loop-field-preserved-in-Continue-1 t c = (
+  tt,
+  tt,
+  feed_next c.loop-field.invariant.2 c.in-Some.ensures.steps.fields c.if-field-name.true
+      (type_front c.in-Some.field.dtype.stands).fits c.in_ok-next.ensures,
+)
 
-pub again-returns-in_err-k : goal.again-returns-in_err-k
-again-returns-in_err-k t c =
-    let i = options_of c.args.i in
-    let u = held_at c.args.to c.args.n c.args.ok.now c.args.oa.now in
-    let f = c.in-Some.ensures in
-    rw c.from_residual.ensures (fed_none i u c.requires.stand.1.fits f c.next.ensures c.requires.room c.in_err-k.was)
+pub again-returns-in_err-next : goal.again-returns-in_err-next
+again-returns-in_err-next t c =
+    rw c.from_residual.ensures (feed_nothing c.loop-field.invariant.2 c.in-Some.ensures.steps.fields
+    c.if-field-name.true c.in_err-next.ensures)
 
-pub again-again-requires : goal.again-again-requires
-again-again-requires t c =
-    let i = options_of c.args.i in
-    let u = held_at c.args.to c.args.n c.args.ok.now c.args.oa.now in
-    let f = c.in-Some.ensures in
-    let fed = (fact (fed_of i u c.requires.stand.1.fits f c.next.ensures c.requires.room _ c.in_ok-k.was
-    c.next.auto.ok c.next.auto.oa _
-    c.after-past.ensures)).proof in
-    (omega (arith, c.decreases, fed.less, c.requires.stand.1.nodes), ((fed.run, fed.held), fed.room))
+pub again-loop-field-preserved : goal.again-loop-field-preserved
+again-loop-field-preserved t c =
+    (tt, tt, feed_skip c.loop-field.invariant.2 c.in-Some.ensures.steps.fields c.if-field-name.false)
 
 pub again-returns : goal.again-returns
-again-returns t c =
-    let i = options_of c.args.i in
-    let u = held_at c.args.to c.args.n c.args.ok.now c.args.oa.now in
-    let f = c.in-Some.ensures in
-    let fed = (fact (fed_of i u c.requires.stand.1.fits f c.next.ensures c.requires.room _ c.in_ok-k.was
-    c.next.auto.ok c.next.auto.oa _
-    c.after-past.ensures)).proof in
-    fed.on c.again.ensures
-
--- ---- `all`
-
-pub all-returns-in_default : goal.all-returns-in_default
-all-returns-in_default t c =
-    none_left (options_of c.args.i) _ _ _ c.in_default.ensures c.whole.ensures
-
-pub all-held-requires : goal.all-held-requires
-all-held-requires t c =
-    let i = options_of c.args.i in
-    let u = type_in c.args.at c.args.hk.now c.args.ha.now in
-    let f = c.in-Some.ensures in (
-      omega (arith, c.decreases, found_less i u c.requires.stand.0.fits f),
-      ((f.type, c.requires.stand.0), found_room i u c.requires.stand.0.fits f c.requires.room),
-    )
-
-pub all-returns-in_err-n : goal.all-returns-in_err-n
-all-returns-in_err-n t c =
-    let i = options_of c.args.i in
-    let u = type_in c.args.at c.args.hk.now c.args.ha.now in
-    let f = c.in-Some.ensures in
-    rw c.from_residual.ensures (fed_none i u c.requires.stand.0.fits f c.held.ensures c.requires.room c.in_err-n.was)
-
-pub all-again-requires : goal.all-again-requires
-all-again-requires t c =
-    let i = options_of c.args.i in
-    let u = type_in c.args.at c.args.hk.now c.args.ha.now in
-    let f = c.in-Some.ensures in
-    let fed = (fact (fed_of i u c.requires.stand.0.fits f c.held.ensures c.requires.room _ c.in_ok-n.was
-    c.held.auto.ok c.held.auto.oa _
-    c.after-past.ensures)).proof in
-    (omega (arith, c.decreases, fed.less), ((fed.run, fed.held), fed.room))
-
-pub all-returns : goal.all-returns
-all-returns t c =
-    let i = options_of c.args.i in
-    let u = type_in c.args.at c.args.hk.now c.args.ha.now in
-    let f = c.in-Some.ensures in
-    let fed = (fact (fed_of i u c.requires.stand.0.fits f c.held.ensures c.requires.room _ c.in_ok-n.was
-    c.held.auto.ok c.held.auto.oa _
-    c.after-past.ensures)).proof in
-    fed.on c.again.ensures
+again-returns t c = feed_end c.loop-field.invariant.2 c.in-None.ensures.steps.none
 
 -- ---- `each`
 
-pub each-loop-init : goal.each-loop-init
-each-loop-init t c = each_start c.requires.stand.0 c.requires.room (omega arith)
+pub each-loop-field-init : goal.each-loop-field-init
+each-loop-field-init t c =
+    rw c.into_iter-field-iterator.ensures.into_iter_gives (
+      tt,
+      tt,
+      each_start _ _ _ c.args.out.now c.struct_node.result c.push.ensures c.requires.leaf c.requires.room,
+    )
 
 pub each-under-requires : goal.each-under-requires
 each-under-requires t c =
-    let v = c.loop.invariant in (
-      omega (arith, c.decreases, each_less v (omega arith)),
-      ((each_field_lem v (omega arith), c.requires.stand.1), each_room v (omega arith)),
-    )
+    let v = c.loop-field.invariant.2 in
+    let g = c.in-Some.ensures.steps.fields in
+    (omega (arith, c.decreases, each_less v g), each_room v g)
 
-pub each-returns-in_err-end : goal.each-returns-in_err-end
-each-returns-in_err-end t c =
-    rw c.from_residual.ensures (each_nothing c.loop.invariant (omega arith)
-    (rw c.field-field.ensures at c.under.ensures) c.in_err-end.was)
+pub each-loop-field-preserved : goal.each-loop-field-preserved
+each-loop-field-preserved t c = (
+  tt,
+  tt,
+  each_next c.loop-field.invariant.2 c.in-Some.ensures.steps.fields
+      (rw c.field_node.ensures at c.in_ok-under.ensures),
+)
 
-pub each-overflow_add-end : goal.each-overflow_add-end
-each-overflow_add-end t c =
-    omega (
-      arith,
-      each_nodes c.loop.invariant (omega arith) (rw c.field-field.ensures at c.under.ensures) _
-          c.in_ok-end.was,
-    )
-
-pub each-after-here-requires : goal.each-after-here-requires
-each-after-here-requires t c = each_field_lem c.loop.invariant (omega arith)
-
-pub each-loop-preserved : goal.each-loop-preserved
-each-loop-preserved t c =
-    each_next c.loop.invariant (omega arith) (rw c.field-field.ensures at c.under.ensures) _ c.in_ok-end.was
-    c.after-here.ensures (omega arith)
-    c.under.auto.ok c.under.auto.oa
+pub each-returns-in_err-under : goal.each-returns-in_err-under
+each-returns-in_err-under t c =
+    let v = c.loop-field.invariant.2 in
+    rw c.from_residual.ensures record {
+      none = ap (option_map struct) (each_nothing v c.in-Some.ensures.steps.fields c.in_err-under.ensures.none);
+      kept = kept_on _ (c.struct_node.result ∷ []) _ c.push.ensures (going_kept v.going _ c.in_err-under.ensures.kept);
+    }
 
 pub each-returns : goal.each-returns
-each-returns t c = each_end c.loop.invariant (omega arith) _ refl
+each-returns t c =
+    each_end c.loop-field.invariant.2 c.in-None.ensures.steps.none c.args.out.now c.struct_node.result c.push.ensures
+    (c.struct_node.ensures ∙ ap (node kind.Struct) (sym (run_many (run_front c.args.fields.stand))))
 
 -- ---- `fields`
 
 pub fields-returns-then-in_place : goal.fields-returns-then-in_place
 fields-returns-then-in_place t c =
     let i = options_of c.args.i in
-    let fs = run_in c.args.m c.args.at c.args.lk.now c.args.la.now in
-    let ks = c.args.rk.now in
-    let xs = c.args.ra.now in
-    let gs = run_in c.args.n c.args.by ks xs in
-    let by = c.args.by in
-    let e = sym c.if-m-n.true in
-    let many = run_count c.requires.stand.0 ∙ sym e ∙ sym (run_count c.requires.stand.1) in
-    rw c.ok.ensures.value (zip_fills (zip_as _ _ e by ks xs (get_supertype i) fs c.zip.ensures) _
-    (zip_in_place (get_supertype i) fs gs many (tree_fair i i)
-    (sym (places_as _ _ e by ks xs fs) ∙ sym c.in_place.ensures ∙ c.if-in_place.true)))
+    let many = run_many (run_front c.args.l.stand) ∙ c.if-l-r.true ∙ sym (run_many (run_front c.args.r.stand)) in
+    rw c.ok.ensures.value (zipped_ok _ _ _ _ c.zip.result
+    (zip_in_place (get_supertype i) (fields_of c.args.l) (fields_of c.args.r) many (tree_fair i i)
+    (sym c.in_place.ensures ∙ c.if-in_place.true))
+    c.zip.ensures)
 
 -- ---- `join`
 
--- what a step has
-abbrev arm_at : (t : ℕ) → join-After-decide t → Fact
-arm_at t c =
-    fact (arm_of _ _ c.requires.stand.0 c.requires.stand.1 c.requires.room c.read.ensures c.read-2.ensures
-    c.decide.ensures)
-
 pub join-decide-requires : goal.join-decide-requires
-join-decide-requires t c =
-    (rw c.read.ensures (root_fits c.requires.stand.0), rw c.read-2.ensures (root_fits c.requires.stand.1))
+join-decide-requires t c = (root_fits c.args.l c.root.ensures, root_fits c.args.r c.root-2.ensures)
+
+pub join-returns-in_err-n : goal.join-returns-in_err-n
+join-returns-in_err-n t c =
+    rw c.from_residual.ensures record {
+      none = none_decided _ (options_of c.args.i) c.args.l c.args.r c.root.ensures c.root-2.ensures _ c.decide.ensures
+          c.in_err-n.was;
+      kept = kept_all _;
+    }
+
+pub join-push-requires : goal.join-push-requires
+join-push-requires t c = omega (arith, c.requires, size_pos (tree_of c.args.l))
+
+pub join-inner-requires : goal.join-inner-requires
+join-inner-requires t c =
+    let a = arm_of _ (options_of c.args.i) c.args.l c.args.r c.root.ensures c.root-2.ensures _ c.decide.ensures c.in_ok-n.was c.in-Under.is in
+    wraps_kind a.parts.1
+
+pub join-inner-requires-in-Under : goal.join-inner-requires-in-Under
+join-inner-requires-in-Under t c =
+    let a = arm_of _ (options_of c.args.i) c.args.l c.args.r c.root.ensures c.root-2.ensures _ c.decide.ensures c.in_ok-n.was c.in-Under.is in
+    wraps_kind a.parts.2
 
 pub join-under-requires : goal.join-under-requires
 join-under-requires t c =
-    let a = (arm_at t (goal.at.join-under-requires t c).After-decide).proof in
-    let p = has_parts a _ c.in-Under.is in
-    let l = wraps_kind p.1 in
-    let h = wraps_kind p.2 in (
-      omega (
-        arith,
-        c.decreases,
-        inner_nodes_lem a.left l,
-        inner_nodes_lem a.right h,
-      ),
-      (
-        (inner_in a.left l, inner_in a.right h),
-        under_room a.room (omega (arith, inner_nodes_lem a.left l, inner_nodes_lem a.right h)),
-      ),
-    )
+    let l = inner_size _ c.inner.ensures in
+    let r = inner_size _ c.inner-in-Under.ensures in
+    (omega (arith, c.decreases, l, r), omega (arith, c.requires, l, r))
 
-pub join-under-requires-in-WithinLeft : goal.join-under-requires-in-WithinLeft
-join-under-requires-in-WithinLeft t c =
-    let a = (arm_at t (goal.at.join-under-requires-in-WithinLeft t c).After-decide).proof in
-    let p = has_parts a _ c.in-WithinLeft.is in
-    let l = list_kind _ p in (
-      omega (
-        arith,
-        c.decreases,
-        inner_nodes_lem a.left l,
-      ),
-      ((inner_in a.left l, a.right), under_room a.room (omega (arith, inner_nodes_lem a.left l))),
-    )
+pub join-inner-requires-in-Within : goal.join-inner-requires-in-Within
+join-inner-requires-in-Within t c =
+    let a = arm_of _ (options_of c.args.i) c.args.l c.args.r c.root.ensures c.root-2.ensures _ c.decide.ensures c.in_ok-n.was c.in-Within.is in
+    list_kind c.sided-in-Within.ensures.one a.parts
 
-pub join-under-requires-in-WithinRight : goal.join-under-requires-in-WithinRight
-join-under-requires-in-WithinRight t c =
-    let a = (arm_at t (goal.at.join-under-requires-in-WithinRight t c).After-decide).proof in
-    let p = has_parts a _ c.in-WithinRight.is in
-    let l = list_kind _ p in (
-      omega (
-        arith,
-        c.decreases,
-        inner_nodes_lem a.right l,
-      ),
-      ((inner_in a.right l, a.left), under_room a.room (omega (arith, inner_nodes_lem a.right l))),
-    )
+pub join-under-requires-in-Within : goal.join-under-requires-in-Within
+join-under-requires-in-Within t c =
+    let s = side_sizes c.in-Within.side _ _ c.sided-in-Within.ensures.one c.sided-in-Within.ensures.other in
+    let n = inner_size _ c.inner-in-Within.ensures in
+    (omega (arith, c.decreases, s, n), omega (arith, c.requires, s, n))
+
+pub join-inner-requires-in-StringWithin : goal.join-inner-requires-in-StringWithin
+join-inner-requires-in-StringWithin t c =
+    let a = arm_of _ (options_of c.args.i) c.args.l c.args.r c.root.ensures c.root-2.ensures _ c.decide.ensures c.in_ok-n.was c.in-StringWithin.is in
+    list_kind refl a.parts
 
 pub join-under-requires-in-StringWithin : goal.join-under-requires-in-StringWithin
 join-under-requires-in-StringWithin t c =
-    let a = (arm_at t (goal.at.join-under-requires-in-StringWithin t c).After-decide).proof in
-    let p = has_parts a _ c.in-StringWithin.is in
-    let l = list_kind _ p in (
-      omega (
-        arith,
-        c.decreases,
-        inner_nodes_lem a.right l,
-      ),
-      ((inner_in a.right l, a.left), under_room a.room (omega (arith, inner_nodes_lem a.right l))),
-    )
+    let n = inner_size _ c.inner-in-StringWithin.ensures in
+    (omega (arith, c.decreases, n), omega (arith, c.requires, n))
+
+pub join-push-requires-then-is_none : goal.join-push-requires-then-is_none
+join-push-requires-then-is_none t c =
+    let w = rw (is_nothing _ c.if-is_none.ensures) at c.under-in-StringWithin.ensures in
+    let k = ap length (c.truncate.ensures ∙ ap (λ n. take n c.under-in-StringWithin.new.out) c.len-mark.ensures ∙ w.kept) in
+    omega (arith, c.requires, size_pos (tree_of c.args.l), k)
+
+pub join-fields-fields-requires : goal.join-fields-fields-requires
+join-fields-fields-requires t c =
+    let a = arm_of _ (options_of c.args.i) c.args.l c.args.r c.root.ensures c.root-2.ensures _ c.decide.ensures c.in_ok-n.was c.in-First.is in
+    ap head_kind c.sided-in-First.ensures.one ∙ a.parts.0
+
+pub join-returns-in_err-first-in-First : goal.join-returns-in_err-first-in-First
+join-returns-in_err-first-in-First t c =
+    let a = arm_of _ (options_of c.args.i) c.args.l c.args.r c.root.ensures c.root-2.ensures _ c.decide.ensures c.in_ok-n.was c.in-First.is in
+    absurd (a.parts.1 (ap head_arg (sym c.sided-in-First.ensures.one) ∙ no_fields_arg _ c.fields-fields.ensures c.in_err-first-in-First.ensures.steps.none))
 
 pub join-join-requires : goal.join-join-requires
 join-join-requires t c =
-    let a = (arm_at t (goal.at.join-join-requires t c).After-decide).proof in
-    let p = has_parts a _ c.in-FirstLeft.is in (
-      omega (
-        arith,
-        c.decreases,
-        first_nodes a.left p.0 p.1,
-      ),
-      (
-        (first_in a.left p.0 p.1, a.right),
-        less_room a.room (omega (
-          arith,
-          first_nodes a.left p.0 p.1,
-        )),
-      ),
-    )
-
-pub join-join-requires-in-FirstRight : goal.join-join-requires-in-FirstRight
-join-join-requires-in-FirstRight t c =
-    let a = (arm_at t (goal.at.join-join-requires-in-FirstRight t c).After-decide).proof in
-    let p = has_parts a _ c.in-FirstRight.is in (
-      omega (
-        arith,
-        c.decreases,
-        first_nodes a.right p.0 p.1,
-      ),
-      (
-        (first_in a.right p.0 p.1, a.left),
-        less_room a.room (omega (
-          arith,
-          first_nodes a.right p.0 p.1,
-        )),
-      ),
-    )
-
-pub join-each-requires : goal.join-each-requires
-join-each-requires t c =
-    let a = (arm_at t (goal.at.join-each-requires t c).After-decide).proof in
-    let p = has_parts a _ c.in-EachLeft.is in (
-      omega (
-        arith,
-        c.decreases,
-        struct_nodes a.left p.0,
-      ),
-      (
-        (struct_in a.left p.0, a.right),
-        joined_each_room a.room (let z = struct_nodes a.left p.0 in omega arith)
-            p.1,
-      ),
-    )
-
-pub join-each-requires-in-EachRight : goal.join-each-requires-in-EachRight
-join-each-requires-in-EachRight t c =
-    let a = (arm_at t (goal.at.join-each-requires-in-EachRight t c).After-decide).proof in
-    let p = has_parts a _ c.in-EachRight.is in (
-      omega (
-        arith,
-        c.decreases,
-        struct_nodes a.right p.0,
-      ),
-      (
-        (struct_in a.right p.0, a.left),
-        joined_each_room a.room (let z = struct_nodes a.right p.0 in omega arith)
-            p.1,
-      ),
-    )
+    let s = side_sizes c.in-First.side _ _ c.sided-in-First.ensures.one c.sided-in-First.ensures.other in
+    let n = first_size c.fields-fields.ensures c.in_ok-first-in-First.ensures.steps.fields in
+    (omega (arith, c.decreases, s, n), omega (arith, c.requires, s, n))
 
 pub join-fields-requires : goal.join-fields-requires
 join-fields-requires t c =
-    let a = (arm_at t (goal.at.join-fields-requires t c).After-decide).proof in
-    let p = has_parts a _ c.in-Fields.is in (
-      omega (
-        arith,
-        c.decreases,
-        struct_nodes a.left p.0,
-        struct_nodes a.right p.1,
-      ),
-      (
-        (struct_in a.left p.0, struct_in a.right p.1),
-        fields_room a.room (let z = struct_nodes a.left p.0 in let y = struct_nodes a.right p.1 in omega arith),
-      ),
+    let a = arm_of _ (options_of c.args.i) c.args.l c.args.r c.root.ensures c.root-2.ensures _ c.decide.ensures c.in_ok-n.was c.in-Each.is in
+    ap head_kind c.sided-in-Each.ensures.one ∙ a.parts.0
+
+pub join-each-requires : goal.join-each-requires
+join-each-requires t c =
+    let a = arm_of _ (options_of c.args.i) c.args.l c.args.r c.root.ensures c.root-2.ensures _ c.decide.ensures c.in_ok-n.was c.in-Each.is in
+    let s = side_sizes c.in-Each.side _ _ c.sided-in-Each.ensures.one c.sided-in-Each.ensures.other in
+    let n = struct_size c.fields.ensures in (
+      omega (arith, c.decreases, s, n),
+      (ap size c.sided-in-Each.ensures.other ∙ a.parts.1, omega (arith, c.requires, s, n)),
     )
 
-pub join-returns-in-Nothing : goal.join-returns-in-Nothing
-join-returns-in-Nothing t c =
-    let a = (arm_at t (goal.at.join-returns-in-Nothing t c).After-decide).proof in
-    joins_nothing _ _ (decided a _ _ c.in-Nothing.is) _ _ _
+pub join-fields-requires-in-Fields : goal.join-fields-requires-in-Fields
+join-fields-requires-in-Fields t c =
+    let a = arm_of _ (options_of c.args.i) c.args.l c.args.r c.root.ensures c.root-2.ensures _ c.decide.ensures c.in_ok-n.was c.in-Fields.is in
+    a.parts.0
 
-pub join-returns-in-Left : goal.join-returns-in-Left
-join-returns-in-Left t c =
-    let a = (arm_at t (goal.at.join-returns-in-Left t c).After-decide).proof in
-    joins_left _ _ (decided a _ _ c.in-Left.is) c.whole.ensures
+pub join-fields-requires-in-Fields-2 : goal.join-fields-requires-in-Fields-2
+join-fields-requires-in-Fields-2 t c =
+    let a = arm_of _ (options_of c.args.i) c.args.l c.args.r c.root.ensures c.root-2.ensures _ c.decide.ensures c.in_ok-n.was c.in-Fields.is in
+    a.parts.1
 
-pub join-returns-in-Right : goal.join-returns-in-Right
-join-returns-in-Right t c =
-    let a = (arm_at t (goal.at.join-returns-in-Right t c).After-decide).proof in
-    joins_right _ _ (decided a _ _ c.in-Right.is) c.whole-in-Right.ensures
+pub join-fields-requires-in-Fields-3 : goal.join-fields-requires-in-Fields-3
+join-fields-requires-in-Fields-3 t c =
+    let l = struct_size c.fields-in-Fields.ensures in
+    let r = struct_size c.fields-in-Fields-2.ensures in
+    (omega (arith, c.decreases, l, r), omega (arith, c.requires, l, r))
 
 pub join-returns-in-Node : goal.join-returns-in-Node
 join-returns-in-Node t c =
-    let a = (arm_at t (goal.at.join-returns-in-Node t c).After-decide).proof in
-    joins_node _ _ (decided a _ _ c.in-Node.is) c.one.ensures
+    arm_node (arm_of _ (options_of c.args.i) c.args.l c.args.r c.root.ensures c.root-2.ensures _ c.decide.ensures c.in_ok-n.was c.in-Node.is) _ _ c.push.ensures
+
+pub join-returns-in-Whole : goal.join-returns-in-Whole
+join-returns-in-Whole t c =
+    arm_whole (arm_of _ (options_of c.args.i) c.args.l c.args.r c.root.ensures c.root-2.ensures _ c.decide.ensures c.in_ok-n.was c.in-Whole.is) c.sided.ensures.one _ _ c.extend.ensures
 
 pub join-returns-in-Under : goal.join-returns-in-Under
 join-returns-in-Under t c =
-    let a = (arm_at t (goal.at.join-returns-in-Under t c).After-decide).proof in
-    let e = c.in-Under.is in
-    let p = has_parts a _ e in
-    let l = wraps_kind p.1 in
-    let h = wraps_kind p.2 in
-    joins_under _ _ (decided a _ _ e) _ _ (inner_is a.left l) (inner_is a.right h) c.under.ensures
+    arm_under _ _ _ (arm_of _ (options_of c.args.i) c.args.l c.args.r c.root.ensures c.root-2.ensures _ c.decide.ensures c.in_ok-n.was c.in-Under.is) c.inner.ensures c.inner-in-Under.ensures c.under.ensures
 
-pub join-returns-in-WithinLeft : goal.join-returns-in-WithinLeft
-join-returns-in-WithinLeft t c =
-    let a = (arm_at t (goal.at.join-returns-in-WithinLeft t c).After-decide).proof in
-    let e = c.in-WithinLeft.is in
-    let p = has_parts a _ e in
-    let l = list_kind _ p in
-    joins_within_left _ _ (decided a _ _ e) _ (inner_is a.left l) (rw c.plain.ensures at c.under-in-WithinLeft.ensures)
+pub join-returns-in-Within : goal.join-returns-in-Within
+join-returns-in-Within t c =
+    arm_within _ _ _ (arm_of _ (options_of c.args.i) c.args.l c.args.r c.root.ensures c.root-2.ensures _ c.decide.ensures c.in_ok-n.was c.in-Within.is) c.sided-in-Within.ensures.one c.sided-in-Within.ensures.other
+    c.inner-in-Within.ensures c.plain.ensures c.under-in-Within.ensures
 
-pub join-returns-in-WithinRight : goal.join-returns-in-WithinRight
-join-returns-in-WithinRight t c =
-    let a = (arm_at t (goal.at.join-returns-in-WithinRight t c).After-decide).proof in
-    let e = c.in-WithinRight.is in
-    let p = has_parts a _ e in
-    let l = list_kind _ p in
-    joins_within_right _ _ (decided a _ _ e) _ (inner_is a.right l)
-    (rw c.plain-in-WithinRight.ensures at c.under-in-WithinRight.ensures)
+pub join-returns-then-is_none : goal.join-returns-then-is_none
+join-returns-then-is_none t c =
+    let w = rw (is_nothing _ c.if-is_none.ensures) at c.under-in-StringWithin.ensures in
+    arm_string (arm_of _ (options_of c.args.i) c.args.l c.args.r c.root.ensures c.root-2.ensures _ c.decide.ensures c.in_ok-n.was c.in-StringWithin.is) c.inner-in-StringWithin.ensures c.plain-in-StringWithin.ensures _ _ w
+    c.len-mark.ensures c.truncate.ensures c.plain-then-is_none.ensures c.push-then-is_none.ensures
 
-pub join-returns-in-FirstLeft : goal.join-returns-in-FirstLeft
-join-returns-in-FirstLeft t c =
-    let a = (arm_at t (goal.at.join-returns-in-FirstLeft t c).After-decide).proof in
-    let e = c.in-FirstLeft.is in
-    let p = has_parts a _ e in
-    joins_first_left _ _ (decided a _ _ e) _ _ _ (first_is a.left p.0 p.1) c.join.ensures
+pub join-returns-else-is_none : goal.join-returns-else-is_none
+join-returns-else-is_none t c =
+    let x = there_is _ (sym c.if-is_none.ensures) in
+    arm_string_list (arm_of _ (options_of c.args.i) c.args.l c.args.r c.root.ensures c.root-2.ensures _ c.decide.ensures c.in_ok-n.was c.in-StringWithin.is) c.inner-in-StringWithin.ensures c.plain-in-StringWithin.ensures _ _
+    (rw x.1 at c.under-in-StringWithin.ensures)
 
-pub join-returns-in-FirstRight : goal.join-returns-in-FirstRight
-join-returns-in-FirstRight t c =
-    let a = (arm_at t (goal.at.join-returns-in-FirstRight t c).After-decide).proof in
-    let e = c.in-FirstRight.is in
-    let p = has_parts a _ e in
-    joins_first_right _ _ (decided a _ _ e) _ _ _ (first_is a.right p.0 p.1) c.join-in-FirstRight.ensures
+pub join-returns-in_ok-first-in-First : goal.join-returns-in_ok-first-in-First
+join-returns-in_ok-first-in-First t c =
+    arm_first _ _ _ (arm_of _ (options_of c.args.i) c.args.l c.args.r c.root.ensures c.root-2.ensures _ c.decide.ensures c.in_ok-n.was c.in-First.is) c.sided-in-First.ensures.one c.sided-in-First.ensures.other
+    (c.fields-fields.ensures ∙ ap struct c.in_ok-first-in-First.ensures.steps.fields) c.join.ensures
 
-pub join-returns-in-Some : goal.join-returns-in-Some
-join-returns-in-Some t c =
-    let a = (arm_at t (goal.at.join-returns-in-Some t c).After-decide).proof in
-    let e = c.in-StringWithin.is in
-    let p = has_parts a _ e in
-    let l = list_kind _ p in
-    joins_string_list _ _ (decided a _ _ e) _ (inner_is a.right l)
-    (rw c.plain-in-StringWithin.ensures at c.under-in-StringWithin.ensures) _ c.in-Some.is
+pub join-returns-in-Each : goal.join-returns-in-Each
+join-returns-in-Each t c =
+    arm_each _ _ _ (arm_of _ (options_of c.args.i) c.args.l c.args.r c.root.ensures c.root-2.ensures _ c.decide.ensures c.in_ok-n.was c.in-Each.is) c.sided-in-Each.ensures.one c.sided-in-Each.ensures.other c.fields.ensures
+    c.each.ensures
 
-pub join-returns-in-None : goal.join-returns-in-None
-join-returns-in-None t c =
-    let a = (arm_at t (goal.at.join-returns-in-None t c).After-decide).proof in
-    let e = c.in-StringWithin.is in
-    let p = has_parts a _ e in
-    let l = list_kind _ p in
-    joins_string _ _ (decided a _ _ e) _ (inner_is a.right l)
-    (rw c.plain-in-StringWithin.ensures at c.under-in-StringWithin.ensures) c.in-None.is
-    (omega (arith, place_kinds a.room)) (omega (arith, place_args a.room))
-    (rw c.plain-in-None.ensures at c.one-in-None.ensures)
-
-pub join-returns-in_err-filled-in-EachLeft : goal.join-returns-in_err-filled-in-EachLeft
-join-returns-in_err-filled-in-EachLeft t c =
-    let a = (arm_at t (goal.at.join-returns-in_err-filled-in-EachLeft t c).After-decide).proof in
-    let e = c.in-EachLeft.is in
-    let p = has_parts a _ e in
-    rw c.from_residual.ensures (none_each_left _ _ (place_kinds a.room) (place_args a.room) (decided a _ _ e) _
-    (struct_is a.left p.0)
-    c.each.ensures c.in_err-filled-in-EachLeft.was)
-
-pub join-closed-requires : goal.join-closed-requires
-join-closed-requires t c =
-    let a = (arm_at t (goal.at.join-closed-requires t c).After-decide).proof in
-    closed_fits {q = join_each (get_supertype (options_of c.args.i)) _ _} c.each.ensures (place_kinds a.room)
-    (place_args a.room) _ c.in_ok-filled-in-EachLeft.was
-    c.each.auto.ok c.each.auto.oa
-
-pub join-returns-in_ok-filled-in-EachLeft : goal.join-returns-in_ok-filled-in-EachLeft
-join-returns-in_ok-filled-in-EachLeft t c =
-    let a = (arm_at t (goal.at.join-returns-in_ok-filled-in-EachLeft t c).After-decide).proof in
-    let e = c.in-EachLeft.is in
-    let p = has_parts a _ e in
-    joins_each_left _ _ (place_kinds a.room) (place_args a.room) (decided a _ _ e) _ (struct_is a.left p.0)
-    c.each.ensures _ c.in_ok-filled-in-EachLeft.was c.closed.ensures
-
-pub join-returns-in_err-filled-in-EachRight : goal.join-returns-in_err-filled-in-EachRight
-join-returns-in_err-filled-in-EachRight t c =
-    let a = (arm_at t (goal.at.join-returns-in_err-filled-in-EachRight t c).After-decide).proof in
-    let e = c.in-EachRight.is in
-    let p = has_parts a _ e in
-    rw c.from_residual-in_err-filled-in-EachRight.ensures (none_each_right _ _ (place_kinds a.room)
-    (place_args a.room) (decided a _ _ e) _ (struct_is a.right p.0)
-    c.each-in-EachRight.ensures c.in_err-filled-in-EachRight.was)
-
-pub join-closed-requires-in-EachRight : goal.join-closed-requires-in-EachRight
-join-closed-requires-in-EachRight t c =
-    let a = (arm_at t (goal.at.join-closed-requires-in-EachRight t c).After-decide).proof in
-    closed_fits {q = join_each (get_supertype (options_of c.args.i)) _ _} c.each-in-EachRight.ensures
-    (place_kinds a.room) (place_args a.room) _ c.in_ok-filled-in-EachRight.was
-    c.each-in-EachRight.auto.ok c.each-in-EachRight.auto.oa
-
-pub join-returns-in_ok-filled-in-EachRight : goal.join-returns-in_ok-filled-in-EachRight
-join-returns-in_ok-filled-in-EachRight t c =
-    let a = (arm_at t (goal.at.join-returns-in_ok-filled-in-EachRight t c).After-decide).proof in
-    let e = c.in-EachRight.is in
-    let p = has_parts a _ e in
-    joins_each_right _ _ (place_kinds a.room) (place_args a.room) (decided a _ _ e) _ (struct_is a.right p.0)
-    c.each-in-EachRight.ensures _ c.in_ok-filled-in-EachRight.was c.closed-in-EachRight.ensures
-
-pub join-returns-in_err-filled-in-Fields : goal.join-returns-in_err-filled-in-Fields
-join-returns-in_err-filled-in-Fields t c =
-    let a = (arm_at t (goal.at.join-returns-in_err-filled-in-Fields t c).After-decide).proof in
-    let e = c.in-Fields.is in
-    let p = has_parts a _ e in
-    rw c.from_residual-in_err-filled-in-Fields.ensures (none_fields _ _ (place_kinds a.room) (place_args a.room)
-    (decided a _ _ e) _ _ (struct_is a.left p.0) (struct_is a.right p.1)
-    c.fields.ensures c.in_err-filled-in-Fields.was)
-
-pub join-closed-requires-in-Fields : goal.join-closed-requires-in-Fields
-join-closed-requires-in-Fields t c =
-    let a = (arm_at t (goal.at.join-closed-requires-in-Fields t c).After-decide).proof in
-    closed_fits {q = either_fields (get_supertype (options_of c.args.i)) _ _} c.fields.ensures (place_kinds a.room)
-    (place_args a.room) _ c.in_ok-filled-in-Fields.was
-    c.fields.auto.ok c.fields.auto.oa
-
-pub join-returns-in_ok-filled-in-Fields : goal.join-returns-in_ok-filled-in-Fields
-join-returns-in_ok-filled-in-Fields t c =
-    let a = (arm_at t (goal.at.join-returns-in_ok-filled-in-Fields t c).After-decide).proof in
-    let e = c.in-Fields.is in
-    let p = has_parts a _ e in
-    joins_fields _ _ (place_kinds a.room) (place_args a.room) (decided a _ _ e) _ _ (struct_is a.left p.0)
-    (struct_is a.right p.1)
-    c.fields.ensures _ c.in_ok-filled-in-Fields.was c.closed-in-Fields.ensures
+pub join-returns-in-Fields : goal.join-returns-in-Fields
+join-returns-in-Fields t c =
+    arm_fields _ _ _ (arm_of _ (options_of c.args.i) c.args.l c.args.r c.root.ensures c.root-2.ensures _ c.decide.ensures c.in_ok-n.was c.in-Fields.is) c.fields-in-Fields.ensures c.fields-in-Fields-2.ensures
+    c.fields-in-Fields-3.ensures
 
 -- ---- `merge`
 
-pub merge-returns-then-m-n : goal.merge-returns-then-m-n
-merge-returns-then-m-n t c =
-    let c' = get_supertype (options_of c.args.i) in
-    let fs = run_in c.args.m c.args.at c.args.lk.now c.args.la.now in
-    let gs = run_in c.args.n c.args.by c.args.rk.now c.args.ra.now in
-    fills_is (right_longer c' fs gs
-    (omega (arith, run_count c.requires.stand.0, run_count c.requires.stand.1, c.if-m-n.true))) c.union.ensures
-
-pub merge-returns-then-n-m : goal.merge-returns-then-n-m
-merge-returns-then-n-m t c =
+pub merge-returns-then-l-r : goal.merge-returns-then-l-r
+merge-returns-then-l-r t c =
     let i = options_of c.args.i in
     let c' = get_supertype i in
-    let fs = run_in c.args.m c.args.at c.args.lk.now c.args.la.now in
-    let gs = run_in c.args.n c.args.by c.args.rk.now c.args.ra.now in
-    elim c.then-n-m.branch [
-      | merge-then-n-m-via-then-n-m w ↦
-          fills_is (left_longer c' fs gs
-          (omega (arith, run_count c.requires.stand.0, run_count c.requires.stand.1, w.if-n-m.true)))
-          c.union-then-n-m.ensures
-      | merge-then-n-m-via-else-n-m+then-is_some-2 w ↦
-          elim w.if-is_some.branch [
-            | merge-then-is_some w' ↦
-                let e : c.args.m ≡ c.args.n = omega (arith, c.if-m-n.false, w.if-n-m.false) in
-                let p = sym w.is_some.ensures ∙ w'.if-is_some.true in
-                let q = sym w'.is_some-then-is_some.ensures ∙ sym w'.value-is ∙ w.if-is_some-2.true in
-                let many = run_count c.requires.stand.0 ∙ e ∙ sym (run_count c.requires.stand.1) in
-                fills_is (one_order c' fs gs many (tree_fair i i) (all_distinct fs c.enter-p.ensures.0 p)
-                (all_distinct gs c.enter-q.ensures.0 q) (c.requires.unlike e)) c.union-then-n-m.ensures
-            | merge-else-is_some w' ↦ never (sym w'.if-is_some.false ∙ sym w'.value-is ∙ w.if-is_some-2.true)
+    let fs = fields_of c.args.l in
+    let gs = fields_of c.args.r in
+    let l = run_many (run_front c.args.l.stand) in
+    let r = run_many (run_front c.args.r.stand) in
+    joins_is nodes_of _ _ c.union.result (ap (option_map struct) (right_longer c' fs gs (omega (arith, l, r, c.if-l-r.true))))
+    (rw (c.new-p.ensures.same, c.new-q.ensures.same) at c.union.ensures)
+
+pub merge-returns-then-r-l : goal.merge-returns-then-r-l
+merge-returns-then-r-l t c =
+    let i = options_of c.args.i in
+    let c' = get_supertype i in
+    let fs = fields_of c.args.l in
+    let gs = fields_of c.args.r in
+    let l = run_many (run_front c.args.l.stand) in
+    let r = run_many (run_front c.args.r.stand) in
+    let w = rw (c.new-p.ensures.same, c.new-q.ensures.same) at c.union-then-r-l.ensures in
+    elim c.then-r-l.branch [
+      | merge-then-r-l-via-then-r-l w' ↦
+          joins_is nodes_of _ _ c.union-then-r-l.result
+          (ap (option_map struct) (left_longer c' fs gs (omega (arith, l, r, w'.if-r-l.true)))) w
+      | merge-then-r-l-via-else-r-l+then-is_some-2 w' ↦
+          elim w'.if-is_some.branch [
+            | merge-then-is_some v ↦
+                let e : c.args.l.left ≡ c.args.r.left = omega (arith, c.if-l-r.false, w'.if-r-l.false) in
+                let p = sym w'.is_some.ensures ∙ v.if-is_some.true in
+                let q = sym v.is_some-then-is_some.ensures ∙ sym v.value-is ∙ w'.if-is_some-2.true in
+                joins_is nodes_of _ _ c.union-then-r-l.result
+                (ap (option_map struct) (one_order c' fs gs (l ∙ e ∙ sym r) (tree_fair i i)
+                (all_distinct fs c.new-p.ensures.distinct p) (all_distinct gs c.new-q.ensures.distinct q)
+                (c.requires.unlike e)))
+                w
+            | merge-else-is_some v ↦ never (sym v.if-is_some.false ∙ sym v.value-is ∙ w'.if-is_some-2.true)
           ]
     ]
 
 pub merge-returns-in-Ok : goal.merge-returns-in-Ok
 merge-returns-in-Ok t c =
-    let c' = get_supertype (options_of c.args.i) in
-    let fs = run_in c.args.m c.args.at c.args.lk.now c.args.la.now in
-    let gs = run_in c.args.n c.args.by c.args.rk.now c.args.ra.now in
-    let ks = c.args.rk.now in
-    let xs = c.args.ra.now in
-    let e : c.args.n ≡ c.args.m = omega (arith, c.if-m-n.false, c.if-n-m.false) in
-    let many = run_count c.requires.stand.0 ∙ sym e ∙ sym (run_count c.requires.stand.1) in
-    let z = zip_as _ _ e c.args.by ks xs c' fs c.zip.ensures in
-    zip_fills (ztold z c.in-Ok.is) _ (zip_decides c' fs gs many (was_joined z _ c.in-Ok.is).1)
+    let i = options_of c.args.i in
+    let c' = get_supertype i in
+    let fs = fields_of c.args.l in
+    let gs = fields_of c.args.r in
+    let l = run_many (run_front c.args.l.stand) in
+    let r = run_many (run_front c.args.r.stand) in
+    let e : c.args.l.left ≡ c.args.r.left = omega (arith, c.if-l-r.false, c.if-r-l.false) in
+    let many = l ∙ e ∙ sym r in
+    let z = c.in-Ok.ensures in
+    record {
+      type = struct z.fields;
+      is = ap (option_map struct) (zip_some _ z.fields (sym (zip_decides c' fs gs many z.is) ∙ z.is));
+      wrote = z.wrote;
+    }
 
 pub merge-returns-in-Err-Nothing : goal.merge-returns-in-Err-Nothing
 merge-returns-in-Err-Nothing t c =
-    let c' = get_supertype (options_of c.args.i) in
-    let fs = run_in c.args.m c.args.at c.args.lk.now c.args.la.now in
-    let gs = run_in c.args.n c.args.by c.args.rk.now c.args.ra.now in
-    let ks = c.args.rk.now in
-    let xs = c.args.ra.now in
-    let e : c.args.n ≡ c.args.m = omega (arith, c.if-m-n.false, c.if-n-m.false) in
-    let many = run_count c.requires.stand.0 ∙ sym e ∙ sym (run_count c.requires.stand.1) in
-    let z = zip_as _ _ e c.args.by ks xs c' fs c.zip.ensures in
-    zip_fills (ztold z (c.in-Err-Nothing.is ∙ ap Err c.in-Err-Nothing.field-0-is)) _
-    (zip_ends c' fs gs many (was_nothing z (c.in-Err-Nothing.is ∙ ap Err c.in-Err-Nothing.field-0-is)))
+    let i = options_of c.args.i in
+    let c' = get_supertype i in
+    let fs = fields_of c.args.l in
+    let gs = fields_of c.args.r in
+    let l = run_many (run_front c.args.l.stand) in
+    let r = run_many (run_front c.args.r.stand) in
+    let e : c.args.l.left ≡ c.args.r.left = omega (arith, c.if-l-r.false, c.if-r-l.false) in
+    let many = l ∙ e ∙ sym r in
+    let z = rw c.in-Err-Nothing.field-0-is at c.in-Err-Nothing.ensures in
+    record { none = ap (option_map struct) (zip_none _ (sym (zip_ends c' fs gs many z.is) ∙ z.is)); kept = z.kept }
 
-pub merge-returns-in-Some : goal.merge-returns-in-Some
-merge-returns-in-Some t c =
-    let c' = get_supertype (options_of c.args.i) in
-    let fs = run_in c.args.m c.args.at c.args.lk.now c.args.la.now in
-    let gs = run_in c.args.n c.args.by c.args.rk.now c.args.ra.now in
-    let ks = c.args.rk.now in
-    let xs = c.args.ra.now in
-    let e : c.args.n ≡ c.args.m = omega (arith, c.if-m-n.false, c.if-n-m.false) in
-    let many = run_count c.requires.stand.0 ∙ sym e ∙ sym (run_count c.requires.stand.1) in
-    let z = zip_as _ _ e c.args.by ks xs c' fs c.zip.ensures in
-    let apart = was_apart z (c.in-Err-Apart.is ∙ ap Err c.in-Err-Apart.field-0-is) in
-    let kept = zip_front z (omega (arith, c.requires.room.kinds)) (omega (arith, c.requires.room.args)) in
-    let u = c.union-in-Err-Apart in
-    fills_is (union_decides c' fs gs many apart (told_fields u.ensures _ c.in-Some.is).1)
-    (over kept (told_is u.ensures c.in-Some.is))
+pub merge-returns-then-is_some-3 : goal.merge-returns-then-is_some-3
+merge-returns-then-is_some-3 t c =
+    let i = options_of c.args.i in
+    let c' = get_supertype i in
+    let fs = fields_of c.args.l in
+    let gs = fields_of c.args.r in
+    let l = run_many (run_front c.args.l.stand) in
+    let r = run_many (run_front c.args.r.stand) in
+    let e : c.args.l.left ≡ c.args.r.left = omega (arith, c.if-l-r.false, c.if-r-l.false) in
+    let many = l ∙ e ∙ sym r in
+    let z = rw c.in-Err-Apart.field-0-is at c.in-Err-Apart.ensures in
+    let b = c.truncate.ensures ∙ ap (λ m. take m c.zip.new.out) c.len-mark.ensures ∙ z.kept in
+    let x = there_is _ c.if-is_some-3.ensures in
+    let w = rw (c.new-p.ensures.same, c.new-q.ensures.same, b, x.1) at c.union-2.ensures in
+    let h = struct_some _ w.is in
+    record {
+      type = w.type;
+      is = ap (option_map struct) (sym (union_decides c' fs gs many z.is h.1)) ∙ w.is;
+      wrote = w.wrote;
+    }
 
-pub merge-returns-in-None : goal.merge-returns-in-None
-merge-returns-in-None t c =
-    let c' = get_supertype (options_of c.args.i) in
-    let fs = run_in c.args.m c.args.at c.args.lk.now c.args.la.now in
-    let gs = run_in c.args.n c.args.by c.args.rk.now c.args.ra.now in
-    let ks = c.args.rk.now in
-    let xs = c.args.ra.now in
-    let e : c.args.n ≡ c.args.m = omega (arith, c.if-m-n.false, c.if-n-m.false) in
-    let many = run_count c.requires.stand.0 ∙ sym e ∙ sym (run_count c.requires.stand.1) in
-    let z = zip_as _ _ e c.args.by ks xs c' fs c.zip.ensures in
-    let apart = was_apart z (c.in-Err-Apart.is ∙ ap Err c.in-Err-Apart.field-0-is) in
-    let kept = zip_front z (omega (arith, c.requires.room.kinds)) (omega (arith, c.requires.room.args)) in
-    let u = c.union-in-Err-Apart in
-    let kept' = fills_front u.ensures
-    (omega (arith, c.requires.room.kinds, c.zip.auto.ok)) (omega (arith, c.requires.room.args, c.zip.auto.oa)) in
-    fills_is (union_turned c' fs gs many apart (was_none u.ensures c.in-None.is))
-    (over kept (over kept' c.union-in-None.ensures))
+pub merge-returns : goal.merge-returns
+merge-returns t c =
+    let i = options_of c.args.i in
+    let c' = get_supertype i in
+    let fs = fields_of c.args.l in
+    let gs = fields_of c.args.r in
+    let l = run_many (run_front c.args.l.stand) in
+    let r = run_many (run_front c.args.r.stand) in
+    let e : c.args.l.left ≡ c.args.r.left = omega (arith, c.if-l-r.false, c.if-r-l.false) in
+    let many = l ∙ e ∙ sym r in
+    let z = rw c.in-Err-Apart.field-0-is at c.in-Err-Apart.ensures in
+    let b = c.truncate.ensures ∙ ap (λ m. take m c.zip.new.out) c.len-mark.ensures ∙ z.kept in
+    let w = rw (c.new-p.ensures.same, c.new-q.ensures.same, b, is_nothing _ (sym c.if-is_some-3.ensures)) at c.union-2.ensures in
+    let d = c.truncate-2.ensures ∙ ap (λ m. take m c.union-2.new.out) c.len-mark.ensures ∙ w.kept in
+    joins_is nodes_of _ _ c.union-3.result
+    (ap (option_map struct) (union_turned c' fs gs many z.is (struct_none _ w.none)))
+    (rw (c.new-p.ensures.same, c.new-q.ensures.same, d) at c.union-3.ensures)
 
 -- ---- `named`
 
-pub named-returns-in_err-n : goal.named-returns-in_err-n
-named-returns-in_err-n t c =
-    rw c.from_residual.ensures (under_none (rw c.field.ensures at c.put.ensures) c.all.ensures
-    (omega (arith, c.requires.room.kinds, c.requires.stand.0.pos))
-    (omega (arith, c.requires.room.args, c.requires.stand.0.pos)) c.put.auto.out_kinds c.put.auto.out_args
-    c.in_err-n.was)
+pub named-returns-in_default : goal.named-returns-in_default
+named-returns-in_default t c =
+    under_of _ _ c.args.out.now _ (Some tt) (c.push.ensures ∙ ap (λ n. c.args.out.now ++ n ∷ []) c.field_node.ensures) record {
+      type = tree_of c.args.field.dtype;
+      is = sym (none_named (get_supertype (options_of c.args.i)) c.args.field.name (tree_of c.args.field.dtype)
+          (fields_of c.args.fields.fields) c.in_default.ensures);
+      wrote = c.extend.ensures;
+    }
 
-pub named-overflow_add-result : goal.named-overflow_add-result
-named-overflow_add-result t c =
-    omega (
-      arith,
-      name_nodes (options_of c.args.i) c.args.name _ _ c.all.ensures _ c.in_ok-n.was,
-      c.requires.room.kinds,
-      c.requires.room.most,
+pub named-held-requires : goal.named-held-requires
+named-held-requires t c =
+    let i = options_of c.args.i in
+    let u = tree_of c.args.field.dtype in
+    let gu = (type_front c.args.field.dtype.stands).fits in
+    let fs = fields_of c.args.fields.fields in
+    let gs = fields_of c.in-Some.found.rest in
+    let n = c.args.field.name in
+    let t' = tree_of c.in-Some.found.dtype in
+    let gt = (type_front c.in-Some.found.dtype.stands).fits in
+    let e = c.in-Some.ensures in
+    let m = ap length c.push.ensures ∙ length-append c.args.out.now (c.field_node.result ∷ []) in (
+      omega (arith, c.decreases, found_less i u gu n fs gs t' gt e),
+      found_room i u gu n fs gs t' gt e c.push.new.self (omega (arith, c.requires, m)),
     )
+
+pub named-returns-in_err-held : goal.named-returns-in_err-held
+named-returns-in_err-held t c =
+    let i = options_of c.args.i in
+    let u = tree_of c.args.field.dtype in
+    let gu = (type_front c.args.field.dtype.stands).fits in
+    let fs = fields_of c.args.fields.fields in
+    let gs = fields_of c.in-Some.found.rest in
+    let n = c.args.field.name in
+    let t' = tree_of c.in-Some.found.dtype in
+    let gt = (type_front c.in-Some.found.dtype.stands).fits in
+    let e = c.in-Some.ensures in
+    let m = ap length c.push.ensures ∙ length-append c.args.out.now (c.field_node.result ∷ []) in
+    rw c.from_residual.ensures (under_of _ _ c.args.out.now _ None
+    (c.push.ensures ∙ ap (λ n. c.args.out.now ++ n ∷ []) c.field_node.ensures) record {
+      none = found_nothing i u gu n fs gs t' gt e c.in_err-held.ensures.none;
+      kept = c.in_err-held.ensures.kept;
+    })
+
+pub named-again-requires : goal.named-again-requires
+named-again-requires t c =
+    let i = options_of c.args.i in
+    let u = tree_of c.args.field.dtype in
+    let gu = (type_front c.args.field.dtype.stands).fits in
+    let fs = fields_of c.args.fields.fields in
+    let gs = fields_of c.in-Some.found.rest in
+    let n = c.args.field.name in
+    let t' = tree_of c.in-Some.found.dtype in
+    let gt = (type_front c.in-Some.found.dtype.stands).fits in
+    let e = c.in-Some.ensures in
+    let m = ap length c.push.ensures ∙ length-append c.args.out.now (c.field_node.result ∷ []) in
+    let w = c.in_ok-held.ensures in (
+      omega (arith, c.decreases, found_again i u gu n fs gs t' gt e w c.len-mark.ensures),
+      (
+        found_held i u gu n fs gs t' gt e w c.len-mark.ensures,
+        found_space i u gu n fs gs t' gt e w c.len-mark.ensures (omega (arith, c.requires, m)),
+      ),
+    )
+
+pub named-returns : goal.named-returns
+named-returns t c =
+    let i = options_of c.args.i in
+    let u = tree_of c.args.field.dtype in
+    let gu = (type_front c.args.field.dtype.stands).fits in
+    let fs = fields_of c.args.fields.fields in
+    let gs = fields_of c.in-Some.found.rest in
+    let n = c.args.field.name in
+    let t' = tree_of c.in-Some.found.dtype in
+    let gt = (type_front c.in-Some.found.dtype.stands).fits in
+    let e = c.in-Some.ensures in
+    let m = ap length c.push.ensures ∙ length-append c.args.out.now (c.field_node.result ∷ []) in
+    under_of _ _ c.args.out.now _ c.again.result
+    (c.push.ensures ∙ ap (λ n. c.args.out.now ++ n ∷ []) c.field_node.ensures)
+    (found_on i u gu n fs gs t' gt e c.in_ok-held.ensures c.len-mark.ensures _ c.again.result c.again.ensures)
 
 -- ---- `new`
 
-pub new-loop-rest-init : goal.new-loop-rest-init
-new-loop-rest-init t c = new_start c.requires.stand.1 c.requires.room
+pub new-loop-field-init : goal.new-loop-field-init
+new-loop-field-init t c = (tt, tt, new_start _ _ _ _ c.requires)
 
-pub new-after-past-requires : goal.new-after-past-requires
-new-after-past-requires t c = field_in c.loop-rest.invariant.along.others (omega arith)
-
-pub new-known-requires-clause-before : goal.new-known-requires-clause-before
-new-known-requires-clause-before t c =
-    let v = c.loop-rest.invariant in
-    let d : c.args.n - 1 - (c.loop-rest.rest - 1) ≡ c.args.n - c.loop-rest.rest = omega arith in (
-      along_done v.along d,
-      IfSome_then _ c.requires.tables.1 (λ _ e. new_once v (omega arith) _ c.after-past.ensures d e),
-    )
+pub new-knows-requires : goal.new-knows-requires
+new-knows-requires t c =
+    left_less c.args.shortest.fields c.loop-field.rest c.next.new.self _ c.loop-field.invariant.2.parts
+    c.in-Some.ensures.steps.left
 
 pub new-named-requires : goal.new-named-requires
 new-named-requires t c =
-    let v = c.loop-rest.invariant in
-    let a = c.after-past.ensures in
-    let k = new_told v (omega arith) _ a (omega arith) c.known.ensures c.if-not-known.true in (
-      omega (arith, c.decreases, new_less v (omega arith) _ a k),
-      (
-        (field_in v.along.others (omega arith), new_others v (omega arith) _ a),
-        (
-          tt,
-          new_named_room v (omega arith) _
-              a k,
-        ),
-      ),
-    )
+    let v = c.loop-field.invariant.2 in
+    let e = c.in-Some.ensures.steps.fields in
+    let k = sym (c.knows.ensures v.done (new_parts v e)) ∙ c.if-not-knows.true in
+    let p = ap (λ fs. sizes (named c.in-Some.field.name (fields_of fs))) c.plain.ensures in
+    (omega (arith, c.decreases, new_less v e k, p), omega (arith, new_room v e k, p))
 
-pub new-returns-in_err-end : goal.new-returns-in_err-end
-new-returns-in_err-end t c =
-    let v = c.loop-rest.invariant in
-    let a = c.after-past.ensures in
-    let k = new_told v (omega arith) _ a (omega arith) c.known.ensures c.if-not-known.true in
-    rw c.from_residual.ensures (new_nothing v (omega arith) _ a k c.named.ensures c.in_err-end.was)
-
-pub new-overflow_add-end : goal.new-overflow_add-end
-new-overflow_add-end t c =
-    let v = c.loop-rest.invariant in
-    let a = c.after-past.ensures in
-    let k = new_told v (omega arith) _ a (omega arith) c.known.ensures c.if-not-known.true in
-    omega (arith, new_nodes v (omega arith) _ a k c.named.ensures _ c.in_ok-end.was)
+pub new-returns-in_err-named : goal.new-returns-in_err-named
+new-returns-in_err-named t c =
+    let v = c.loop-field.invariant.2 in
+    let e = c.in-Some.ensures.steps.fields in
+    let k = sym (c.knows.ensures v.done (new_parts v e)) ∙ c.if-not-knows.true in
+    rw c.from_residual.ensures record {
+      none = new_nothing v e k (rw c.plain.ensures at c.in_err-named.ensures).none;
+      kept = going_kept v.going _ c.in_err-named.ensures.kept;
+    }
 
 pub new-overflow_add-names : goal.new-overflow_add-names
-new-overflow_add-names t c = omega (arith, new_count c.loop-rest.invariant)
+new-overflow_add-names t c = omega (arith, new_number c.loop-field.invariant.2)
 
-pub new-loop-rest-preserved-in_ok-end : goal.new-loop-rest-preserved-in_ok-end
-new-loop-rest-preserved-in_ok-end t c =
-    let v = c.loop-rest.invariant in
-    let a = c.after-past.ensures in
-    let k = new_told v (omega arith) _ a (omega arith) c.known.ensures c.if-not-known.true in
-    new_next v (omega arith) _ a k c.named.ensures _ c.in_ok-end.was c.named.auto.ok c.named.auto.oa
+pub new-loop-field-preserved-then-not-knows : goal.new-loop-field-preserved-then-not-knows
+new-loop-field-preserved-then-not-knows t c =
+    let v = c.loop-field.invariant.2 in
+    let e = c.in-Some.ensures.steps.fields in
+    let k = sym (c.knows.ensures v.done (new_parts v e)) ∙ c.if-not-knows.true in
+    (tt, tt, new_next v e k (rw c.plain.ensures at c.in_ok-named.ensures))
 
-pub new-loop-rest-preserved : goal.new-loop-rest-preserved
-new-loop-rest-preserved t c =
-    let v = c.loop-rest.invariant in
-    let a = c.after-past.ensures in
-    new_skip v (omega arith) _ a (new_told v (omega arith) _ a (omega arith) c.known.ensures c.if-not-known.false)
+pub new-loop-field-preserved : goal.new-loop-field-preserved
+new-loop-field-preserved t c =
+    let v = c.loop-field.invariant.2 in
+    let e = c.in-Some.ensures.steps.fields in
+    (tt, tt, new_skip v e (sym (c.knows.ensures v.done (new_parts v e)) ∙ c.if-not-knows.false))
 
 pub new-returns : goal.new-returns
-new-returns t c = new_end c.loop-rest.invariant (omega arith) _ refl
+new-returns t c = new_end c.loop-field.invariant.2 c.in_default.ensures.steps.none
 
 -- ---- `next`
 
-pub next-returns-then-same_held : goal.next-returns-then-same_held
-next-returns-then-same_held t c =
-    joins_is (held_same (get_supertype (options_of c.args.i)) _ _ (sym c.if-same_held.true ∙ c.same_held.ensures))
-    (stays c.requires.stand.1)
+pub next-held-requires-2 : goal.next-held-requires-2
+next-held-requires-2 t c = held_alone c.requires.stands c.split_off-held.ensures.rest
 
-pub next-held-requires : goal.next-held-requires
-next-held-requires t c =
-    let held' = c.requires.stand.1 in
-    let even = c.copy.auto.out_kinds ∙ sym c.copy.auto.out_args in (
-      omega (arith, c.decreases, copied_nodes held' c.copy.ensures even (omega (arith, c.copy.auto.out_kinds))),
-      (
-        (c.requires.stand.0, copied_in held' c.copy.ensures even (omega (arith, c.copy.auto.out_kinds))),
-        copied_room
-            held' c.copy.ensures even (omega (arith, c.copy.auto.out_kinds)) c.requires.room,
-      ),
-    )
+pub next-join-requires : goal.next-join-requires
+next-join-requires t c =
+    let h = ap size (c.held-2.ensures ∙ alone_is c.args.mark c.args.out.now c.split_off-held.ensures.rest) in
+    let n = held_length c.requires.stands in
+    let k = ap length c.split_off-held.ensures.kept
+    ∙ length-take-le c.args.mark c.args.out.now c.requires.stands.within in
+    (omega (arith, c.decreases, h), omega (arith, c.requires.room, h, n, k))
 
 pub next-returns : goal.next-returns
 next-returns t c =
-    let even = c.copy.auto.out_kinds ∙ sym c.copy.auto.out_args in
-    joins_is (ap (join_held (get_supertype (options_of c.args.i))
-    (type_in c.args.at c.args.sk.now c.args.sa.now))
-    (copied_type c.requires.stand.1 c.copy.ensures even (omega (arith, c.copy.auto.out_kinds))))
-    c.held.ensures
+    let h = c.held-2.ensures ∙ alone_is c.args.mark c.args.out.now c.split_off-held.ensures.rest in
+    joins_is nodes_of _ _ c.join.result
+    (held_other (get_supertype (options_of c.args.i)) (tree_of c.args.dtype) (held_at c.args.mark c.args.out.now)
+    (sym c.if-same.false ∙ c.same.ensures ∙ ap (equal (tree_of c.args.dtype)) c.held.ensures))
+    (rw (h, c.split_off-held.ensures.kept) at c.join.ensures)
 
 -- ---- `old`
 
-pub old-loop-rest-init : goal.old-loop-rest-init
-old-loop-rest-init t c = old_start c.requires.stand.0 c.requires.room
+pub old-loop-field-init : goal.old-loop-field-init
+old-loop-field-init t c = (tt, tt, old_start _ _ _ _ c.requires)
 
-pub old-after-past-requires : goal.old-after-past-requires
-old-after-past-requires t c = field_in c.loop-rest.invariant.along.others (omega arith)
-
-pub old-keep-requires-clause-runs : goal.old-keep-requires-clause-runs
-old-keep-requires-clause-runs t c =
-    let v = c.loop-rest.invariant in
-    (along_done v.along (omega arith), old_others v (omega arith) _ c.after-past.ensures)
-
-pub old-keep-requires-clause-held : goal.old-keep-requires-clause-held
-old-keep-requires-clause-held t c = field_in c.loop-rest.invariant.along.others (omega arith)
-
-pub old-keep-requires-clause-once : goal.old-keep-requires-clause-once
-old-keep-requires-clause-once t c =
-    let v = c.loop-rest.invariant in
-    let d : c.args.m - 1 - (c.loop-rest.rest - 1) ≡ c.args.m - c.loop-rest.rest = omega arith in
-    IfSome_then _ c.requires.tables.0 (λ _ e. old_once v (omega arith) _ c.after-past.ensures d e)
+pub old-kept-requires : goal.old-kept-requires
+old-kept-requires t c =
+    left_less c.args.longest.fields c.loop-field.rest c.next.new.self _ c.loop-field.invariant.2.parts
+    c.in-Some.ensures.steps.left
 
 pub old-named-requires : goal.old-named-requires
 old-named-requires t c =
-    let v = c.loop-rest.invariant in
-    let a = c.after-past.ensures in
-    let k = old_last v (omega arith) _ a (omega arith) c.in-Some.ensures in (
-      omega (arith, c.decreases, old_less v (omega arith) _ a _ k),
-      ((k.type, c.requires.stand.1), (c.requires.tables.1, old_room v (omega arith) _ a _ k)),
-    )
+    let v = c.loop-field.invariant.2 in
+    let e = c.in-Some.ensures.steps.fields in
+    let k = c.in-Some-kept.ensures v.done (old_parts v e) in
+    let p = ap (λ n. sizes (named n (fields_of c.args.shortest.fields))) k.name in
+    (omega (arith, c.decreases, old_less v e k.new k.last, p), omega (arith, old_room v e k.new k.last, p))
 
-pub old-returns-in_err-end : goal.old-returns-in_err-end
-old-returns-in_err-end t c =
-    let v = c.loop-rest.invariant in
-    let a = c.after-past.ensures in
-    let k = old_last v (omega arith) _ a (omega arith) c.in-Some.ensures in
-    rw c.from_residual.ensures (old_nothing v (omega arith) _ a _ k c.named.ensures c.in_err-end.was)
-
-pub old-overflow_add-end : goal.old-overflow_add-end
-old-overflow_add-end t c =
-    let v = c.loop-rest.invariant in
-    let a = c.after-past.ensures in
-    let k = old_last v (omega arith) _ a (omega arith) c.in-Some.ensures in
-    omega (arith, old_nodes v (omega arith) _ a _ k c.named.ensures _ c.in_ok-end.was)
+pub old-returns-in_err-named : goal.old-returns-in_err-named
+old-returns-in_err-named t c =
+    let v = c.loop-field.invariant.2 in
+    let e = c.in-Some.ensures.steps.fields in
+    let k = c.in-Some-kept.ensures v.done (old_parts v e) in
+    rw c.from_residual.ensures record {
+      none = old_nothing v e k.new k.last (rw k.name at c.in_err-named.ensures).none;
+      kept = going_kept v.going _ c.in_err-named.ensures.kept;
+    }
 
 pub old-overflow_add-names : goal.old-overflow_add-names
-old-overflow_add-names t c = omega (arith, old_count c.loop-rest.invariant)
+old-overflow_add-names t c = omega (arith, old_number c.loop-field.invariant.2)
 
-pub old-loop-rest-preserved-in_ok-end : goal.old-loop-rest-preserved-in_ok-end
-old-loop-rest-preserved-in_ok-end t c =
-    let v = c.loop-rest.invariant in
-    let a = c.after-past.ensures in
-    let k = old_last v (omega arith) _ a (omega arith) c.in-Some.ensures in
-    old_next v (omega arith) _ a _ k c.named.ensures _ c.in_ok-end.was c.named.auto.ok c.named.auto.oa
+pub old-loop-field-preserved-in-Some-kept : goal.old-loop-field-preserved-in-Some-kept
+old-loop-field-preserved-in-Some-kept t c =
+    let v = c.loop-field.invariant.2 in
+    let e = c.in-Some.ensures.steps.fields in
+    let k = c.in-Some-kept.ensures v.done (old_parts v e) in
+    (tt, tt, old_next v e k.new k.last (rw k.name at c.in_ok-named.ensures))
 
-pub old-loop-rest-preserved : goal.old-loop-rest-preserved
-old-loop-rest-preserved t c =
-    let v = c.loop-rest.invariant in
-    let a = c.after-past.ensures in
-    old_skip v (omega arith) _ a (old_was_seen v (omega arith) _ a (omega arith) c.in_default.ensures)
+pub old-loop-field-preserved : goal.old-loop-field-preserved
+old-loop-field-preserved t c =
+    let v = c.loop-field.invariant.2 in
+    let e = c.in-Some.ensures.steps.fields in
+    (tt, tt, old_skip v e (c.in_default-kept.ensures v.done (old_parts v e)))
 
 pub old-returns : goal.old-returns
-old-returns t c = old_end c.loop-rest.invariant (omega arith) _ refl
+old-returns t c = old_end c.loop-field.invariant.2 c.in_default.ensures.steps.none
 
 -- ---- `under`
 
-pub under-returns-in_err-below : goal.under-returns-in_err-below
-under-returns-in_err-below t c =
-    rw c.from_residual.ensures (under_none c.put.ensures c.join.ensures
-    (omega (arith, c.requires.room.kinds, c.requires.stand.0.pos))
-    (omega (arith, c.requires.room.args, c.requires.stand.0.pos)) c.put.auto.out_kinds c.put.auto.out_args
-    c.in_err-below.was)
-
-pub under-overflow_add-result : goal.under-overflow_add-result
-under-overflow_add-result t c =
-    omega (arith, join_nodes _ _ _ _ c.join.ensures _ c.in_ok-below.was, c.requires.room.kinds)
+pub under-returns : goal.under-returns
+under-returns t c = under_of c.args.n _ c.args.out.now _ c.join.result c.push.ensures c.join.ensures
 
 -- ---- `union`
 
 pub union-returns-in_err-first : goal.union-returns-in_err-first
 union-returns-in_err-first t c =
     let i = options_of c.args.i in
-    let fs = run_in c.args.m c.args.at c.args.lk.now c.args.la.now in
-    let gs = run_in c.args.n c.args.by c.args.sk.now c.args.sa.now in
-    rw c.from_residual.ensures (merged_old_nothing i fs gs c.old.ensures c.requires.room c.in_err-first.was)
-
-pub union-overflow_add-to : goal.union-overflow_add-to
-union-overflow_add-to t c =
-    let i = options_of c.args.i in
-    let fs = run_in c.args.m c.args.at c.args.lk.now c.args.la.now in
-    let gs = run_in c.args.n c.args.by c.args.sk.now c.args.sa.now in
-    omega (arith, merged_old_end i fs gs c.old.ensures c.requires.room _ c.in_ok-first.was)
+    let fs = fields_of c.args.longest.fields in
+    let gs = fields_of c.args.shortest.fields in
+    let n = ap length c.push.ensures ∙ length-append c.args.out.now (c.struct_node.result ∷ []) in
+    rw c.from_residual.ensures (union_old i fs gs c.args.out.now c.struct_node.result c.push.ensures _ c.in_err-first.ensures)
 
 pub union-new-requires : goal.union-new-requires
 union-new-requires t c =
     let i = options_of c.args.i in
-    let fs = run_in c.args.m c.args.at c.args.lk.now c.args.la.now in
-    let gs = run_in c.args.n c.args.by c.args.sk.now c.args.sa.now in (
+    let fs = fields_of c.args.longest.fields in
+    let gs = fields_of c.args.shortest.fields in
+    let n = ap length c.push.ensures ∙ length-append c.args.out.now (c.struct_node.result ∷ []) in (
       omega (arith, c.decreases),
-      (
-        c.requires.stand,
-        (
-          (c.requires.tables.0, table_distinct (λ x. x.now) _ _ _ _ c.requires.tables.1),
-          new_room i fs gs c.old.ensures c.requires.room _ c.in_ok-first.was c.old.auto.ok c.old.auto.oa,
-        ),
-      ),
+      union_room i fs gs c.args.out.now c.struct_node.result c.push.ensures c.in_ok-first.ensures (omega (arith, c.requires, n)),
     )
 
 pub union-returns-in_err-more : goal.union-returns-in_err-more
 union-returns-in_err-more t c =
     let i = options_of c.args.i in
-    let fs = run_in c.args.m c.args.at c.args.lk.now c.args.la.now in
-    let gs = run_in c.args.n c.args.by c.args.sk.now c.args.sa.now in
-    rw c.from_residual-in_err-more.ensures (merged_new_nothing i fs gs c.old.ensures c.requires.room _
-    c.in_ok-first.was c.old.auto.ok c.old.auto.oa c.new.ensures
-    c.in_err-more.was)
+    let fs = fields_of c.args.longest.fields in
+    let gs = fields_of c.args.shortest.fields in
+    let n = ap length c.push.ensures ∙ length-append c.args.out.now (c.struct_node.result ∷ []) in
+    rw c.from_residual-in_err-more.ensures (union_new i fs gs c.args.out.now c.struct_node.result c.push.ensures
+    c.in_ok-first.ensures (omega (arith, c.requires, n)) _ c.in_err-more.ensures)
 
-pub union-overflow_add-result : goal.union-overflow_add-result
-union-overflow_add-result t c =
+pub union-overflow_add-first : goal.union-overflow_add-first
+union-overflow_add-first t c =
     let i = options_of c.args.i in
-    let fs = run_in c.args.m c.args.at c.args.lk.now c.args.la.now in
-    let gs = run_in c.args.n c.args.by c.args.sk.now c.args.sa.now in
+    let fs = fields_of c.args.longest.fields in
+    let gs = fields_of c.args.shortest.fields in
+    let n = ap length c.push.ensures ∙ length-append c.args.out.now (c.struct_node.result ∷ []) in
     omega (
       arith,
-      merged_names i fs gs c.old.ensures c.requires.room _ c.in_ok-first.was c.old.auto.ok c.old.auto.oa
-          c.new.ensures _ c.in_ok-more.was,
-    )
-
-pub union-overflow_add-result-2 : goal.union-overflow_add-result-2
-union-overflow_add-result-2 t c =
-    let i = options_of c.args.i in
-    let fs = run_in c.args.m c.args.at c.args.lk.now c.args.la.now in
-    let gs = run_in c.args.n c.args.by c.args.sk.now c.args.sa.now in
-    omega (
-      arith,
-      merged_end i fs gs c.old.ensures c.requires.room _ c.in_ok-first.was c.old.auto.ok c.old.auto.oa
-          c.new.ensures _ c.in_ok-more.was,
+      merged_names i fs gs c.args.out.now c.struct_node.result c.push.ensures c.in_ok-first.ensures
+          (omega (arith, c.requires, n)) c.in_ok-more.ensures,
     )
 
 pub union-returns : goal.union-returns
 union-returns t c =
     let i = options_of c.args.i in
-    let fs = run_in c.args.m c.args.at c.args.lk.now c.args.la.now in
-    let gs = run_in c.args.n c.args.by c.args.sk.now c.args.sa.now in
-    merged i fs gs c.old.ensures c.requires.room _ c.in_ok-first.was c.old.auto.ok c.old.auto.oa c.new.ensures _
-    c.in_ok-more.was
+    let fs = fields_of c.args.longest.fields in
+    let gs = fields_of c.args.shortest.fields in
+    let n = ap length c.push.ensures ∙ length-append c.args.out.now (c.struct_node.result ∷ []) in
+    rw c.close.ensures (merged i fs gs c.args.out.now c.struct_node.result c.push.ensures c.in_ok-first.ensures
+    (omega (arith, c.requires, n)) c.in_ok-more.ensures c.len-mark.ensures refl)
 
 -- ---- `zip`
 
-pub zip-returns-then-name-ra : goal.zip-returns-then-name-ra
-zip-returns-then-name-ra t c = zip_apart c.loop.invariant (omega arith) c.if-name-ra.true
+pub zip-loop-a-init : goal.zip-loop-a-init
+zip-loop-a-init t c =
+    let z = c.zip-a-items.ensures in
+    let many = run_many (run_front c.args.l.stand) ∙ c.requires.many ∙ sym (run_many (run_front c.args.r.stand)) in
+    rw (c.into_iter-a-iterator.ensures.into_iter_gives, z.first, z.second) (
+      (tt, tt),
+      tt,
+      zip_start _ _ _ c.args.out.now c.struct_node.result c.push.ensures many c.requires.room,
+    )
+
+pub zip-returns-then-a-b : goal.zip-returns-then-a-b
+zip-returns-then-a-b t c =
+    let s = c.in-Some.ensures.steps in
+    let v = c.loop-a.invariant.2 in
+    record {
+      is = zip_apart v s.0.fields s.1.fields c.if-a-b.true;
+      kept = kept_on _ (c.struct_node.result ∷ []) _ c.push.ensures (going_kept v.going _ (kept_all _));
+    }
 
 pub zip-under-joined-requires : goal.zip-under-joined-requires
 zip-under-joined-requires t c =
-    let v = c.loop.invariant in (
-      omega (arith, c.decreases, zip_less v (omega arith)),
-      ((zip_left v (omega arith), zip_right v (omega arith)), zip_room v (omega arith)),
+    let s = c.in-Some.ensures.steps in
+    let v = c.loop-a.invariant.2 in
+    (omega (arith, c.decreases, zip_less v s.0.fields s.1.fields), zip_room v s.0.fields s.1.fields)
+
+pub zip-loop-a-preserved : goal.zip-loop-a-preserved
+zip-loop-a-preserved t c =
+    let s = c.in-Some.ensures.steps in (
+      (tt, tt),
+      tt,
+      zip_next c.loop-a.invariant.2 s.0.fields s.1.fields c.if-a-b.false
+          (rw c.field_node.ensures at (joined_was c.in_ok-ok_or.ensures.ok_part c.under-joined.ensures)),
     )
 
-pub zip-returns-in_err-end : goal.zip-returns-in_err-end
-zip-returns-in_err-end t c =
-    let none = c.in_err-end.ensures.ok_part in
+pub zip-returns-in_err-ok_or : goal.zip-returns-in_err-ok_or
+zip-returns-in_err-ok_or t c =
+    let s = c.in-Some.ensures.steps in
+    let v = c.loop-a.invariant.2 in
+    let none = c.in_err-ok_or.ensures.ok_part in
+    let w = joined_none _ none c.under-joined.ensures in
     rw (handed_on (err_from_is_err_and c.from_residual.result c.from_residual.ensures.1)
-    ∙ ap Err (none_is c.in_err-end.ensures.value none))
-    (zip_nothing c.loop.invariant (omega arith) c.if-name-ra.false
-    (rw c.field-field.ensures at c.under-joined.ensures) none)
-
-pub zip-overflow_add-end-in-loop : goal.zip-overflow_add-end-in-loop
-zip-overflow_add-end-in-loop t c =
-    omega (
-      arith,
-      zip_nodes c.loop.invariant (omega arith) c.if-name-ra.false
-          (rw c.field-field.ensures at c.under-joined.ensures) _ c.in_ok-end.ensures.ok_part,
-    )
-
-pub zip-after-here-requires : goal.zip-after-here-requires
-zip-after-here-requires t c = zip_left c.loop.invariant (omega arith)
-
-pub zip-after-there-requires : goal.zip-after-there-requires
-zip-after-there-requires t c = zip_right c.loop.invariant (omega arith)
-
-pub zip-loop-preserved : goal.zip-loop-preserved
-zip-loop-preserved t c =
-    zip_next c.loop.invariant (omega arith) c.if-name-ra.false (rw c.field-field.ensures at c.under-joined.ensures) _
-    c.in_ok-end.ensures.ok_part
-    c.after-here.ensures c.after-there.ensures (omega arith) c.under-joined.auto.ok c.under-joined.auto.oa
+    ∙ ap Err (none_is c.in_err-ok_or.ensures.value none)) record {
+      is = zip_nothing v s.0.fields s.1.fields c.if-a-b.false w.none;
+      kept = kept_on _ (c.struct_node.result ∷ []) _ c.push.ensures (going_kept v.going _ w.kept);
+    }
 
 pub zip-returns : goal.zip-returns
-zip-returns t c = zip_end_lem c.loop.invariant (omega arith) _ refl
+zip-returns t c =
+    let v = c.loop-a.invariant.2 in
+    let z = elim c.in-None.ensures.steps as (λ _. fields_of c.loop-a.a-iterator.a ≡ empty) [
+      | inl e ↦ e.1.none
+      | inr e ↦ rest_over v e.1.none
+    ] in
+    zip_end v z c.args.out.now c.struct_node.result c.push.ensures
+    (c.struct_node.ensures ∙ ap (node kind.Struct) (sym (run_many (run_front c.args.l.stand))))

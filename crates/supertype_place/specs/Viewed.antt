@@ -1,0 +1,49 @@
+-- The type and the fields that a view has, and what its methods tell of them. Assumes nothing: these are definitions.
+use Rattle.std.specs.Prelude.{◌≡◌, Option, None, Some, ℕ, zero, suc, get_or}
+use Rattle.flat.specs.Tree.{DataType, Fields, empty, field, size}
+use Rattle.flat.specs.Walk.{type_at, run_at}
+use Rattle.supertype_nested.specs.Union.{named}
+use Rattle.supertype_place.specs.View.{from}
+use Rattle.supertype_place.specs.declared.view.FlatType.{FlatType}
+use Rattle.supertype_place.specs.declared.view.FlatField.{FlatField}
+use Rattle.supertype_place.specs.declared.view.FlatFields.{FlatFields}
+use Rattle.supertype_place.specs.declared.view.Found.{Found}
+
+abbrev pub tree_of : FlatType → DataType
+tree_of t = type_at t.kinds.now t.args.now
+
+abbrev pub fields_of : FlatFields → Fields
+fields_of fs = run_at fs.left fs.kinds.now fs.args.now
+
+-- The first field, and the fields behind it.
+pub record Gives (old : FlatFields) (f : FlatField) (new : FlatFields) : Type 0 where
+  pub fields : fields_of old ≡ field f.name (tree_of f.dtype) (fields_of new)
+  pub left : old.left ≡ suc new.left
+  pub name : f.name ≡ get_or old.args.now 0 0
+  -- where they stand
+  pub kinds : f.dtype.kinds.now ≡ from 1 old.kinds.now
+  pub args : f.dtype.args.now ≡ from 1 old.args.now
+  pub kinds_behind : new.kinds.now ≡ from (size (tree_of f.dtype)) f.dtype.kinds.now
+  pub args_behind : new.args.now ≡ from (size (tree_of f.dtype)) f.dtype.args.now
+
+-- there are none
+pub record Ends (old new : FlatFields) : Type 0 where
+  pub none : fields_of old ≡ empty
+  pub left : old.left ≡ 0
+  pub still : new ≡ old
+
+-- a step of the loop over fields
+abbrev pub GivesField : FlatFields → Option FlatField → FlatFields → Type 0
+GivesField old None new = Ends old new
+GivesField old (Some f) new = Gives old f new
+
+-- the first field of a name, and the fields behind it, if there is one
+abbrev pub FoundIn : ℕ → Fields → Option Found → Type 0
+FoundIn name fs None = named name fs ≡ empty
+FoundIn name fs (Some f) = named name fs ≡ field name (tree_of f.dtype) (named name (fields_of f.rest))
+
+-- the first n fields
+unfoldable pub front_of : ℕ → Fields → Fields
+front_of zero fs = empty
+front_of (suc n) empty = empty
+front_of (suc n) (field name t fs) = field name t (front_of n fs)
