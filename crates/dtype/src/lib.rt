@@ -1,6 +1,7 @@
 // src/datatypes of the crate: the fourteen predicates of a flat type (dtype.rs), each under the source's name, as
 // document 01 and docs/ENTRY_POINTS.md have them, units of time, and what every rule of dtype.rs rests on. Equality,
-// inner types, casts and the types that are built anew have a crate each (dtype_…), so that a proof stays quick to check.
+// inner types, casts and the types that are built anew have a crate each (dtype_…), so that a proof stays quick to
+// check.
 #![tactic(auto)]
 
 pub mod kind;

@@ -79,7 +79,8 @@ impl<'a> FlatType<'a> {
     // The type under a List or an Array.
     pub fn inner(self) -> FlatType<'a>
         requires { let k = head_kind (tree_of self) in (List ≤ k) × (k < Struct) }
-        ensures { tree_of self.entry ≡ under (head_kind (tree_of self.entry)) (head_arg (tree_of self.entry)) (tree_of result) }
+        ensures { let t = tree_of self.entry in
+            t ≡ under (head_kind t) (head_arg t) (tree_of result) }
     {
         FlatType {
             kinds: &self.kinds[1..],

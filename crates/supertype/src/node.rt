@@ -6,7 +6,8 @@ ghost use Rattle.flat.specs.Argument.{dec128_max_prec};
 ghost use Rattle.supertype_numbers.specs.Range.{Listed};
 ghost use Rattle.supertype_answer.specs.Join.{node};
 ghost use Rattle.supertype_arms.specs.Node.{precision, scale, decimal, value, fits};
-ghost use Rattle.supertype_arms.specs.Supertype.{beside_integer, smallest_fitting, dyn_number, known_supertype, answered};
+ghost use Rattle.supertype_arms.specs.Supertype.{beside_integer, smallest_fitting, dyn_number, known_supertype};
+ghost use Rattle.supertype_arms.specs.Supertype.{answered};
 ghost use Rattle.supertype_arms.specs.Supertype.{supertype};
 ghost use Rattle.supertype_arms.specs.Rule.{rule_of, Apart};
 

@@ -295,7 +295,8 @@ answered get_supertype plan l r = option_and_then (λ p. run get_supertype p l r
 -- ---- the function, of two types that are not nested
 
 unfoldable pub inner : Call → Bool → Node → Node → Option Node
-inner get_supertype to_string l r = cond (same l r) (Some l) (answered get_supertype (plan_of to_string l.kind r.kind) l r)
+inner get_supertype to_string l r =
+    cond (same l r) (Some l) (answered get_supertype (plan_of to_string l.kind r.kind) l r)
 
 unfoldable pub supertype_with : Call → Bool → Node → Node → Option Node
 supertype_with get_supertype to_string l r =

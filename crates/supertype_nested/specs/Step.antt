@@ -8,7 +8,8 @@ use Rattle.flat.specs.Tree.{DataType, leaf, Fields, empty, field}
 use Rattle.dtype.specs.Predicate.{is_unknown_int, is_primitive_numeric, is_unknown}
 use Rattle.dtype.specs.Equality.{equal}
 use Rattle.flat.specs.declared.Node.{Node}
-use Rattle.supertype_arms.specs.Supertype.{Arm, arm, is, every, choose, TreePlan, no_type, left_type, roots, known_supertype}
+use Rattle.supertype_arms.specs.Supertype.{Arm, arm, is, every, choose, TreePlan, no_type, left_type, roots}
+use Rattle.supertype_arms.specs.Supertype.{known_supertype}
 use Rattle.supertype_arms.specs.Supertype.{implode_left, implode_right, first_field, each_field}
 use Rattle.supertype_arms.specs.declared.plan.Plan.TheVariants.{Kind}
 use Rattle.supertype_nested.specs.Nested.{TreeCall, at_roots, Zip, names_differ, no_join, joined}

@@ -52,7 +52,8 @@ unfoldable pub new_names : TreeCall → List ℕ → Fields → Option Fields
 new_names get_supertype ns empty = Some empty
 new_names get_supertype ns (field name t gs) =
     cond (seen ns name) (new_names get_supertype (name ∷ ns) gs)
-    (option_and_then (λ st. option_map (field name st) (new_names get_supertype (name ∷ ns) gs)) (join_named get_supertype name t gs))
+    (option_and_then (λ st. option_map (field name st) (new_names get_supertype (name ∷ ns) gs))
+    (join_named get_supertype name t gs))
 
 -- the longest's names, then the new ones of the shortest
 unfoldable pub by_names : TreeCall → Fields → Fields → Option Fields

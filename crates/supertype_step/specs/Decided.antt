@@ -51,7 +51,8 @@ at_side Side.Right l r = r
 unfoldable pub run_step : TreeCall → Step → DataType → DataType → Option DataType
 run_step c (Step.Node n) l r = Some (type_of n)
 run_step c (Step.Whole s) l r = Some (at_side s l r)
-run_step c (Step.Under n) l r = option_and_then (λ t. option_and_then (λ u. option_map (above n) (c t u)) (inner_dtype r)) (inner_dtype l)
+run_step c (Step.Under n) l r =
+    option_and_then (λ t. option_and_then (λ u. option_map (above n) (c t u)) (inner_dtype r)) (inner_dtype l)
 run_step c (Step.Within s) l r = within c (at_side s l r) (at_side s r l)
 run_step c Step.StringWithin l r = option_or (within c r l) (Some (leaf kind.String 0))
 run_step c (Step.First s) l r = first c (at_side s l r) (at_side s r l)
