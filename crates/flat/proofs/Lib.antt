@@ -4,7 +4,6 @@ pub mod Sizes
 pub mod ReadBack
 pub mod Positions
 pub mod Walks
-pub mod Views
 pub mod Meaning
 mod Numbers
 pub mod Refusals

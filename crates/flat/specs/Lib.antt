@@ -13,5 +13,3 @@ pub mod Output
 pub mod Scan
 pub mod Span
 pub mod Walk
-pub mod Fit
-pub mod View

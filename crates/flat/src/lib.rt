@@ -7,7 +7,6 @@ pub mod kind;
 pub mod reply;
 mod scan;
 pub mod span;
-pub mod view;
 
 ghost use Rattle.std.specs.Prelude.{◌≡◌, true, ◌*◌, length};
 ghost use Rattle.flat.specs.Reader.{node_at};
