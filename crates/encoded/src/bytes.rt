@@ -8,7 +8,7 @@ pub fn count(encoded: &[u8]) -> Option<usize>
     ensures { let s = encoded.now in
         result ≡ cond (leb 2 (length s)) (Some (count_in s)) None }
 {
-    let low_first = encoded.first_chunk()?;
+    let low_first: &[u8; 2] = encoded.first_chunk()?;
     Some(usize::from(u16::from_le_bytes(*low_first)))
 }
 
