@@ -33,7 +33,7 @@ pub fn all_yes(from_kinds: &[u8], from_args: &[u64], to_kinds: &[u8], to_args: &
     if from_kinds.len() != to_kinds.len() {
         return false;
     }
-    // over zips of the four slices, the cast of 32 Lists to themselves took 219 ns
+    // over zips of the four slices, the cast of 32 Lists to themselves took 219 ns in place of 179
     for i in 0..from_kinds.len() {
         let from = Node {
             kind: from_kinds[i],
