@@ -1,5 +1,5 @@
 -- What a call comes to that joins two types: by their roots, and in the lent arrays. Assumes nothing.
-use mathlib.Core.Path.{◌≡◌, refl, sym, ap}
+use mathlib.Core.Path.{◌≡◌, refl, sym, ap, ◌∙◌}
 use mathlib.Core.List.{List}
 use Rattle.std.specs.Prelude.{Option, Some, Result, Ok, Err}
 use Prim.Native.Nat.{ℕ}
@@ -14,23 +14,31 @@ use Rattle.flat.specs.declared.error.Error.TheVariants.{OutputTooShort}
 use Rattle.flat.specs.declared.Node.{Node}
 use Rattle.flat.proofs.Outputs.{few_kinds, few_args, room, found_refused}
 use Rattle.flat.proofs.Pairs as pairs
-use Rattle.flat.proofs.Truths.{over_one}
+use Rattle.flat.proofs.Truths.{over_one, handed_on}
 use Rattle.supertype_answer.specs.Join.{node, type_of, root_node, result_of, joining, joining_roots}
 
 -- ---- two roots: a refusal of the left, of the right, or what the rule says
-module _ {A : Type 0} (refusal : Error → A) (rule : DataType → DataType → A) where
-  pub left_refused : {l : Result Node Error} {e : Error} (right : Reading) → l ≡ Err e
-      → refusal e ≡ both_of refusal rule (root_reading l) right
-  left_refused right h = sym (pairs.left_refused _ _ _ _ (ap root_reading h))
 
-  module _ {l r : Result Node Error} {n : Node} (left : l ≡ Ok n) where
-    pub right_refused : {e : Error} → r ≡ Err e
-        → refusal e ≡ both_of refusal rule (root_reading l) (root_reading r)
-    right_refused h = sym (pairs.right_refused _ _ _ _ (ap root_reading left) (ap root_reading h))
+-- a refusal that is handed on
+abbrev pub Handed : {T : Type 0} → Result T Error → Error → Type 0
+Handed d e = (y : Error) × (d ≡ Err y) × (y ≡ e)
 
-    pub both_roots : {m : Node} → r ≡ Ok m
-        → rule (type_of n) (type_of m) ≡ both_of refusal rule (root_reading l) (root_reading r)
-    both_roots h = sym (pairs.both_types _ _ _ _ (ap root_reading left) (ap root_reading h))
+module _ {T A : Type 0} (read : Result T Error → A) (rule : DataType → DataType → A) where
+  -- what the roots come to
+  abbrev pub roots_come_to : Result Node Error → Result Node Error → A
+  roots_come_to l r = both_of (λ e. read (Err e)) rule (root_reading l) (root_reading r)
+
+  module _ {l : Result Node Error} {d : Result T Error} {e : Error} (r : Result Node Error) (given : Handed d e) where
+    pub left_refused : l ≡ Err e → read d ≡ roots_come_to l r
+    left_refused h = ap read (handed_on given) ∙ sym (pairs.left_refused _ _ _ _ (ap root_reading h))
+
+    pub right_refused : {n : Node} → l ≡ Ok n → r ≡ Err e → read d ≡ roots_come_to l r
+    right_refused f h =
+        ap read (handed_on given) ∙ sym (pairs.right_refused _ _ _ _ (ap root_reading f) (ap root_reading h))
+
+  pub both_roots : {l r : Result Node Error} {n m : Node} → l ≡ Ok n → r ≡ Ok m
+      → rule (type_of n) (type_of m) ≡ roots_come_to l r
+  both_roots f h = sym (pairs.both_types _ _ _ _ (ap root_reading f) (ap root_reading h))
 
 -- what a rule finds that rests on the two roots alone
 pub joining_roots_lem : (rule : Node → Node → Option Reading) (left right : Reading)

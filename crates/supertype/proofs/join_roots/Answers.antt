@@ -17,13 +17,13 @@ fitting c = (subst RootFits c.in_ok-l.was c.requires.0, subst RootFits c.in_ok-r
 
 pub returns-in_err-l : goal.returns-in_err-l
 returns-in_err-l c =
-    ap result_of (handed_on (err_from_is_err_and c.from_residual.result c.from_residual.ensures.1))
-    ∙ left_refused _ _ _ c.in_err-l.was
+    let given = err_from_is_err_and c.from_residual.result c.from_residual.ensures.1 in
+    left_refused result_of _ _ given c.in_err-l.was
 
 pub returns-in_err-r : goal.returns-in_err-r
 returns-in_err-r c =
-    ap result_of (handed_on (err_from_is_err_and c.from_residual-in_err-r.result c.from_residual-in_err-r.ensures.1))
-    ∙ right_refused _ _ c.in_ok-l.was c.in_err-r.was
+    let given = err_from_is_err_and c.from_residual-in_err-r.result c.from_residual-in_err-r.ensures.1 in
+    right_refused result_of _ _ given c.in_ok-l.was c.in_err-r.was
 
 pub returns-in_err-check_pair : goal.returns-in_err-check_pair
 unfolding head_kind head_arg
@@ -31,7 +31,7 @@ returns-in_err-check_pair c =
     let refused = c.from_residual-in_err-check_pair in
     ap result_of (handed_on (err_from_is_err_and refused.result refused.ensures.1))
     ∙ pair_refused _ _ _ _ (sym c.in_err-check_pair.was ∙ c.check_pair.ensures)
-    ∙ both_roots _ _ c.in_ok-l.was c.in_ok-r.was
+    ∙ both_roots result_of _ c.in_ok-l.was c.in_ok-r.was
 
 pub node_supertype-requires : goal.node_supertype-requires
 node_supertype-requires c =
@@ -41,4 +41,4 @@ pub returns : goal.returns
 unfolding head_kind head_arg
 returns c =
     pair_joined _ _ _ (sym c.in_ok-check_pair.was ∙ c.check_pair.ensures) c.node_supertype.ensures
-    ∙ both_roots _ _ c.in_ok-l.was c.in_ok-r.was
+    ∙ both_roots result_of _ c.in_ok-l.was c.in_ok-r.was

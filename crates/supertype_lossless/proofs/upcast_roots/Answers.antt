@@ -1,7 +1,6 @@
 -- `supertype_lossless::upcast_roots` meets its contract. Assumes nothing.
 use mathlib.Core.Path.{◌≡◌, ap, ◌∙◌}
 use Rattle.std.proofs.lemmas.Result.{err_from_is_err_and}
-use Rattle.flat.proofs.Truths.{handed_on}
 use Rattle.flat.specs.Tree.{head_kind}
 use native.Mathlib.Omega.{arith}
 use Rattle.std.proofs.lemmas.Grind.{common_steps}
@@ -13,16 +12,16 @@ use Rattle.supertype_lossless.proofs.upcast_roots.Goals as goal
 
 pub returns-in_err-l : goal.returns-in_err-l
 returns-in_err-l c =
-    ap result_of (handed_on (err_from_is_err_and c.from_residual.result c.from_residual.ensures.1))
-    ∙ left_refused _ _ _ c.in_err-l.was
+    let given = err_from_is_err_and c.from_residual.result c.from_residual.ensures.1 in
+    left_refused result_of _ _ given c.in_err-l.was
 
 pub returns-in_err-r : goal.returns-in_err-r
 returns-in_err-r c =
-    ap result_of (handed_on (err_from_is_err_and c.from_residual-in_err-r.result c.from_residual-in_err-r.ensures.1))
-    ∙ right_refused _ _ c.in_ok-l.was c.in_err-r.was
+    let given = err_from_is_err_and c.from_residual-in_err-r.result c.from_residual-in_err-r.ensures.1 in
+    right_refused result_of _ _ given c.in_ok-l.was c.in_err-r.was
 
 pub returns : goal.returns
 unfolding head_kind root_upcast
 returns c =
     let m : c.map.result ≡ option_map (λ k. node k 0) c.upcast_kinds.result = grind (arith, common_steps) in
-    ap found_of m ∙ ap found_upcast c.upcast_kinds.ensures ∙ both_roots _ _ c.in_ok-l.was c.in_ok-r.was
+    ap found_of m ∙ ap found_upcast c.upcast_kinds.ensures ∙ both_roots result_of _ c.in_ok-l.was c.in_ok-r.was
