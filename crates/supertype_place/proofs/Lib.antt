@@ -4,4 +4,4 @@ pub mod Finds
 pub mod Repeats
 mod Squash
 pub mod Tables
-pub mod Outs
+pub mod Writes

@@ -2,4 +2,4 @@
 pub mod View
 pub mod Viewed
 pub mod Names
-pub mod Out
+pub mod Written

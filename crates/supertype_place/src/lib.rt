@@ -2,5 +2,5 @@
 #![tactic(auto)]
 
 pub mod names;
-pub mod out;
 pub mod view;
+pub mod written;

@@ -19,8 +19,9 @@ use Rattle.supertype_nested.specs.Union.{named, join_named}
 use Rattle.supertype_nested.proofs.Found.{If, if_told}
 use Rattle.supertype_nested.proofs.Smaller.{Below, held_sizes, tree_smaller}
 use Rattle.supertype_nested.proofs.Valid.{leaves_fit}
-use Rattle.supertype_place.specs.Out.{nodes_of, room, Fits, held_at, HeldAt}
-use Rattle.supertype_place.proofs.Outs.{held_of, held_is, size_nodes}
+use Rattle.supertype_place.specs.View.{most_nodes}
+use Rattle.supertype_place.specs.Written.{nodes_of, Fits, held_at, HeldAt}
+use Rattle.supertype_place.proofs.Writes.{held_of, held_is, size_nodes}
 use Rattle.supertype_place.proofs.Finds.{named_yes, named_no}
 use Rattle.supertype_walk.specs.Comes.{get_supertype, Joined, Fails, Joins}
 
@@ -116,7 +117,7 @@ pub record Feeding (i : SuperTypeOptions) (name : ℕ) (fs : Fields) (mark : ℕ
   pub same : join_named (get_supertype i) name (held_at mark begun) fs
       ≡ join_named (get_supertype i) name (held_at mark out) rest
   pub less : size (held_at mark out) + sizes (named name rest) ≤ size (held_at mark begun) + sizes (named name fs)
-  pub space : length out + sizes (named name rest) ≤ room
+  pub space : length out + sizes (named name rest) ≤ most_nodes
 
 module _ {i : SuperTypeOptions} {name : ℕ} {fs : Fields} {mark : ℕ} {begun : List Node} {rest : Fields}
     {out : List Node} (s : Feeding i name fs mark begun rest out) where

@@ -12,8 +12,8 @@ use Rattle.flat.proofs.Sizes.{count_le}
 use Rattle.flat.proofs.Truths.{impossible}
 use Rattle.supertype_answer.specs.Join.{node}
 use Rattle.supertype_nested.specs.Nested.{Zip, names_differ, no_join, joined, zip_on}
-use Rattle.supertype_place.specs.Out.{nodes_of, nodes_ofs}
-use Rattle.supertype_place.proofs.Outs.{nodes_ofs_append, sizes_nodes}
+use Rattle.supertype_place.specs.Written.{nodes_of, nodes_ofs}
+use Rattle.supertype_place.proofs.Writes.{nodes_ofs_append, sizes_nodes}
 use Rattle.supertype_place.proofs.Repeats.{append_append, append_none, count_append}
 use Rattle.supertype_walk.proofs.Told.{kept_on}
 

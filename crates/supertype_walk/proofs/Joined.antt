@@ -27,7 +27,7 @@ use Rattle.supertype_nested.proofs.Recursive.{recursive}
 use Rattle.supertype_nested.proofs.Steps.{tree_fair}
 use Rattle.supertype_place.specs.declared.view.FlatFields.{FlatFields}
 use Rattle.supertype_place.specs.declared.view.FlatType.{FlatType}
-use Rattle.supertype_place.specs.Out.{nodes_of, held_at, HeldAt}
+use Rattle.supertype_place.specs.Written.{nodes_of, held_at, HeldAt}
 use Rattle.supertype_place.specs.Viewed.{tree_of, fields_of}
 use Rattle.supertype_place.proofs.Repeats.{count_append}
 use Rattle.supertype_place.proofs.Views.{type_front, run_front, run_many}

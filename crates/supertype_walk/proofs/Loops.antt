@@ -17,8 +17,9 @@ use Rattle.supertype_nested.specs.Union.{named, last_or, join_named, seen, with_
 use Rattle.supertype_nested.proofs.Found.{if_told}
 use Rattle.supertype_nested.proofs.Names.{out_same, outside_none}
 use Rattle.supertype_nested.proofs.Smaller.{Below, tree_smaller}
-use Rattle.supertype_place.specs.Out.{nodes_of, room, Fits}
-use Rattle.supertype_place.proofs.Outs.{size_nodes}
+use Rattle.supertype_place.specs.View.{most_nodes}
+use Rattle.supertype_place.specs.Written.{nodes_of, Fits}
+use Rattle.supertype_place.proofs.Writes.{size_nodes}
 use Rattle.supertype_place.proofs.Repeats.{append_append, append_names, append_sizes}
 use Rattle.supertype_walk.specs.Comes.{get_supertype, Joined, Filled, Zips}
 use Rattle.supertype_walk.proofs.Going.{Going, zip_o, zip_none, zip_some, zip_before, going_start, going_next}
@@ -57,7 +58,7 @@ pub record Eaching (i : SuperTypeOptions) (fs : Fields) (r : DataType) (begun : 
   pub many : n + count rest ≡ count fs
   pub one : size r ≡ 1
   pub fewer : sizes rest ≤ sizes fs
-  pub space : length out + (sizes rest + 1) ≤ room
+  pub space : length out + (sizes rest + 1) ≤ most_nodes
 
 pub each_start : (i : SuperTypeOptions) (fs : Fields) (r : DataType) (old : List Node) {begun : List Node} (n : Node)
     → begun ≡ old ++ n ∷ [] → size r ≡ 1 → Fits (suc (sizes fs + size r)) old → Eaching i fs r begun fs begun
@@ -151,7 +152,7 @@ pub record Zipping (i : SuperTypeOptions) (fs gs : Fields) (begun : List Node) (
   pub many : n + count rest ≡ count fs
   pub even : count rest ≡ count left
   pub fewer : sizes rest + sizes left ≤ sizes fs + sizes gs
-  pub space : length out + (sizes rest + sizes left) ≤ room
+  pub space : length out + (sizes rest + sizes left) ≤ most_nodes
 
 pub zip_start : (i : SuperTypeOptions) (fs gs : Fields) (old : List Node) {begun : List Node} (n : Node) → begun ≡ old ++ n ∷ []
     → count fs ≡ count gs → Fits (suc (sizes fs + sizes gs)) old → Zipping i fs gs begun fs gs begun
@@ -289,7 +290,7 @@ pub record Olding (i : SuperTypeOptions) (fs gs : Fields) (begun : List Node) (r
   pub going : Going (zip_o (old_names (get_supertype i) gs [] fs))
       (zip_o (old_names (get_supertype i) gs (with_names done []) rest)) names begun out
   pub space : length out
-      + (sizes (outside (with_names done []) rest) + sizes (outside (with_names done []) gs)) ≤ room
+      + (sizes (outside (with_names done []) rest) + sizes (outside (with_names done []) gs)) ≤ most_nodes
 
 pub old_start : (i : SuperTypeOptions) (fs gs : Fields) (out : List Node) → Fits (sizes fs + sizes gs) out
     → Olding i fs gs out fs 0 out
@@ -309,7 +310,7 @@ old_start i fs gs out h =
 
 module _ {i : SuperTypeOptions} {fs gs : Fields} {begun : List Node} {rest : Fields} {names : ℕ} {out : List Node}
     (s : Olding i fs gs begun rest names out) where
-  pub old_number : names ≤ room
+  pub old_number : names ≤ most_nodes
   old_number = omega (arith, going_number s.going, s.space)
 
   pub old_end : rest ≡ empty → Filled (old_names (get_supertype i) gs [] fs) begun out names
@@ -445,7 +446,7 @@ pub record Newing (i : SuperTypeOptions) (fs gs : Fields) (begun : List Node) (r
   pub parts : gs ≡ append done rest
   pub going : Going (zip_o (new_names (get_supertype i) (with_names fs []) gs))
       (zip_o (new_names (get_supertype i) (with_names done (with_names fs [])) rest)) names begun out
-  pub space : length out + sizes (outside (with_names done (with_names fs [])) rest) ≤ room
+  pub space : length out + sizes (outside (with_names done (with_names fs [])) rest) ≤ most_nodes
 
 pub new_start : (i : SuperTypeOptions) (fs gs : Fields) (out : List Node) → Fits (sizes (outside (with_names fs []) gs)) out
     → Newing i fs gs out gs 0 out
@@ -460,7 +461,7 @@ new_start i fs gs out h =
 
 module _ {i : SuperTypeOptions} {fs gs : Fields} {begun : List Node} {rest : Fields} {names : ℕ} {out : List Node}
     (s : Newing i fs gs begun rest names out) where
-  pub new_number : names ≤ room
+  pub new_number : names ≤ most_nodes
   new_number = omega (arith, going_number s.going, s.space)
 
   pub new_end : rest ≡ empty → Filled (new_names (get_supertype i) (with_names fs []) gs) begun out names

@@ -14,8 +14,9 @@ use Rattle.supertype_nested.specs.Nested.{SuperTypeOptions, union_fields}
 use Rattle.supertype_nested.specs.Union.{old_names, new_names, by_names, with_names, outside}
 use Rattle.supertype_nested.proofs.Found.{if_told}
 use Rattle.supertype_nested.proofs.Names.{by_names_lem, outside_none}
-use Rattle.supertype_place.specs.Out.{nodes_of, nodes_ofs, room, Fits}
-use Rattle.supertype_place.proofs.Outs.{nodes_ofs_append, sizes_nodes}
+use Rattle.supertype_place.specs.View.{most_nodes}
+use Rattle.supertype_place.specs.Written.{nodes_of, nodes_ofs, Fits}
+use Rattle.supertype_place.proofs.Writes.{nodes_ofs_append, sizes_nodes}
 use Rattle.supertype_place.proofs.Repeats.{count_append}
 use Rattle.supertype_walk.specs.Comes.{get_supertype, Joined, Fails, Filled}
 use Rattle.supertype_walk.proofs.Told.{kept_on, struct_closed}
@@ -74,7 +75,7 @@ module _ (i : SuperTypeOptions) (fs gs : Fields) where
       -- both are fields
       module _ {out : List Node} {b : ℕ} (v : Filled (new_names (get_supertype i) (with_names fs []) gs) mid out b) where
         -- the number of names
-        pub merged_names : a + b ≤ room
+        pub merged_names : a + b ≤ most_nodes
         merged_names =
             let y = if_told (λ (hs : Fields). sizes hs ≤ sizes (outside (with_names fs []) gs)) news v.fields v.is (new_sizes i (with_names fs []) gs) in
             omega (arith, y, m, bound, w.number, v.number, count_le w.fields, count_le v.fields)

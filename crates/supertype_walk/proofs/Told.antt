@@ -18,7 +18,7 @@ use Rattle.supertype_nested.specs.Nested.{SuperTypeOptions, TreeCall, join_held}
 use Rattle.supertype_nested.specs.Union.{named, join_named}
 use Rattle.supertype_nested.proofs.Found.{If, if_weaken}
 use Rattle.supertype_nested.proofs.Smaller.{held_sizes, tree_smaller}
-use Rattle.supertype_place.specs.Out.{nodes_of, nodes_ofs}
+use Rattle.supertype_place.specs.Written.{nodes_of, nodes_ofs}
 use Rattle.supertype_walk.specs.Comes.{get_supertype, Joins}
 
 -- ---- what stood before

@@ -4,7 +4,7 @@ use Rattle.flat.specs.Tree.{DataType, Fields, struct, count}
 use Rattle.flat.specs.declared.Node.{Node}
 use Rattle.supertype_nested.specs.Nested.{SuperTypeOptions, TreeCall, supertype_tree}
 use Rattle.supertype_nested.specs.Nested.{Zip, names_differ, no_join, joined}
-use Rattle.supertype_place.specs.Out.{nodes_of, nodes_ofs}
+use Rattle.supertype_place.specs.Written.{nodes_of, nodes_ofs}
 use Rattle.supertype_walk.specs.declared.walk.Unzipped.{Unzipped}
 
 -- `get_supertype`: an inner call, with the flags i

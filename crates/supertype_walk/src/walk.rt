@@ -7,7 +7,7 @@ ghost use Rattle.supertype_answer.specs.Join.{node};
 ghost use Rattle.supertype_nested.specs.Nested.{supertype_tree, join_held, join_each, zip_fields, union_fields};
 ghost use Rattle.supertype_nested.specs.Step.{in_place};
 ghost use Rattle.supertype_nested.specs.Union.{named, join_named, old_names, new_names, with_names, outside};
-ghost use Rattle.supertype_place.specs.Out.{nodes_of, Fits, HeldAt, held_at};
+ghost use Rattle.supertype_place.specs.Written.{nodes_of, Fits, HeldAt, held_at};
 ghost use Rattle.supertype_place.specs.Viewed.{tree_of, fields_of};
 ghost use Rattle.supertype_step.specs.Decided.{options_of, either_fields, at_side};
 ghost use Rattle.supertype_walk.specs.Comes.{get_supertype, Joins, Fills, Zipped};
@@ -16,7 +16,7 @@ use flat::Node;
 use flat::kind::Kind;
 use supertype::node::plain;
 use supertype_place::names::{Named, SLOTS};
-use supertype_place::out::Nodes;
+use supertype_place::written::Nodes;
 use supertype_place::view::{FlatField, FlatFields, FlatType};
 use supertype_step::{Options, Side, Step, decide};
 

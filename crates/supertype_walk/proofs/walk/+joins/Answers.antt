@@ -16,7 +16,7 @@ use Rattle.std.proofs.lemmas.Result.{err_from_is_err_and}
 use Rattle.supertype_answer.specs.Join.{node}
 use Rattle.supertype_nested.specs.Union.{named}
 use Rattle.supertype_nested.proofs.Steps.{tree_fair}
-use Rattle.supertype_place.specs.Out.{nodes_of, held_at}
+use Rattle.supertype_place.specs.Written.{nodes_of, held_at}
 use Rattle.supertype_place.specs.Viewed.{tree_of, fields_of}
 use Rattle.supertype_place.proofs.Tables.{is_nothing, there_is}
 use Rattle.supertype_place.proofs.Views.{type_front, run_front, run_many}

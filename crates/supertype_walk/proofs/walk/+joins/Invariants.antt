@@ -3,7 +3,7 @@
 use Prim.Native.Nat.{ℕ, ◌+◌, ◌*◌}
 use Rattle.flat.specs.Tree.{size, sizes}
 use Rattle.supertype_nested.specs.Union as names
-use Rattle.supertype_place.specs.Out.{held_at}
+use Rattle.supertype_place.specs.Written.{held_at}
 use Rattle.supertype_place.specs.Viewed.{tree_of, fields_of}
 use Rattle.supertype_step.specs.Decided.{options_of}
 use Rattle.supertype_walk.proofs.Fed.{Feeding}

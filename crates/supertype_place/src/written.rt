@@ -3,7 +3,7 @@ ghost use Rattle.std.specs.Prelude.{◌≡◌, [], ◌∷◌, ◌++◌, ◌<◌,
 ghost use Rattle.flat.specs.Kind.{Struct};
 ghost use Rattle.flat.specs.Tree.{size};
 ghost use Rattle.supertype_answer.specs.Join.{node};
-ghost use Rattle.supertype_place.specs.Out.{nodes_of, room, Fits, held_at, HeldAt};
+ghost use Rattle.supertype_place.specs.Written.{nodes_of, Fits, held_at, HeldAt};
 ghost use Rattle.supertype_place.specs.Viewed.{tree_of};
 
 use crate::view::FlatType;
@@ -28,7 +28,7 @@ impl Model for Nodes {
 
     ghost Value = { List Node };
 
-    ghost use Rattle.supertype_place.specs.Out.{nodes_at};
+    ghost use Rattle.supertype_place.specs.Written.{nodes_at};
 
     ghost view = { λ n. nodes_at n.kinds.items n.args.items };
 
@@ -54,7 +54,7 @@ impl Nodes {
 
     // One node more.
     pub fn push(&mut self, node: Node)
-        requires { length self.old < room }
+        requires { Fits 1 self.old }
         ensures { self.new ≡ self.old ++ node ∷ [] }
     {
         self.kinds.push(node.kind);

@@ -24,7 +24,7 @@ use Rattle.supertype_place.specs.View.{from, most_nodes}
 use Rattle.supertype_place.proofs.Views.{TypeFront, front_type}
 use Rattle.flat.proofs.Sizes.{length_kinds, length_args, length_kindss, length_argss}
 use Rattle.supertype_answer.specs.Join.{node}
-use Rattle.supertype_place.specs.Out.{nodes_at, nodes_of, nodes_ofs, held_at, HeldAt}
+use Rattle.supertype_place.specs.Written.{nodes_at, nodes_of, nodes_ofs, held_at, HeldAt}
 
 -- ---- kinds and arguments
 

@@ -6,6 +6,7 @@ use Rattle.flat.specs.Walk.{type_at}
 use Rattle.flat.specs.declared.Node.{Node}
 use Rattle.supertype_answer.specs.Join.{node}
 use Rattle.supertype_nested.specs.Laws.{LeavesFit}
+use Rattle.supertype_place.specs.View.{most_nodes}
 
 -- kinds and arguments as nodes
 unfoldable pub nodes_at : (ks xs : List ℕ) → List Node
@@ -25,13 +26,9 @@ unfoldable mutual
   nodes_ofs empty = []
   nodes_ofs (field name t fs) = node kind.Field name ∷ (nodes_of t ++ nodes_ofs fs)
 
--- as many nodes as the two largest types have together: no step on the way has more
-abbrev pub room : ℕ
-room = 1024
-
 -- n nodes more fit
 abbrev pub Fits : ℕ → List Node → Type 0
-Fits n out = length out + n ≤ room
+Fits n out = length out + n ≤ most_nodes
 
 -- the type whose nodes stand from the mark on
 unfoldable pub held_at : ℕ → List Node → DataType
