@@ -41,14 +41,21 @@ fn declared<'a>(line: &'a str, forms: &[&str]) -> Option<&'a str> {
     forms.iter().find_map(|form| line.trim_start().strip_prefix(form)).map(word)
 }
 
+/// The type that an `impl` is of, whatever its parameters.
+fn implemented(line: &str) -> Option<&str> {
+    let rest = line.strip_prefix("impl")?;
+    let named = if rest.starts_with('<') { rest.split_once("> ")?.1 } else { rest.strip_prefix(' ')? };
+    Some(word(named))
+}
+
 /// The public functions that a module's own text declares.
 fn own_functions(text: &str, path: &str) -> Vec<Function> {
     let lines: Vec<&str> = text.lines().collect();
     let mut owner = path.to_string();
     let mut functions = Vec::new();
     for (at, line) in lines.iter().enumerate() {
-        if let Some(name) = line.strip_prefix("impl ") {
-            owner = format!("{path}::{}", word(name));
+        if let Some(name) = implemented(line) {
+            owner = format!("{path}::{name}");
         } else if *line == "}" {
             owner = path.to_string();
         } else if let Some(name) = declared(line, &["pub fn ", "pub const fn "]) {
