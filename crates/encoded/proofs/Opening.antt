@@ -14,14 +14,14 @@ use Rattle.flat.specs.declared.error.Error.TheVariants.{Length}
 use Rattle.flat.proofs.Truths.{impossible}
 use Rattle.flat.proofs.Meaning.{passes, Passed, check_passed, checked_refused}
 use Rattle.encoded.specs.Encoding.{kinds_in, args_in, decoding}
-use Rattle.encoded.specs.Answer.{nodes_in, args_left, Reads}
+use Rattle.encoded.specs.Answer.{nodes_in, args_left, ReadsArgs}
 use Rattle.encoded.specs.Opening.{flat_of}
 use Rattle.encoded.proofs.Answers.{Sized, sized, size_fits_lem, kinds_part, kinds_length, args_length, decoding_sized}
 use Rattle.encoded.proofs.Answers.{nodes_sized, nodes_none, decoding_none, decoded_fits, decoded_holds}
 use Rattle.encoded.proofs.Answers.{EncodedForm, type_form, encoded_form}
 
 -- ---- what `read` comes to
-pub reads_none : {w nodes deep : ℕ} {s xs : List ℕ} → None ≡ nodes_in w nodes s → Reads w nodes deep s xs xs (Err Length)
+pub reads_none : {w nodes deep : ℕ} {s xs : List ℕ} → None ≡ nodes_in w nodes s → ReadsArgs w nodes deep s xs xs (Err Length)
 unfolding args_left
 reads_none {w} {nodes} {deep} {s} e =
     record { answers = ap written_of (sym (decoding_none w nodes deep s e)); args = rw (nodes_none w nodes s e) }
@@ -37,14 +37,14 @@ module _ {w nodes n : ℕ} {s ks ys : List ℕ} (z : Sized w nodes n s) (k : ks 
 
   pub reads_type :
       (deep : ℕ) → Ok tt ≡ checked_of (reading nodes deep ks (take n (ys ++ drop n xs)))
-      → Reads w nodes deep s xs (ys ++ drop n xs) (Ok n)
+      → ReadsArgs w nodes deep s xs (ys ++ drop n xs) (Ok n)
   reads_type deep h =
       let f : EncodedForm w nodes deep n s = encoded_form (h ∙ ap checked_of (read_is deep)) z.count in
       record { answers = ap Ok (sym f.tree_size) ∙ ap written_of (sym f.reads); args = left_is }
 
   pub reads_refused :
       (deep : ℕ) {e : Error} → Err e ≡ checked_of (reading nodes deep ks (take n (ys ++ drop n xs)))
-      → Reads w nodes deep s xs (ys ++ drop n xs) (Err e)
+      → ReadsArgs w nodes deep s xs (ys ++ drop n xs) (Err e)
   reads_refused deep {e} h =
       let r = checked_refused (decoding w nodes deep s) e (h ∙ ap checked_of (read_is deep)) in
       record { answers = ap written_of (sym r); args = left_is }
@@ -61,7 +61,7 @@ written_refused (refused d) {e} q = let y : d ≡ e = cc in ap refused y
 written_refused (type t) q = impossible cc
 
 -- the bytes are a type of n nodes, whose arguments stand at the front of xs'
-module _ {w nodes deep n : ℕ} {s xs xs' : List ℕ} (o : Reads w nodes deep s xs xs' (Ok n)) where
+module _ {w nodes deep n : ℕ} {s xs xs' : List ℕ} (o : ReadsArgs w nodes deep s xs xs' (Ok n)) where
   pub read_form : EncodedForm w nodes deep n s
   read_form =
       let r = written_type (decoding w nodes deep s) o.answers in

@@ -22,7 +22,7 @@ unfoldable pub args_left : ℕ → ℕ → List ℕ → List ℕ → List ℕ
 args_left w nodes s xs = cond (size_fits w nodes s) (over (args_in w s) xs) xs
 
 -- What `read` comes to: its answer, and the lent arguments, xs before the call and xs' after it.
-pub record Reads (w nodes deep : ℕ) (s xs xs' : List ℕ) (answer : Result ℕ Error) : Type 0 where
+pub record ReadsArgs (w nodes deep : ℕ) (s xs xs' : List ℕ) (answer : Result ℕ Error) : Type 0 where
   pub answers : answer ≡ written_of (decoding w nodes deep s)
   pub args : xs' ≡ args_left w nodes s xs
 

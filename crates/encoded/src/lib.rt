@@ -7,7 +7,7 @@ mod opened;
 
 ghost use Rattle.std.specs.Prelude.{◌≡◌, ◌≤◌, length, IfSome};
 ghost use Rattle.flat.specs.Reading.{checked_of, root_of, RootFits};
-ghost use Rattle.encoded.specs.Answer.{plain_in, EncodeEnsures, DecodeEnsures, Puts, Reads};
+ghost use Rattle.encoded.specs.Answer.{plain_in, EncodeEnsures, DecodeEnsures, Puts, ReadsArgs};
 ghost use Rattle.encoded.specs.Limits.{decoded, counted};
 ghost use Rattle.encoded.specs.Opening.{flat_of, arrays_of};
 
@@ -55,7 +55,7 @@ pub fn is_plain(encoded: &[u8]) -> bool
 pub fn read(encoded: &[u8], args: &mut [u64]) -> Result<usize, Error>
     requires { IfSome (counted encoded.now) (λ n. n ≤ length args.old) }
     ensures { let s = encoded.now in
-        Reads Encoding.ARGUMENT_BYTES Flat.MAX_NODES Flat.MAX_DEPTH s args.old args.new result }
+        ReadsArgs Encoding.ARGUMENT_BYTES Flat.MAX_NODES Flat.MAX_DEPTH s args.old args.new result }
 {
     let n = node_count(encoded).ok_or(Error::Length)?;
     let (kinds, words) = encoded[2..].split_at(n);

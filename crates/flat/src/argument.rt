@@ -12,56 +12,56 @@ pub const DEC128_MAX_PREC: u64 = 38;
 
 // The parts of a Decimal's argument, 256 × scale + precision.
 #[derive(Clone, Copy, Debug, PartialEq, Eq)]
-pub struct Decimal {
+pub struct DecimalArg {
     pub precision: u64,
     pub scale: u64,
     ghost precision_within: { precision < 256 },
     ghost scale_within: { scale < 2 ^ 56 },
 }
 
-impl From<u64> for Decimal {
+impl From<u64> for DecimalArg {
     ghost from_gives = { λ arg parts. (parts.precision ≡ arg % 256) × (parts.scale ≡ arg / 256) };
 
-    fn from(arg: u64) -> Decimal {
-        Decimal {
+    fn from(arg: u64) -> DecimalArg {
+        DecimalArg {
             precision: arg % 256,
             scale: arg / 256,
         }
     }
 }
 
-impl From<Decimal> for u64 {
+impl From<DecimalArg> for u64 {
     ghost from_gives = { λ parts arg. arg ≡ 256 * parts.scale + parts.precision };
 
-    fn from(parts: Decimal) -> u64 {
+    fn from(parts: DecimalArg) -> u64 {
         256 * parts.scale + parts.precision
     }
 }
 
 // The parts of a Datetime's argument, 4 × zone + unit.
 #[derive(Clone, Copy, Debug, PartialEq, Eq)]
-pub struct Datetime {
+pub struct DatetimeArg {
     pub unit: u64,
     pub zone: u64,
     ghost unit_within: { unit < 4 },
     ghost zone_within: { zone < 2 ^ 62 },
 }
 
-impl From<u64> for Datetime {
+impl From<u64> for DatetimeArg {
     ghost from_gives = { λ arg parts. (parts.unit ≡ arg % 4) × (parts.zone ≡ arg / 4) };
 
-    fn from(arg: u64) -> Datetime {
-        Datetime {
+    fn from(arg: u64) -> DatetimeArg {
+        DatetimeArg {
             unit: arg % 4,
             zone: arg / 4,
         }
     }
 }
 
-impl From<Datetime> for u64 {
+impl From<DatetimeArg> for u64 {
     ghost from_gives = { λ parts arg. arg ≡ 4 * parts.zone + parts.unit };
 
-    fn from(parts: Datetime) -> u64 {
+    fn from(parts: DatetimeArg) -> u64 {
         4 * parts.zone + parts.unit
     }
 }
@@ -70,7 +70,7 @@ impl From<Datetime> for u64 {
 fn decimal_fits(arg: u64) -> bool
     ensures { result ≡ decimal_fits arg }
 {
-    let parts = Decimal::from(arg);
+    let parts = DecimalArg::from(arg);
     1 <= parts.precision && parts.precision <= DEC128_MAX_PREC && parts.scale <= parts.precision
 }
 
@@ -78,7 +78,7 @@ fn decimal_fits(arg: u64) -> bool
 fn datetime_fits(arg: u64) -> bool
     ensures { result ≡ datetime_fits arg }
 {
-    let parts = Datetime::from(arg);
+    let parts = DatetimeArg::from(arg);
     parts.unit < TIME_UNITS && parts.zone < 0x1_0000_0000
 }
 

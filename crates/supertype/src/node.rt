@@ -13,7 +13,7 @@ ghost use Rattle.supertype_arms.specs.Rule.{rule_of, Apart};
 
 use dtype::node::equal_node;
 use flat::Node;
-use flat::argument::{DEC128_MAX_PREC, Datetime, Decimal};
+use flat::argument::{DEC128_MAX_PREC, DatetimeArg, DecimalArg};
 use flat::kind::Kind;
 use supertype_arms::number::numeric_supertype;
 use supertype_arms::plan::{Plan, planned};
@@ -33,9 +33,9 @@ pub fn plain(kind: u8) -> Node
 fn decimals(l: Node, r: Node) -> Node
     ensures { result ≡ decimal (max (precision l) (precision r)) (max (scale l) (scale r)) }
 {
-    let a = Decimal::from(l.arg);
-    let b = Decimal::from(r.arg);
-    let parts = Decimal {
+    let a = DecimalArg::from(l.arg);
+    let b = DecimalArg::from(r.arg);
+    let parts = DecimalArg {
         precision: a.precision.max(b.precision),
         scale: a.scale.max(b.scale),
     };
@@ -49,9 +49,9 @@ fn decimals(l: Node, r: Node) -> Node
 fn widened(n: Node) -> Node
     ensures { result ≡ decimal dec128_max_prec (scale n) }
 {
-    let parts = Decimal {
+    let parts = DecimalArg {
         precision: DEC128_MAX_PREC,
-        scale: Decimal::from(n.arg).scale,
+        scale: DecimalArg::from(n.arg).scale,
     };
     Node {
         kind: Kind::DECIMAL,
@@ -64,7 +64,7 @@ fn beside_integer(n: Node, dt: u8) -> Node
     requires { (n.kind ≡ kind.Decimal) × (fits n ≡ true) × Listed dt }
     ensures { result ≡ beside_integer n dt }
 {
-    let parts = Decimal::from(n.arg);
+    let parts = DecimalArg::from(n.arg);
     if digits(dt) <= parts.precision - parts.scale {
         n
     } else {
@@ -76,9 +76,9 @@ fn beside_integer(n: Node, dt: u8) -> Node
 fn datetime(l: Node, r: Node) -> Node
     ensures { result ≡ node kind.Datetime (4 * (l.arg / 4) + max (l.arg % 4) (r.arg % 4)) }
 {
-    let a = Datetime::from(l.arg);
-    let b = Datetime::from(r.arg);
-    let parts = Datetime {
+    let a = DatetimeArg::from(l.arg);
+    let b = DatetimeArg::from(r.arg);
+    let parts = DatetimeArg {
         unit: a.unit.max(b.unit),
         zone: a.zone,
     };
@@ -92,7 +92,7 @@ fn datetime(l: Node, r: Node) -> Node
 fn same_zone(l: Node, r: Node) -> bool
     ensures { result ≡ eqb (l.arg / 4) (r.arg / 4) }
 {
-    Datetime::from(l.arg).zone == Datetime::from(r.arg).zone
+    DatetimeArg::from(l.arg).zone == DatetimeArg::from(r.arg).zone
 }
 
 // The smallest type for the dyn int v beside the integer type dt.

@@ -22,9 +22,9 @@ use Rattle.supertype_nested.specs.Step.{repeats}
 use Rattle.supertype_nested.specs.Union.{named, seen, with_names}
 use Rattle.supertype_place.specs.declared.view.FlatField.{FlatField}
 use Rattle.supertype_place.specs.declared.view.FlatFields.{FlatFields}
-use Rattle.supertype_place.specs.Names.{slots, Table, TableOf, Kept}
+use Rattle.supertype_place.specs.Names.{slots, Table, TableOf, KeptField}
 use Rattle.supertype_place.specs.View.{from, type_stands}
-use Rattle.supertype_place.specs.Viewed.{tree_of, fields_of, front_of, Gives}
+use Rattle.supertype_place.specs.Viewed.{viewed, viewed_run, front_of, Gives}
 use Rattle.supertype_place.proofs.Finds.{named_yes, named_no, has_no}
 use Rattle.supertype_place.proofs.Repeats.{append_named, append_repeats, not_seen, once_new, append_append, append_none, count_append}
 use Rattle.supertype_place.proofs.Repeats.{front_done, last_none, once_last}
@@ -168,7 +168,7 @@ there_is (Some x) e = (x, refl)
 -- The loop over the fields `whole` has come to `rest`: the table is one of the fields before.
 pub record Entering (whole rest : FlatFields) (table : List (Option ℕ)) : Type 0 where
   pub done : Fields
-  pub parts : fields_of whole ≡ append done (fields_of rest)
+  pub parts : viewed_run whole ≡ append done (viewed_run rest)
   pub entered : Table done whole.kinds.now whole.args.now table
   -- where the rest stands
   pub at : ℕ
@@ -189,36 +189,36 @@ enter_start fs e = record {
 
 -- the fields before one, by their number
 pub before_is : (whole : FlatFields) (f : FlatField) (rest : FlatFields) {done before : Fields}
-    → fields_of whole ≡ append done (field f.name (tree_of f.dtype) (fields_of rest))
-    → before ≡ front_of (whole.left - rest.left - 1) (fields_of whole) → before ≡ done
+    → viewed_run whole ≡ append done (field f.name (viewed f.dtype) (viewed_run rest))
+    → before ≡ front_of (whole.left - rest.left - 1) (viewed_run whole) → before ≡ done
 unfolding count
 before_is whole f rest {done} {before} e h =
     let a = run_many (run_front whole.stand) in
     let b = run_many (run_front rest.stand) in
-    let n = ap count e ∙ count_append done (field f.name (tree_of f.dtype) (fields_of rest)) in
+    let n = ap count e ∙ count_append done (field f.name (viewed f.dtype) (viewed_run rest)) in
     let k : whole.left - rest.left - 1 ≡ count done = omega (arith, a, b, n) in
     h ∙ ap₂ front_of k e ∙ front_done done _
 
 -- whether a name is among them
 pub seen_before : (whole : FlatFields) (f : FlatField) (rest : FlatFields) (done : Fields) {before : Fields}
-    → fields_of whole ≡ append done (field f.name (tree_of f.dtype) (fields_of rest))
-    → before ≡ front_of (whole.left - rest.left - 1) (fields_of whole) → {r : Bool}
+    → viewed_run whole ≡ append done (field f.name (viewed f.dtype) (viewed_run rest))
+    → before ≡ front_of (whole.left - rest.left - 1) (viewed_run whole) → {r : Bool}
     → r ≡ seen (with_names before []) f.name → r ≡ seen (with_names done []) f.name
 seen_before whole f rest done e b h =
     h ∙ ap (λ (fs : Fields). seen (with_names fs []) f.name) (before_is whole f rest e b)
 
 module _ {whole rest : FlatFields} {table : List (Option ℕ)} (s : Entering whole rest table) where
   -- no name was repeated
-  pub enter_end : fields_of rest ≡ empty
-      → (true ≡ not (repeats [] (fields_of whole))) × Table (fields_of whole) whole.kinds.now whole.args.now table
+  pub enter_end : viewed_run rest ≡ empty
+      → (true ≡ not (repeats [] (viewed_run whole))) × Table (viewed_run whole) whole.kinds.now whole.args.now table
   enter_end z =
-      let e : fields_of whole ≡ s.done = s.parts ∙ ap (append s.done) z ∙ append_none s.done in (
+      let e : viewed_run whole ≡ s.done = s.parts ∙ ap (append s.done) z ∙ append_none s.done in (
         ap not (sym (ap (repeats []) e ∙ s.entered.distinct)),
         subst (λ (fs : Fields). Table fs whole.kinds.now whole.args.now table) (sym e) s.entered,
       )
 
   module _ {f : FlatField} {new : FlatFields} (g : Gives rest f new) where
-    parts_on : fields_of whole ≡ append s.done (field f.name (tree_of f.dtype) (fields_of new))
+    parts_on : viewed_run whole ≡ append s.done (field f.name (viewed f.dtype) (viewed_run new))
     parts_on = s.parts ∙ ap (append s.done) g.fields
 
     kinds_on : f.dtype.kinds.now ≡ from (s.at + 1) whole.kinds.now
@@ -242,7 +242,7 @@ module _ {whole rest : FlatFields} {table : List (Option ℕ)} (s : Entering who
     enter_left =
         let a = run_many (run_front whole.stand) in
         let b = run_many (run_front new.stand) in
-        omega (arith, a, b, ap count parts_on ∙ count_append s.done (field f.name (tree_of f.dtype) (fields_of new)))
+        omega (arith, a, b, ap count parts_on ∙ count_append s.done (field f.name (viewed f.dtype) (viewed_run new)))
 
     -- where the field stands
     pub enter_place : length whole.kinds.now - length f.dtype.kinds.now - 1 ≡ s.at
@@ -263,13 +263,13 @@ module _ {whole rest : FlatFields} {table : List (Option ℕ)} (s : Entering who
       done = append s.done (field (get_or whole.args.now s.at 0)
           (type_at (from (s.at + 1) whole.kinds.now) (from (s.at + 1) whole.args.now)) empty);
       parts = parts_on
-          ∙ sym (append_append s.done (field f.name (tree_of f.dtype) empty) (fields_of new))
-          ∙ ap₂ (λ (n : ℕ) (t : DataType). append (append s.done (field n t empty)) (fields_of new)) name_on
+          ∙ sym (append_append s.done (field f.name (viewed f.dtype) empty) (viewed_run new))
+          ∙ ap₂ (λ (n : ℕ) (t : DataType). append (append s.done (field n t empty)) (viewed_run new)) name_on
           (ap₂ type_at kinds_on args_on);
       entered = T;
-      at = s.at + 1 + size (tree_of f.dtype);
-      kinds = g.kinds_behind ∙ ap (from (size (tree_of f.dtype))) kinds_on ∙ onward (s.at + 1) _ _ whole.kinds.now refl;
-      args = g.args_behind ∙ ap (from (size (tree_of f.dtype))) args_on ∙ onward (s.at + 1) _ _ whole.args.now refl;
+      at = s.at + 1 + size (viewed f.dtype);
+      kinds = g.kinds_behind ∙ ap (from (size (viewed f.dtype))) kinds_on ∙ onward (s.at + 1) _ _ whole.kinds.now refl;
+      args = g.args_behind ∙ ap (from (size (viewed f.dtype))) args_on ∙ onward (s.at + 1) _ _ whole.args.now refl;
     }
 
     -- the name's slot is free
@@ -283,7 +283,7 @@ module _ {whole rest : FlatFields} {table : List (Option ℕ)} (s : Entering who
         (entered_on (table_set s.entered s.at stands_on
         (s.entered.absent _ (subst (λ (n : ℕ). get_or table (n % slots) None ≡ None) name_on z)))))
 
-    module _ {before : Fields} (b : before ≡ front_of (whole.left - new.left - 1) (fields_of whole)) {r : Bool}
+    module _ {before : Fields} (b : before ≡ front_of (whole.left - new.left - 1) (viewed_run whole)) {r : Bool}
         (h : r ≡ seen (with_names before []) f.name) where
       seen_done : r ≡ seen (with_names s.done []) f.name
       seen_done = seen_before whole f new s.done parts_on b h
@@ -296,10 +296,10 @@ module _ {whole rest : FlatFields} {table : List (Option ℕ)} (s : Entering who
           (λ z. full (subst (λ (n : ℕ). get_or table (n % slots) None ≡ None) (sym name_on) z)))
 
       -- a field before has the name
-      pub enter_again : r ≡ true → false ≡ not (repeats [] (fields_of whole))
-      enter_again t = go (repeats [] (fields_of whole)) refl
+      pub enter_again : r ≡ true → false ≡ not (repeats [] (viewed_run whole))
+      enter_again t = go (repeats [] (viewed_run whole)) refl
         where
-          go : (b : Bool) → repeats [] (fields_of whole) ≡ b → false ≡ not b
+          go : (b : Bool) → repeats [] (viewed_run whole) ≡ b → false ≡ not b
           go true q = refl
           go false q = never (sym (sym t ∙ seen_done ∙ once_new _ _ _ _ (ap (repeats []) (sym parts_on) ∙ q)))
 
@@ -307,13 +307,13 @@ module _ {whole rest : FlatFields} {table : List (Option ℕ)} (s : Entering who
 
 module _ (fs : FlatFields) {o : Option (List (Option ℕ))} (t : ∥ TableOf o fs ∥₁) {table : List (Option ℕ)}
     (e : o ≡ Some table) where
-  told : ∥ Table (fields_of fs) fs.kinds.now fs.args.now table ∥₁
+  told : ∥ Table (viewed_run fs) fs.kinds.now fs.args.now table ∥₁
   told = rw e at t
 
-  pub told_distinct : repeats [] (fields_of fs) ≡ false
+  pub told_distinct : repeats [] (viewed_run fs) ≡ false
   told_distinct = ∥∥₁_elim told (Bool-set _ _) (λ T. T.distinct)
 
-  pub told_absent : (name : ℕ) → get_or table (name % slots) None ≡ None → named name (fields_of fs) ≡ empty
+  pub told_absent : (name : ℕ) → get_or table (name % slots) None ≡ None → named name (viewed_run fs) ≡ empty
   told_absent name z = squash_fields _ _ told (λ T. T.absent name z)
 
   pub told_type : (s p : ℕ) → get_or table s None ≡ Some p
@@ -321,29 +321,29 @@ module _ (fs : FlatFields) {o : Option (List (Option ℕ))} (t : ∥ TableOf o f
   told_type s p h = ∥∥₁_elim told (Bool-set _ _) (λ T. T.type s p h)
 
   pub told_alone : (s p : ℕ) → get_or table s None ≡ Some p
-      → named (get_or fs.args.now p 0) (fields_of fs)
+      → named (get_or fs.args.now p 0) (viewed_run fs)
       ≡ field (get_or fs.args.now p 0) (type_at (from (p + 1) fs.kinds.now) (from (p + 1) fs.args.now)) empty
   told_alone s p h = squash_fields _ _ told (λ T. T.alone s p h)
 
   -- the field of the name, and none behind it
   pub told_field : (s p : ℕ) → get_or table s None ≡ Some p → {name : ℕ} → get_or fs.args.now p 0 ≡ name
-      → {none : Fields} → none ≡ front_of 0 (fields_of fs)
-      → named name (fields_of fs)
+      → {none : Fields} → none ≡ front_of 0 (viewed_run fs)
+      → named name (viewed_run fs)
       ≡ field name (type_at (from (p + 1) fs.kinds.now) (from (p + 1) fs.args.now)) (named name none)
   unfolding named front_of
   told_field s p h {name} e {none} z =
       let t : DataType = type_at (from (p + 1) fs.kinds.now) (from (p + 1) fs.args.now) in
-      subst (λ (n : ℕ). named n (fields_of fs) ≡ field n t empty) e (told_alone s p h)
+      subst (λ (n : ℕ). named n (viewed_run fs) ≡ field n t empty) e (told_alone s p h)
       ∙ ap (λ (gs : Fields). field name t (named name gs)) (sym z)
 
 -- a field of a run that repeats no name keeps its type
 pub kept_once : {fs : Fields} (f : FlatField) (rest : FlatFields) → repeats [] fs ≡ false → (done : Fields)
-    → fs ≡ append done (field f.name (tree_of f.dtype) (fields_of rest)) → Kept done f (fields_of rest) f
+    → fs ≡ append done (field f.name (viewed f.dtype) (viewed_run rest)) → KeptField done f (viewed_run rest) f
 kept_once {fs} f rest e done h =
     let d = ap (repeats []) (sym h) ∙ e in
     record {
-      new = once_new f.name done (tree_of f.dtype) (fields_of rest) d;
+      new = once_new f.name done (viewed f.dtype) (viewed_run rest) d;
       name = refl;
-      last = sym (last_none f.name (tree_of f.dtype) (fields_of rest)
-          (once_last f.name done (tree_of f.dtype) (fields_of rest) d));
+      last = sym (last_none f.name (viewed f.dtype) (viewed_run rest)
+          (once_last f.name done (viewed f.dtype) (viewed_run rest) d));
     }

@@ -31,7 +31,7 @@ use Rattle.dtype_eq.specs.Nodes.{starts_with}
 use Rattle.dtype_eq.proofs.Scans.{starts_type}
 use Rattle.dtype_inner.specs.Inner.{inner_dtype}
 use Rattle.supertype_nested.specs.Laws.{Each, LeavesFit, FieldsFit}
-use Rattle.supertype_place.specs.View.{from, most_nodes, leaves_fit, fields_fit, read_fits, alike, type_stands, run_stands}
+use Rattle.supertype_place.specs.View.{from, most_nodes, leaves_fit, fields_fit, read_fits, paired, type_stands, run_stands}
 use Rattle.supertype_place.specs.Viewed.{front_of}
 
 -- ---- the tests
@@ -70,12 +70,12 @@ mutual
   test_fields (field name t fs) f = both_yes f.0 (both_yes (test_leaves t f.1) (test_fields fs f.2))
 
 -- two arrays of one length, no larger than any step needs
-alike_of : (ks xs : List ℕ) → alike ks xs ≡ true → (length ks ≡ length xs) × (length ks ≤ most_nodes)
+alike_of : (ks xs : List ℕ) → paired ks xs ≡ true → (length ks ≡ length xs) × (length ks ≤ most_nodes)
 alike_of ks xs e =
     let a = both_true (eqb (length ks) (length xs)) (leb (length ks) most_nodes) e in
     (eqb-true (length ks) (length xs) a.0, leb-true (length ks) most_nodes a.1)
 
-test_alike : (ks xs : List ℕ) → length ks ≡ length xs → length ks ≤ most_nodes → alike ks xs ≡ true
+test_alike : (ks xs : List ℕ) → length ks ≡ length xs → length ks ≤ most_nodes → paired ks xs ≡ true
 test_alike ks xs e h = both_yes (eq-eqb (length ks) (length xs) e) (le-leb (length ks) most_nodes h)
 
 -- A type at the front. The orders follow from the rest, and stand here for the arithmetic of the code.
@@ -129,7 +129,7 @@ front_run m ks xs h v f = record {
 pub type_front : {ks xs : List ℕ} → type_stands ks xs ≡ true → TypeFront ks xs
 unfolding type_stands
 type_front {ks} {xs} e =
-    let a = both_true (alike ks xs) (read_fits leaves_fit (node_at ks xs)) e in
+    let a = both_true (paired ks xs) (read_fits leaves_fit (node_at ks xs)) e in
     let b = alike_of ks xs a.0 in
     let r = some_read leaves_fit (node_at ks xs) a.1 in
     front_type ks xs b.1 (valid_of (node_of ks xs r.0 b.0 r.1))
@@ -138,7 +138,7 @@ type_front {ks} {xs} e =
 pub run_front : {m : ℕ} {ks xs : List ℕ} → run_stands m ks xs ≡ true → RunFront m ks xs
 unfolding run_stands
 run_front {m} {ks} {xs} e =
-    let a = both_true (alike ks xs) (read_fits fields_fit (fields_at m ks xs)) e in
+    let a = both_true (paired ks xs) (read_fits fields_fit (fields_at m ks xs)) e in
     let b = alike_of ks xs a.0 in
     let r = some_read fields_fit (fields_at m ks xs) a.1 in
     front_run m ks xs b.1 (subst (FrontFields m ks xs) (sym (run_is m ks xs r.0 r.1)) (run_of m ks xs r.0 b.0 r.1))

@@ -5,7 +5,7 @@ use Rattle.flat.specs.Walk.{type_at}
 use Rattle.supertype_nested.specs.Step.{repeats}
 use Rattle.supertype_nested.specs.Union.{named, last_or, seen, with_names}
 use Rattle.supertype_place.specs.View.{from, type_stands}
-use Rattle.supertype_place.specs.Viewed.{tree_of, fields_of}
+use Rattle.supertype_place.specs.Viewed.{viewed, viewed_run}
 use Rattle.supertype_place.specs.declared.view.FlatField.{FlatField}
 use Rattle.supertype_place.specs.declared.view.FlatFields.{FlatFields}
 
@@ -24,30 +24,30 @@ pub record Table (fs : Fields) (ks xs : List ℕ) (table : List (Option ℕ)) : 
 
 -- a table, where there is one
 abbrev pub TableOf : Option (List (Option ℕ)) → FlatFields → Type 0
-TableOf (Some table) fs = Table (fields_of fs) fs.kinds.now fs.args.now table
+TableOf (Some table) fs = Table (viewed_run fs) fs.kinds.now fs.args.now table
 TableOf None fs = Unit {0}
 
 -- What the union holds for the name of a field that has others before it: their last type, where none before it has
 -- the name.
-pub record Kept (done : Fields) (f : FlatField) (behind : Fields) (g : FlatField) : Type 0 where
+pub record KeptField (done : Fields) (f : FlatField) (behind : Fields) (g : FlatField) : Type 0 where
   pub new : seen (with_names done []) f.name ≡ false
   pub name : g.name ≡ f.name
-  pub last : tree_of g.dtype ≡ last_or f.name (tree_of f.dtype) behind
+  pub last : viewed g.dtype ≡ last_or f.name (viewed f.dtype) behind
 
 -- the same, or that a field before it has the name
-abbrev pub KeptOr : Fields → FlatField → Fields → Option FlatField → Type 0
-KeptOr done f behind None = seen (with_names done []) f.name ≡ true
-KeptOr done f behind (Some g) = Kept done f behind g
+abbrev pub KeptFieldOr : Fields → FlatField → Fields → Option FlatField → Type 0
+KeptFieldOr done f behind None = seen (with_names done []) f.name ≡ true
+KeptFieldOr done f behind (Some g) = KeptField done f behind g
 
 -- so it is, whichever fields stand before it
 abbrev pub Keeps : Fields → FlatField → FlatFields → Option FlatField → Type 0
 Keeps fs f rest r =
-    (done : Fields) → fs ≡ append done (field f.name (tree_of f.dtype) (fields_of rest))
-    → KeptOr done f (fields_of rest) r
+    (done : Fields) → fs ≡ append done (field f.name (viewed f.dtype) (viewed_run rest))
+    → KeptFieldOr done f (viewed_run rest) r
 
 -- The name of a field of the shortest is among the longest's or among those of the fields before it, whichever these
 -- are.
 abbrev pub Known : (longest shortest : Fields) → FlatField → FlatFields → Bool → Type 0
 Known longest shortest f rest r =
-    (done : Fields) → shortest ≡ append done (field f.name (tree_of f.dtype) (fields_of rest))
+    (done : Fields) → shortest ≡ append done (field f.name (viewed f.dtype) (viewed_run rest))
     → r ≡ seen (with_names done (with_names longest [])) f.name

@@ -33,13 +33,13 @@ read_fits f None = false
 read_fits f (Some x) = f x
 
 -- two arrays of one length, which is no larger than any step needs
-abbrev pub alike : (ks xs : List ℕ) → Bool
-alike ks xs = eqb (length ks) (length xs) && leb (length ks) most_nodes
+abbrev pub paired : (ks xs : List ℕ) → Bool
+paired ks xs = eqb (length ks) (length xs) && leb (length ks) most_nodes
 
 -- a type stands at the front
 unfoldable pub type_stands : (ks xs : List ℕ) → Bool
-type_stands ks xs = alike ks xs && read_fits leaves_fit (node_at ks xs)
+type_stands ks xs = paired ks xs && read_fits leaves_fit (node_at ks xs)
 
 -- m fields stand at the front
 unfoldable pub run_stands : (m : ℕ) (ks xs : List ℕ) → Bool
-run_stands m ks xs = alike ks xs && read_fits fields_fit (fields_at m ks xs)
+run_stands m ks xs = paired ks xs && read_fits fields_fit (fields_at m ks xs)

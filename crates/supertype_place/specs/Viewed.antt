@@ -9,26 +9,26 @@ use Rattle.supertype_place.specs.declared.view.FlatField.{FlatField}
 use Rattle.supertype_place.specs.declared.view.FlatFields.{FlatFields}
 use Rattle.supertype_place.specs.declared.view.Found.{Found}
 
-abbrev pub tree_of : FlatType → DataType
-tree_of t = type_at t.kinds.now t.args.now
+abbrev pub viewed : FlatType → DataType
+viewed t = type_at t.kinds.now t.args.now
 
-abbrev pub fields_of : FlatFields → Fields
-fields_of fs = run_at fs.left fs.kinds.now fs.args.now
+abbrev pub viewed_run : FlatFields → Fields
+viewed_run fs = run_at fs.left fs.kinds.now fs.args.now
 
 -- The first field, and the fields behind it.
 pub record Gives (old : FlatFields) (f : FlatField) (new : FlatFields) : Type 0 where
-  pub fields : fields_of old ≡ field f.name (tree_of f.dtype) (fields_of new)
+  pub fields : viewed_run old ≡ field f.name (viewed f.dtype) (viewed_run new)
   pub left : old.left ≡ suc new.left
   pub name : f.name ≡ get_or old.args.now 0 0
   -- where they stand
   pub kinds : f.dtype.kinds.now ≡ from 1 old.kinds.now
   pub args : f.dtype.args.now ≡ from 1 old.args.now
-  pub kinds_behind : new.kinds.now ≡ from (size (tree_of f.dtype)) f.dtype.kinds.now
-  pub args_behind : new.args.now ≡ from (size (tree_of f.dtype)) f.dtype.args.now
+  pub kinds_behind : new.kinds.now ≡ from (size (viewed f.dtype)) f.dtype.kinds.now
+  pub args_behind : new.args.now ≡ from (size (viewed f.dtype)) f.dtype.args.now
 
 -- there are none
 pub record Ends (old new : FlatFields) : Type 0 where
-  pub none : fields_of old ≡ empty
+  pub none : viewed_run old ≡ empty
   pub left : old.left ≡ 0
   pub still : new ≡ old
 
@@ -40,7 +40,7 @@ GivesField old (Some f) new = Gives old f new
 -- the first field of a name, and the fields behind it, if there is one
 abbrev pub FoundIn : ℕ → Fields → Option Found → Type 0
 FoundIn name fs None = named name fs ≡ empty
-FoundIn name fs (Some f) = named name fs ≡ field name (tree_of f.dtype) (named name (fields_of f.rest))
+FoundIn name fs (Some f) = named name fs ≡ field name (viewed f.dtype) (named name (viewed_run f.rest))
 
 -- the first n fields
 unfoldable pub front_of : ℕ → Fields → Fields

@@ -19,13 +19,13 @@ impl<'a> Named<'a> {
     ghost use Rattle.std.specs.Prelude.{◌<◌, is_some, not, []};
     ghost use Rattle.supertype_nested.specs.Step.{repeats};
     ghost use Rattle.supertype_place.specs.Names.{Keeps, Known};
-    ghost use Rattle.supertype_place.specs.Viewed.{fields_of, FoundIn};
+    ghost use Rattle.supertype_place.specs.Viewed.{viewed_run, FoundIn};
 
     // The fields, entered into a table.
     pub fn new(fields: FlatFields<'a>, table: &'a mut [Option<u16>]) -> Named<'a>
         requires { table.old ≡ replicate slots None }
         ensures same { result.fields ≡ fields.entry }
-        ensures distinct { is_some result.table ≡ not (repeats [] (fields_of fields.entry)) }
+        ensures distinct { is_some result.table ≡ not (repeats [] (viewed_run fields.entry)) }
     {
         let mut rest = fields;
         while let Some(field) = rest.next() {
@@ -57,7 +57,7 @@ impl<'a> Named<'a> {
 
     // The first field of the name.
     pub fn find(self, name: u64) -> Option<Found<'a>>
-        ensures { FoundIn name (fields_of self.entry.fields) result }
+        ensures { FoundIn name (viewed_run self.entry.fields) result }
     {
         if let Some(table) = self.table {
             let at = table[name as usize % SLOTS]? as usize;
@@ -79,7 +79,7 @@ impl<'a> Named<'a> {
     // a field before it has the name.
     pub fn kept(self, field: FlatField<'a>, rest: FlatFields<'a>) -> Option<FlatField<'a>>
         requires { rest.left < self.fields.left }
-        ensures { Keeps (fields_of self.entry.fields) field.entry rest.entry result }
+        ensures { Keeps (viewed_run self.entry.fields) field.entry rest.entry result }
     {
         let name = field.name;
         if self.table.is_some() {
@@ -97,7 +97,8 @@ impl<'a> Named<'a> {
     // Whether a field of the longest, or one of the shortest before the one with `rest` behind it, has its name.
     pub fn knows(self, shortest: Named, field: FlatField, rest: FlatFields) -> bool
         requires { rest.left < shortest.fields.left }
-        ensures { Known (fields_of self.entry.fields) (fields_of shortest.entry.fields) field.entry rest.entry result }
+        ensures { let fs = viewed_run self.entry.fields in
+            Known fs (viewed_run shortest.entry.fields) field.entry rest.entry result }
     {
         let name = field.name;
         self.find(name).is_some()

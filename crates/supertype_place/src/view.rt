@@ -45,11 +45,11 @@ impl<'a> FlatType<'a> {
     ghost use Rattle.dtype.specs.Equality.{equal};
     ghost use Rattle.dtype_inner.specs.Inner.{inner_dtype};
     ghost use Rattle.supertype_answer.specs.Join.{node};
-    ghost use Rattle.supertype_place.specs.Viewed.{tree_of, fields_of};
+    ghost use Rattle.supertype_place.specs.Viewed.{viewed, viewed_run};
 
     // Its root: a kind and an argument.
     pub fn root(self) -> Node
-        ensures { let t = tree_of self.entry in result ≡ node (head_kind t) (head_arg t) }
+        ensures { let t = viewed self.entry in result ≡ node (head_kind t) (head_arg t) }
     {
         Node {
             kind: self.kinds[0],
@@ -59,7 +59,7 @@ impl<'a> FlatType<'a> {
 
     // How many nodes it has.
     pub fn nodes(self) -> usize
-        ensures { result ≡ size (tree_of self.entry) }
+        ensures { result ≡ size (viewed self.entry) }
     {
         if self.kinds[0] < Kind::LIST {
             return 1;
@@ -70,8 +70,8 @@ impl<'a> FlatType<'a> {
 
     // The type under a List or an Array.
     pub fn inner(self) -> FlatType<'a>
-        requires { let k = head_kind (tree_of self) in (List ≤ k) × (k ≤ Array) }
-        ensures { inner_dtype (tree_of self.entry) ≡ Some (tree_of result) }
+        requires { let k = head_kind (viewed self) in (List ≤ k) × (k ≤ Array) }
+        ensures { inner_dtype (viewed self.entry) ≡ Some (viewed result) }
     {
         FlatType {
             kinds: &self.kinds[1..],
@@ -81,8 +81,8 @@ impl<'a> FlatType<'a> {
 
     // The fields of a Struct.
     pub fn fields(self) -> FlatFields<'a>
-        requires { head_kind (tree_of self) ≡ Struct }
-        ensures { tree_of self.entry ≡ struct (fields_of result) }
+        requires { head_kind (viewed self) ≡ Struct }
+        ensures { viewed self.entry ≡ struct (viewed_run result) }
     {
         FlatFields {
             kinds: &self.kinds[1..],
@@ -93,7 +93,7 @@ impl<'a> FlatType<'a> {
 
     // `==` of two types.
     pub fn same(self, other: FlatType) -> bool
-        ensures { result ≡ equal (tree_of self.entry) (tree_of other.entry) }
+        ensures { result ≡ equal (viewed self.entry) (viewed other.entry) }
     {
         let n = other.nodes();
         starts_with(self.kinds, self.args, &other.kinds[..n], &other.args[..n])
@@ -130,12 +130,12 @@ impl<'a> FlatFields<'a> {
     ghost use Rattle.std.specs.Prelude.{◌-◌, ◌<◌, ◌≤◌, []};
     ghost use Rattle.supertype_nested.specs.Step.{in_place};
     ghost use Rattle.supertype_nested.specs.Union.{last_or, seen, with_names};
-    ghost use Rattle.supertype_place.specs.Viewed.{tree_of, fields_of, FoundIn, front_of};
+    ghost use Rattle.supertype_place.specs.Viewed.{viewed, viewed_run, FoundIn, front_of};
 
     // The first n fields.
     pub fn front(self, n: u64) -> FlatFields<'a>
         requires { n ≤ self.left }
-        ensures { fields_of result ≡ front_of n (fields_of self.entry) }
+        ensures { viewed_run result ≡ front_of n (viewed_run self.entry) }
     {
         FlatFields {
             kinds: self.kinds,
@@ -147,14 +147,14 @@ impl<'a> FlatFields<'a> {
     // The fields before the one that has `rest` behind it.
     pub fn up_to(self, rest: FlatFields) -> FlatFields<'a>
         requires { rest.left < self.left }
-        ensures { fields_of result ≡ front_of (self.entry.left - rest.entry.left - 1) (fields_of self.entry) }
+        ensures { viewed_run result ≡ front_of (self.entry.left - rest.entry.left - 1) (viewed_run self.entry) }
     {
         self.front(self.left - rest.left - 1)
     }
 
     // The first field of the name.
     pub fn first_of(self, name: u64) -> Option<Found<'a>>
-        ensures { FoundIn name (fields_of self.entry) result }
+        ensures { FoundIn name (viewed_run self.entry) result }
     {
         let mut rest = self;
         while let Some(field) = rest.next() {
@@ -170,14 +170,14 @@ impl<'a> FlatFields<'a> {
 
     // Whether a field has the name.
     pub fn has(self, name: u64) -> bool
-        ensures { result ≡ seen (with_names (fields_of self.entry) []) name }
+        ensures { result ≡ seen (with_names (viewed_run self.entry) []) name }
     {
         self.first_of(name).is_some()
     }
 
     // The last type of the name: that of a field, else the held one.
     pub fn last_of(self, name: u64, held: FlatType<'a>) -> FlatType<'a>
-        ensures { tree_of result ≡ last_or name (tree_of held.entry) (fields_of self.entry) }
+        ensures { viewed result ≡ last_or name (viewed held.entry) (viewed_run self.entry) }
     {
         let mut last = held;
         for field in self {
@@ -190,7 +190,7 @@ impl<'a> FlatFields<'a> {
 
     // Whether the names of both are the same at each place.
     pub fn in_place(self, other: FlatFields) -> bool
-        ensures { result ≡ in_place (fields_of self.entry) (fields_of other.entry) }
+        ensures { result ≡ in_place (viewed_run self.entry) (viewed_run other.entry) }
     {
         for (l, r) in self.zip(other) {
             if l.name != r.name {

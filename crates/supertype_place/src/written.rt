@@ -4,7 +4,7 @@ ghost use Rattle.flat.specs.Kind.{Struct};
 ghost use Rattle.flat.specs.Tree.{size};
 ghost use Rattle.supertype_answer.specs.Join.{node};
 ghost use Rattle.supertype_place.specs.Written.{nodes_of, Fits, held_at, HeldAt};
-ghost use Rattle.supertype_place.specs.Viewed.{tree_of};
+ghost use Rattle.supertype_place.specs.Viewed.{viewed};
 
 use crate::view::FlatType;
 use arrayvec::ArrayVec;
@@ -63,8 +63,8 @@ impl Nodes {
 
     // The nodes of a type.
     pub fn extend(&mut self, dtype: FlatType)
-        requires { Fits (size (tree_of dtype)) self.old }
-        ensures { self.new ≡ self.old ++ nodes_of (tree_of dtype.entry) }
+        requires { Fits (size (viewed dtype)) self.old }
+        ensures { self.new ≡ self.old ++ nodes_of (viewed dtype.entry) }
     {
         let n = dtype.nodes();
         self.kinds.try_extend_from_slice(&dtype.kinds[..n]).unwrap();
@@ -82,7 +82,7 @@ impl Nodes {
     // The type that stands from the mark on.
     pub fn held(&self, mark: usize) -> FlatType<'_>
         requires { HeldAt mark self.now }
-        ensures { tree_of result ≡ held_at mark self.now }
+        ensures { viewed result ≡ held_at mark self.now }
     {
         FlatType {
             kinds: &self.kinds.as_slice()[mark..],

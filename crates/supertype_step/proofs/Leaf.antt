@@ -17,7 +17,7 @@ use Rattle.supertype_arms.proofs.Recursive.{supertype_laws}
 use Rattle.supertype_nested.specs.Nested.{SuperTypeOptions, TreeCall, tree_of}
 use Rattle.supertype_nested.proofs.Leaves.{leaf_known}
 use Rattle.supertype_step.specs.declared.Step.{Step}
-use Rattle.supertype_step.specs.Decided.{run_step, answered, PartsOf, DecidedBy}
+use Rattle.supertype_step.specs.Decided.{run_step, step_answered, PartsOf, DecidedBy}
 use Rattle.supertype_step.proofs.Roots.{leaf_root}
 
 -- A root below List's kind is a type of its own.
@@ -30,7 +30,7 @@ abbrev pub step_of : Option Node → Option Step
 step_of q = option_map Step.Node q
 
 -- what was found of two roots, as a type
-by_found : (c : TreeCall) (q : Option Node) (l r : DataType) → tree_of q ≡ answered c (step_of q) l r
+by_found : (c : TreeCall) (q : Option Node) (l r : DataType) → tree_of q ≡ step_answered c (step_of q) l r
 unfolding run_step
 by_found c (Some n) l r = refl
 by_found c None l r = refl

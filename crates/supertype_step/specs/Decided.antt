@@ -60,8 +60,8 @@ run_step c (Step.Each s) l r = each c (at_side s l r) (at_side s r l)
 run_step c Step.Fields l r = if_struct None (λ fs. if_struct None (λ gs. option_map struct (either_fields c fs gs)) r) l
 
 -- and what a decision answers: None where it is for no step
-abbrev pub answered : TreeCall → Option Step → DataType → DataType → Option DataType
-answered c step l r = option_and_then (λ s. run_step c s l r) step
+abbrev pub step_answered : TreeCall → Option Step → DataType → DataType → Option DataType
+step_answered c step l r = option_and_then (λ s. run_step c s l r) step
 
 -- ---- what the code promises of a step
 
@@ -108,7 +108,7 @@ PartsOf (Some step) l r = HasParts step l r
 
 -- The decision answers for two types as the source's two tries do, over the inner calls c.
 pub record Decided (c : TreeCall) (o : SuperTypeOptions) (l r : DataType) (step : Option Step) : Type 0 where
-  pub answers : supertype_tree_with c o l r ≡ answered c step l r
+  pub answers : supertype_tree_with c o l r ≡ step_answered c step l r
   pub parts : PartsOf step l r
 
 -- And it does so for every two types with these roots, over all fair inner calls, as the function's own are.

@@ -4,7 +4,7 @@ use Rattle.flat.specs.Kind as kind
 use Rattle.flat.specs.Tree.{DataType, leaf}
 use Rattle.supertype_nested.specs.Nested.{SuperTypeOptions, TreeCall, run_tree}
 use Rattle.supertype_nested.specs.Step.{plan_beside}
-use Rattle.supertype_step.specs.Decided.{at_side, answered, RootOf, PartsOf, DecidedBy}
+use Rattle.supertype_step.specs.Decided.{at_side, step_answered, RootOf, PartsOf, DecidedBy}
 use Rattle.supertype_step.specs.declared.Side.{Side}
 use Rattle.supertype_step.specs.declared.Step.{Step}
 
@@ -12,7 +12,7 @@ use Rattle.supertype_step.specs.declared.Step.{Step}
 pub record StepBeside (side : Side) (implode : Bool) (a x k : ℕ) (step : Option Step) : Type 0 where
   pub answers : (c : TreeCall) (t : DataType) → RootOf t a x → (y : ℕ)
       → run_tree c (plan_beside implode a k) t (leaf k y)
-      ≡ answered c step (at_side side t (leaf k y)) (at_side side (leaf k y) t)
+      ≡ step_answered c step (at_side side t (leaf k y)) (at_side side (leaf k y) t)
   pub parts : (t : DataType) → RootOf t a x → (y : ℕ)
       → PartsOf step (at_side side t (leaf k y)) (at_side side (leaf k y) t)
 

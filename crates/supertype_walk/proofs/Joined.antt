@@ -28,10 +28,10 @@ use Rattle.supertype_nested.proofs.Steps.{tree_fair}
 use Rattle.supertype_place.specs.declared.view.FlatFields.{FlatFields}
 use Rattle.supertype_place.specs.declared.view.FlatType.{FlatType}
 use Rattle.supertype_place.specs.Written.{nodes_of, held_at, HeldAt}
-use Rattle.supertype_place.specs.Viewed.{tree_of, fields_of}
+use Rattle.supertype_place.specs.Viewed.{viewed, viewed_run}
 use Rattle.supertype_place.proofs.Repeats.{count_append}
 use Rattle.supertype_place.proofs.Views.{type_front, run_front, run_many}
-use Rattle.supertype_step.specs.Decided.{either_fields, above, first, each, run_step, at_side, answered, PartsOf, HasParts}
+use Rattle.supertype_step.specs.Decided.{either_fields, above, first, each, run_step, at_side, step_answered, PartsOf, HasParts}
 use Rattle.supertype_step.specs.Decided.{Decided, DecidedBy, NodeFits, IsOver, is_list, is_array, Wraps}
 use Rattle.supertype_step.specs.Decided.{list_wraps, array_wraps}
 use Rattle.supertype_step.specs.declared.Side.{Side}
@@ -52,9 +52,9 @@ root_fits_of (list t) f = (omega arith, λ l. absurd (omega arith))
 root_fits_of (array w t) f = (omega arith, λ l. absurd (omega arith))
 root_fits_of (struct fs) f = (omega arith, λ l. absurd (omega arith))
 
-pub root_fits : (t : FlatType) {x : Node} → x ≡ node (head_kind (tree_of t)) (head_arg (tree_of t))
+pub root_fits : (t : FlatType) {x : Node} → x ≡ node (head_kind (viewed t)) (head_arg (viewed t))
     → NodeFits x.kind x.arg
-root_fits t e = rw e (root_fits_of (tree_of t) (type_front t.stands).fits)
+root_fits t e = rw e (root_fits_of (viewed t) (type_front t.stands).fits)
 
 -- ---- under a List or an Array
 
@@ -100,29 +100,29 @@ pub record Arm (o i : SuperTypeOptions) (l r : DataType) (step : Step) : Type 0 
   pub parts : HasParts step l r
 
 module _ (o i : SuperTypeOptions) (l r : FlatType) {x y : Node}
-    (e : x ≡ node (head_kind (tree_of l)) (head_arg (tree_of l)))
-    (h : y ≡ node (head_kind (tree_of r)) (head_arg (tree_of r))) (found : Option Step)
+    (e : x ≡ node (head_kind (viewed l)) (head_arg (viewed l)))
+    (h : y ≡ node (head_kind (viewed r)) (head_arg (viewed r))) (found : Option Step)
     (d : DecidedBy o x.kind x.arg y.kind y.arg found) where
-  decided : Decided (get_supertype i) o (tree_of l) (tree_of r) found
+  decided : Decided (get_supertype i) o (viewed l) (viewed r) found
   decided =
-      d (get_supertype i) (tree_fair i i) (tree_of l) (tree_of r)
+      d (get_supertype i) (tree_fair i i) (viewed l) (viewed r)
       (record { kind = sym (ap (λ n. n.kind) e); arg = sym (ap (λ n. n.arg) e); fits = (type_front l.stands).fits })
       (record { kind = sym (ap (λ n. n.kind) h); arg = sym (ap (λ n. n.arg) h); fits = (type_front r.stands).fits })
 
-  pub arm_of : {s step : Step} → found ≡ Some s → s ≡ step → Arm o i (tree_of l) (tree_of r) step
+  pub arm_of : {s step : Step} → found ≡ Some s → s ≡ step → Arm o i (viewed l) (viewed r) step
   arm_of {s} {step} f g =
       let k : found ≡ Some step = f ∙ ap Some g in
       record {
-        answers = recursive o i (tree_of l) (tree_of r) ∙ decided.answers
-            ∙ ap (λ (s : Option Step). answered (get_supertype i) s (tree_of l) (tree_of r)) k;
-        parts = subst (λ (s : Option Step). PartsOf s (tree_of l) (tree_of r)) k decided.parts;
+        answers = recursive o i (viewed l) (viewed r) ∙ decided.answers
+            ∙ ap (λ (s : Option Step). step_answered (get_supertype i) s (viewed l) (viewed r)) k;
+        parts = subst (λ (s : Option Step). PartsOf s (viewed l) (viewed r)) k decided.parts;
       }
 
   -- for no step
-  pub none_decided : found ≡ None → supertype_tree o i (tree_of l) (tree_of r) ≡ None
+  pub none_decided : found ≡ None → supertype_tree o i (viewed l) (viewed r) ≡ None
   none_decided f =
-      recursive o i (tree_of l) (tree_of r) ∙ decided.answers
-      ∙ ap (λ (s : Option Step). answered (get_supertype i) s (tree_of l) (tree_of r)) f
+      recursive o i (viewed l) (viewed r) ∙ decided.answers
+      ∙ ap (λ (s : Option Step). step_answered (get_supertype i) s (viewed l) (viewed r)) f
 
 -- ---- the steps
 
@@ -292,7 +292,7 @@ zipped_ok z q old new (Err Unzipped.Nothing) e w =
     record { none = ap (option_map struct) (zip_none q (sym e ∙ w.is)); kept = w.kept }
 
 -- fewer fields stand behind one
-pub left_less : (whole rest new : FlatFields) (done : Fields) → fields_of whole ≡ append done (fields_of rest)
+pub left_less : (whole rest new : FlatFields) (done : Fields) → viewed_run whole ≡ append done (viewed_run rest)
     → rest.left ≡ suc new.left → new.left < whole.left
 left_less whole rest new done e h =
     omega (
@@ -301,7 +301,7 @@ left_less whole rest new done e h =
       run_many (run_front whole.stand),
       run_many (run_front rest.stand),
       ap count e,
-      count_append done (fields_of rest),
+      count_append done (viewed_run rest),
     )
 
 -- ---- the held type

@@ -8,7 +8,7 @@ ghost use Rattle.supertype_nested.specs.Nested.{supertype_tree, join_held, join_
 ghost use Rattle.supertype_nested.specs.Step.{in_place};
 ghost use Rattle.supertype_nested.specs.Union.{named, join_named, old_names, new_names, with_names, outside};
 ghost use Rattle.supertype_place.specs.Written.{nodes_of, Fits, HeldAt, held_at};
-ghost use Rattle.supertype_place.specs.Viewed.{tree_of, fields_of};
+ghost use Rattle.supertype_place.specs.Viewed.{viewed, viewed_run};
 ghost use Rattle.supertype_step.specs.Decided.{options_of, either_fields, at_side};
 ghost use Rattle.supertype_walk.specs.Comes.{get_supertype, Joins, Fills, Zipped};
 
@@ -16,8 +16,8 @@ use flat::Node;
 use flat::kind::Kind;
 use supertype::node::plain;
 use supertype_place::names::{Named, SLOTS};
-use supertype_place::written::Nodes;
 use supertype_place::view::{FlatField, FlatFields, FlatType};
+use supertype_place::written::Nodes;
 use supertype_step::{Options, Side, Step, decide};
 
 // Why the fields of two Structs have no join one by one: names that differ, or the source's None.
@@ -29,8 +29,8 @@ pub enum Unzipped {
 
 // The type on that side, and the other one.
 fn sided<'a>(side: Side, l: FlatType<'a>, r: FlatType<'a>) -> (FlatType<'a>, FlatType<'a>)
-    ensures one { tree_of result.0 ≡ at_side side (tree_of l.entry) (tree_of r.entry) }
-    ensures other { tree_of result.1 ≡ at_side side (tree_of r.entry) (tree_of l.entry) }
+    ensures one { viewed result.0 ≡ at_side side (viewed l.entry) (viewed r.entry) }
+    ensures other { viewed result.1 ≡ at_side side (viewed r.entry) (viewed l.entry) }
 {
     match side {
         Side::Left => (l, r),
@@ -41,8 +41,8 @@ fn sided<'a>(side: Side, l: FlatType<'a>, r: FlatType<'a>) -> (FlatType<'a>, Fla
 // `get_supertype_with_options` with flags of its own, by what the two roots decide.
 #[cycle(joins)]
 pub fn join(o: Options, i: Options, l: FlatType, r: FlatType, out: &mut Nodes) -> Option<()>
-    requires { Fits (size (tree_of l) + size (tree_of r)) out.old }
-    ensures { let answer = supertype_tree (options_of o) (options_of i) (tree_of l.entry) (tree_of r.entry) in
+    requires { Fits (size (viewed l) + size (viewed r)) out.old }
+    ensures { let answer = supertype_tree (options_of o) (options_of i) (viewed l.entry) (viewed r.entry) in
         Joins nodes_of answer out.old out.new result }
 {
     match decide(o, l.root(), r.root())? {
@@ -84,8 +84,8 @@ pub fn join(o: Options, i: Options, l: FlatType, r: FlatType, out: &mut Nodes) -
 // A node, and below it the join: of a List, of an Array, of a field.
 #[cycle(joins)]
 fn under(n: Node, i: Options, l: FlatType, r: FlatType, out: &mut Nodes) -> Option<()>
-    requires { Fits (suc (size (tree_of l) + size (tree_of r))) out.old }
-    ensures { let answer = get_supertype (options_of i) (tree_of l.entry) (tree_of r.entry) in
+    requires { Fits (suc (size (viewed l) + size (viewed r))) out.old }
+    ensures { let answer = get_supertype (options_of i) (viewed l.entry) (viewed r.entry) in
         Joins (λ t. n ∷ nodes_of t) answer out.old out.new result }
 {
     out.push(n);
@@ -115,9 +115,9 @@ fn field_node(name: u64) -> Node
 // A Struct of each field with one type.
 #[cycle(joins)]
 fn each(i: Options, fields: FlatFields, other: FlatType, out: &mut Nodes) -> Option<()>
-    requires leaf { size (tree_of other) ≡ 1 }
-    requires room { Fits (suc (sizes (fields_of fields) + size (tree_of other))) out.old }
-    ensures { let answer = join_each (get_supertype (options_of i)) (fields_of fields.entry) (tree_of other.entry) in
+    requires leaf { size (viewed other) ≡ 1 }
+    requires room { Fits (suc (sizes (viewed_run fields) + size (viewed other))) out.old }
+    ensures { let answer = join_each (get_supertype (options_of i)) (viewed_run fields.entry) (viewed other.entry) in
         Joins nodes_of (option_map struct answer) out.old out.new result }
 {
     out.push(struct_node(fields.left));
@@ -131,8 +131,8 @@ fn each(i: Options, fields: FlatFields, other: FlatType, out: &mut Nodes) -> Opt
 #[cycle(joins)]
 fn zip(i: Options, l: FlatFields, r: FlatFields, out: &mut Nodes) -> Result<(), Unzipped>
     requires many { l.left ≡ r.left }
-    requires room { Fits (suc (sizes (fields_of l) + sizes (fields_of r))) out.old }
-    ensures { let answer = zip_fields (get_supertype (options_of i)) (fields_of l.entry) (fields_of r.entry) in
+    requires room { Fits (suc (sizes (viewed_run l) + sizes (viewed_run r))) out.old }
+    ensures { let answer = zip_fields (get_supertype (options_of i)) (viewed_run l.entry) (viewed_run r.entry) in
         Zipped answer out.old out.new result }
 {
     out.push(struct_node(l.left));
@@ -149,8 +149,8 @@ fn zip(i: Options, l: FlatFields, r: FlatFields, out: &mut Nodes) -> Result<(), 
 // The fields of two Structs.
 #[cycle(joins)]
 fn fields(i: Options, l: FlatFields, r: FlatFields, out: &mut Nodes) -> Option<()>
-    requires { Fits (suc (sizes (fields_of l) + sizes (fields_of r))) out.old }
-    ensures { let answer = either_fields (get_supertype (options_of i)) (fields_of l.entry) (fields_of r.entry) in
+    requires { Fits (suc (sizes (viewed_run l) + sizes (viewed_run r))) out.old }
+    ensures { let answer = either_fields (get_supertype (options_of i)) (viewed_run l.entry) (viewed_run r.entry) in
         Joins nodes_of (option_map struct answer) out.old out.new result }
 {
     if l.left == r.left && l.in_place(r) {
@@ -162,9 +162,9 @@ fn fields(i: Options, l: FlatFields, r: FlatFields, out: &mut Nodes) -> Option<(
 // The fields of two Structs by their names. The order of the two counts for as many fields with a repeated name only.
 #[cycle(joins)]
 fn merge(i: Options, l: FlatFields, r: FlatFields, out: &mut Nodes) -> Option<()>
-    requires unlike { l.left ≡ r.left → in_place (fields_of l) (fields_of r) ≡ false }
-    requires room { Fits (suc (sizes (fields_of l) + sizes (fields_of r))) out.old }
-    ensures { let answer = either_fields (get_supertype (options_of i)) (fields_of l.entry) (fields_of r.entry) in
+    requires unlike { l.left ≡ r.left → in_place (viewed_run l) (viewed_run r) ≡ false }
+    requires room { Fits (suc (sizes (viewed_run l) + sizes (viewed_run r))) out.old }
+    ensures { let answer = either_fields (get_supertype (options_of i)) (viewed_run l.entry) (viewed_run r.entry) in
         Joins nodes_of (option_map struct answer) out.old out.new result }
 {
     let mut lt = [None; SLOTS];
@@ -193,9 +193,9 @@ fn merge(i: Options, l: FlatFields, r: FlatFields, out: &mut Nodes) -> Option<()
 // `union_struct_fields`, the longest first.
 #[cycle(joins)]
 fn union(i: Options, longest: Named, shortest: Named, out: &mut Nodes) -> Option<()>
-    requires { Fits (suc (sizes (fields_of longest.fields) + sizes (fields_of shortest.fields))) out.old }
-    ensures { let fs = fields_of longest.entry.fields in
-        let answer = union_fields (get_supertype (options_of i)) fs (fields_of shortest.entry.fields) in
+    requires { Fits (suc (sizes (viewed_run longest.fields) + sizes (viewed_run shortest.fields))) out.old }
+    ensures { let fs = viewed_run longest.entry.fields in
+        let answer = union_fields (get_supertype (options_of i)) fs (viewed_run shortest.entry.fields) in
         Joins nodes_of (option_map struct answer) out.old out.new result }
 {
     let mark = out.len();
@@ -209,9 +209,9 @@ fn union(i: Options, longest: Named, shortest: Named, out: &mut Nodes) -> Option
 // The names of the longest, each once, at its first place, with its last type.
 #[cycle(joins)]
 fn old(i: Options, longest: Named, shortest: Named, out: &mut Nodes) -> Option<u64>
-    requires { Fits (sizes (fields_of longest.fields) + sizes (fields_of shortest.fields)) out.old }
-    ensures { let gs = fields_of shortest.entry.fields in
-        let answer = old_names (get_supertype (options_of i)) gs [] (fields_of longest.entry.fields) in
+    requires { Fits (sizes (viewed_run longest.fields) + sizes (viewed_run shortest.fields)) out.old }
+    ensures { let gs = viewed_run shortest.entry.fields in
+        let answer = old_names (get_supertype (options_of i)) gs [] (viewed_run longest.entry.fields) in
         Fills answer out.old out.new result }
 {
     let mut names = 0;
@@ -228,10 +228,10 @@ fn old(i: Options, longest: Named, shortest: Named, out: &mut Nodes) -> Option<u
 // The names that only the shortest has, with their first type.
 #[cycle(joins)]
 fn new(i: Options, longest: Named, shortest: Named, out: &mut Nodes) -> Option<u64>
-    requires { let ns = with_names (fields_of longest.fields) [] in
-        Fits (sizes (outside ns (fields_of shortest.fields))) out.old }
-    ensures { let ns = with_names (fields_of longest.entry.fields) [] in
-        let answer = new_names (get_supertype (options_of i)) ns (fields_of shortest.entry.fields) in
+    requires { let ns = with_names (viewed_run longest.fields) [] in
+        Fits (sizes (outside ns (viewed_run shortest.fields))) out.old }
+    ensures { let ns = with_names (viewed_run longest.entry.fields) [] in
+        let answer = new_names (get_supertype (options_of i)) ns (viewed_run shortest.entry.fields) in
         Fills answer out.old out.new result }
 {
     let mut names = 0;
@@ -248,10 +248,10 @@ fn new(i: Options, longest: Named, shortest: Named, out: &mut Nodes) -> Option<u
 // A field: its type with all the fields of its name.
 #[cycle(joins)]
 fn named(i: Options, field: FlatField, fields: Named, out: &mut Nodes) -> Option<()>
-    requires { Fits (suc (size (tree_of field.dtype) + sizes (named field.name (fields_of fields.fields)))) out.old }
-    ensures { let gs = fields_of fields.entry.fields in
+    requires { Fits (suc (size (viewed field.dtype) + sizes (named field.name (viewed_run fields.fields)))) out.old }
+    ensures { let gs = viewed_run fields.entry.fields in
         let name = field.entry.name in
-        let answer = join_named (get_supertype (options_of i)) name (tree_of field.entry.dtype) gs in
+        let answer = join_named (get_supertype (options_of i)) name (viewed field.entry.dtype) gs in
         Joins (λ t. node Field name ∷ nodes_of t) answer out.old out.new result }
 {
     out.push(field_node(field.name));
@@ -268,9 +268,9 @@ fn named(i: Options, field: FlatField, fields: Named, out: &mut Nodes) -> Option
 #[cycle(joins)]
 fn again(i: Options, mark: usize, name: u64, fields: FlatFields, out: &mut Nodes) -> Option<()>
     requires stands { HeldAt mark out.old }
-    requires room { Fits (sizes (named name (fields_of fields))) out.old }
+    requires room { Fits (sizes (named name (viewed_run fields))) out.old }
     ensures { let t = held_at mark out.old in
-        let answer = join_named (get_supertype (options_of i)) name t (fields_of fields.entry) in
+        let answer = join_named (get_supertype (options_of i)) name t (viewed_run fields.entry) in
         Joins nodes_of answer (take mark out.old) out.new result }
 {
     for field in fields {
@@ -285,8 +285,8 @@ fn again(i: Options, mark: usize, name: u64, fields: FlatFields, out: &mut Nodes
 #[cycle(joins)]
 fn next(i: Options, mark: usize, dtype: FlatType, out: &mut Nodes) -> Option<()>
     requires stands { HeldAt mark out.old }
-    requires room { Fits (size (tree_of dtype)) out.old }
-    ensures { let answer = join_held (get_supertype (options_of i)) (tree_of dtype.entry) (held_at mark out.old) in
+    requires room { Fits (size (viewed dtype)) out.old }
+    ensures { let answer = join_held (get_supertype (options_of i)) (viewed dtype.entry) (held_at mark out.old) in
         Joins nodes_of answer (take mark out.old) out.new result }
 {
     if dtype.same(out.held(mark)) {
@@ -299,8 +299,8 @@ fn next(i: Options, mark: usize, dtype: FlatType, out: &mut Nodes) -> Option<()>
 // A field's type with the held one: the held one stays where they are equal.
 #[cycle(joins)]
 fn held(i: Options, dtype: FlatType, held: FlatType, out: &mut Nodes) -> Option<()>
-    requires { Fits (size (tree_of dtype) + size (tree_of held)) out.old }
-    ensures { let answer = join_held (get_supertype (options_of i)) (tree_of dtype.entry) (tree_of held.entry) in
+    requires { Fits (size (viewed dtype) + size (viewed held)) out.old }
+    ensures { let answer = join_held (get_supertype (options_of i)) (viewed dtype.entry) (viewed held.entry) in
         Joins nodes_of answer out.old out.new result }
 {
     if dtype.same(held) {

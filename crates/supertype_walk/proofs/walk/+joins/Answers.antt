@@ -17,7 +17,7 @@ use Rattle.supertype_answer.specs.Join.{node}
 use Rattle.supertype_nested.specs.Union.{named}
 use Rattle.supertype_nested.proofs.Steps.{tree_fair}
 use Rattle.supertype_place.specs.Written.{nodes_of, held_at}
-use Rattle.supertype_place.specs.Viewed.{tree_of, fields_of}
+use Rattle.supertype_place.specs.Viewed.{viewed, viewed_run}
 use Rattle.supertype_place.proofs.Tables.{is_nothing, there_is}
 use Rattle.supertype_place.proofs.Views.{type_front, run_front, run_many}
 use Rattle.supertype_step.specs.Decided.{options_of}
@@ -119,7 +119,7 @@ fields-returns-then-in_place t c =
     let i = options_of c.args.i in
     let many = run_many (run_front c.args.l.stand) ∙ c.if-l-r.true ∙ sym (run_many (run_front c.args.r.stand)) in
     rw c.ok.ensures.value (zipped_ok _ _ _ _ c.zip.result
-    (zip_in_place (get_supertype i) (fields_of c.args.l) (fields_of c.args.r) many (tree_fair i i)
+    (zip_in_place (get_supertype i) (viewed_run c.args.l) (viewed_run c.args.r) many (tree_fair i i)
     (sym c.in_place.ensures ∙ c.if-in_place.true))
     c.zip.ensures)
 
@@ -137,7 +137,7 @@ join-returns-in_err-n t c =
     }
 
 pub join-push-requires : goal.join-push-requires
-join-push-requires t c = omega (arith, c.requires, size_pos (tree_of c.args.l))
+join-push-requires t c = omega (arith, c.requires, size_pos (viewed c.args.l))
 
 pub join-inner-requires : goal.join-inner-requires
 join-inner-requires t c =
@@ -180,7 +180,7 @@ pub join-push-requires-then-is_none : goal.join-push-requires-then-is_none
 join-push-requires-then-is_none t c =
     let w = rw (is_nothing _ c.if-is_none.ensures) at c.under-in-StringWithin.ensures in
     let k = ap length (c.truncate.ensures ∙ ap (λ n. take n c.under-in-StringWithin.new.out) c.len-mark.ensures ∙ w.kept) in
-    omega (arith, c.requires, size_pos (tree_of c.args.l), k)
+    omega (arith, c.requires, size_pos (viewed c.args.l), k)
 
 pub join-fields-fields-requires : goal.join-fields-fields-requires
 join-fields-fields-requires t c =
@@ -278,8 +278,8 @@ pub merge-returns-then-l-r : goal.merge-returns-then-l-r
 merge-returns-then-l-r t c =
     let i = options_of c.args.i in
     let c' = get_supertype i in
-    let fs = fields_of c.args.l in
-    let gs = fields_of c.args.r in
+    let fs = viewed_run c.args.l in
+    let gs = viewed_run c.args.r in
     let l = run_many (run_front c.args.l.stand) in
     let r = run_many (run_front c.args.r.stand) in
     joins_is nodes_of _ _ c.union.result (ap (option_map struct) (right_longer c' fs gs (omega (arith, l, r, c.if-l-r.true))))
@@ -289,8 +289,8 @@ pub merge-returns-then-r-l : goal.merge-returns-then-r-l
 merge-returns-then-r-l t c =
     let i = options_of c.args.i in
     let c' = get_supertype i in
-    let fs = fields_of c.args.l in
-    let gs = fields_of c.args.r in
+    let fs = viewed_run c.args.l in
+    let gs = viewed_run c.args.r in
     let l = run_many (run_front c.args.l.stand) in
     let r = run_many (run_front c.args.r.stand) in
     let w = rw (c.new-p.ensures.same, c.new-q.ensures.same) at c.union-then-r-l.ensures in
@@ -317,8 +317,8 @@ pub merge-returns-in-Ok : goal.merge-returns-in-Ok
 merge-returns-in-Ok t c =
     let i = options_of c.args.i in
     let c' = get_supertype i in
-    let fs = fields_of c.args.l in
-    let gs = fields_of c.args.r in
+    let fs = viewed_run c.args.l in
+    let gs = viewed_run c.args.r in
     let l = run_many (run_front c.args.l.stand) in
     let r = run_many (run_front c.args.r.stand) in
     let e : c.args.l.left ≡ c.args.r.left = omega (arith, c.if-l-r.false, c.if-r-l.false) in
@@ -334,8 +334,8 @@ pub merge-returns-in-Err-Nothing : goal.merge-returns-in-Err-Nothing
 merge-returns-in-Err-Nothing t c =
     let i = options_of c.args.i in
     let c' = get_supertype i in
-    let fs = fields_of c.args.l in
-    let gs = fields_of c.args.r in
+    let fs = viewed_run c.args.l in
+    let gs = viewed_run c.args.r in
     let l = run_many (run_front c.args.l.stand) in
     let r = run_many (run_front c.args.r.stand) in
     let e : c.args.l.left ≡ c.args.r.left = omega (arith, c.if-l-r.false, c.if-r-l.false) in
@@ -347,8 +347,8 @@ pub merge-returns-then-is_some-3 : goal.merge-returns-then-is_some-3
 merge-returns-then-is_some-3 t c =
     let i = options_of c.args.i in
     let c' = get_supertype i in
-    let fs = fields_of c.args.l in
-    let gs = fields_of c.args.r in
+    let fs = viewed_run c.args.l in
+    let gs = viewed_run c.args.r in
     let l = run_many (run_front c.args.l.stand) in
     let r = run_many (run_front c.args.r.stand) in
     let e : c.args.l.left ≡ c.args.r.left = omega (arith, c.if-l-r.false, c.if-r-l.false) in
@@ -368,8 +368,8 @@ pub merge-returns : goal.merge-returns
 merge-returns t c =
     let i = options_of c.args.i in
     let c' = get_supertype i in
-    let fs = fields_of c.args.l in
-    let gs = fields_of c.args.r in
+    let fs = viewed_run c.args.l in
+    let gs = viewed_run c.args.r in
     let l = run_many (run_front c.args.l.stand) in
     let r = run_many (run_front c.args.r.stand) in
     let e : c.args.l.left ≡ c.args.r.left = omega (arith, c.if-l-r.false, c.if-r-l.false) in
@@ -387,21 +387,21 @@ merge-returns t c =
 pub named-returns-in_default : goal.named-returns-in_default
 named-returns-in_default t c =
     under_of _ _ c.args.out.now _ (Some tt) (c.push.ensures ∙ ap (λ n. c.args.out.now ++ n ∷ []) c.field_node.ensures) record {
-      type = tree_of c.args.field.dtype;
-      is = sym (none_named (get_supertype (options_of c.args.i)) c.args.field.name (tree_of c.args.field.dtype)
-          (fields_of c.args.fields.fields) c.in_default.ensures);
+      type = viewed c.args.field.dtype;
+      is = sym (none_named (get_supertype (options_of c.args.i)) c.args.field.name (viewed c.args.field.dtype)
+          (viewed_run c.args.fields.fields) c.in_default.ensures);
       wrote = c.extend.ensures;
     }
 
 pub named-held-requires : goal.named-held-requires
 named-held-requires t c =
     let i = options_of c.args.i in
-    let u = tree_of c.args.field.dtype in
+    let u = viewed c.args.field.dtype in
     let gu = (type_front c.args.field.dtype.stands).fits in
-    let fs = fields_of c.args.fields.fields in
-    let gs = fields_of c.in-Some.found.rest in
+    let fs = viewed_run c.args.fields.fields in
+    let gs = viewed_run c.in-Some.found.rest in
     let n = c.args.field.name in
-    let t' = tree_of c.in-Some.found.dtype in
+    let t' = viewed c.in-Some.found.dtype in
     let gt = (type_front c.in-Some.found.dtype.stands).fits in
     let e = c.in-Some.ensures in
     let m = ap length c.push.ensures ∙ length-append c.args.out.now (c.field_node.result ∷ []) in (
@@ -412,12 +412,12 @@ named-held-requires t c =
 pub named-returns-in_err-held : goal.named-returns-in_err-held
 named-returns-in_err-held t c =
     let i = options_of c.args.i in
-    let u = tree_of c.args.field.dtype in
+    let u = viewed c.args.field.dtype in
     let gu = (type_front c.args.field.dtype.stands).fits in
-    let fs = fields_of c.args.fields.fields in
-    let gs = fields_of c.in-Some.found.rest in
+    let fs = viewed_run c.args.fields.fields in
+    let gs = viewed_run c.in-Some.found.rest in
     let n = c.args.field.name in
-    let t' = tree_of c.in-Some.found.dtype in
+    let t' = viewed c.in-Some.found.dtype in
     let gt = (type_front c.in-Some.found.dtype.stands).fits in
     let e = c.in-Some.ensures in
     let m = ap length c.push.ensures ∙ length-append c.args.out.now (c.field_node.result ∷ []) in
@@ -430,12 +430,12 @@ named-returns-in_err-held t c =
 pub named-again-requires : goal.named-again-requires
 named-again-requires t c =
     let i = options_of c.args.i in
-    let u = tree_of c.args.field.dtype in
+    let u = viewed c.args.field.dtype in
     let gu = (type_front c.args.field.dtype.stands).fits in
-    let fs = fields_of c.args.fields.fields in
-    let gs = fields_of c.in-Some.found.rest in
+    let fs = viewed_run c.args.fields.fields in
+    let gs = viewed_run c.in-Some.found.rest in
     let n = c.args.field.name in
-    let t' = tree_of c.in-Some.found.dtype in
+    let t' = viewed c.in-Some.found.dtype in
     let gt = (type_front c.in-Some.found.dtype.stands).fits in
     let e = c.in-Some.ensures in
     let m = ap length c.push.ensures ∙ length-append c.args.out.now (c.field_node.result ∷ []) in
@@ -450,12 +450,12 @@ named-again-requires t c =
 pub named-returns : goal.named-returns
 named-returns t c =
     let i = options_of c.args.i in
-    let u = tree_of c.args.field.dtype in
+    let u = viewed c.args.field.dtype in
     let gu = (type_front c.args.field.dtype.stands).fits in
-    let fs = fields_of c.args.fields.fields in
-    let gs = fields_of c.in-Some.found.rest in
+    let fs = viewed_run c.args.fields.fields in
+    let gs = viewed_run c.in-Some.found.rest in
     let n = c.args.field.name in
-    let t' = tree_of c.in-Some.found.dtype in
+    let t' = viewed c.in-Some.found.dtype in
     let gt = (type_front c.in-Some.found.dtype.stands).fits in
     let e = c.in-Some.ensures in
     let m = ap length c.push.ensures ∙ length-append c.args.out.now (c.field_node.result ∷ []) in
@@ -478,7 +478,7 @@ new-named-requires t c =
     let v = c.loop-field.invariant.2 in
     let e = c.in-Some.ensures.steps.fields in
     let k = sym (c.knows.ensures v.done (new_parts v e)) ∙ c.if-not-knows.true in
-    let p = ap (λ fs. sizes (named c.in-Some.field.name (fields_of fs))) c.plain.ensures in
+    let p = ap (λ fs. sizes (named c.in-Some.field.name (viewed_run fs))) c.plain.ensures in
     (omega (arith, c.decreases, new_less v e k, p), omega (arith, new_room v e k, p))
 
 pub new-returns-in_err-named : goal.new-returns-in_err-named
@@ -527,8 +527,8 @@ pub next-returns : goal.next-returns
 next-returns t c =
     let h = c.held-2.ensures ∙ alone_is c.args.mark c.args.out.now c.split_off-held.ensures.rest in
     joins_is nodes_of _ _ c.join.result
-    (held_other (get_supertype (options_of c.args.i)) (tree_of c.args.dtype) (held_at c.args.mark c.args.out.now)
-    (sym c.if-same.false ∙ c.same.ensures ∙ ap (equal (tree_of c.args.dtype)) c.held.ensures))
+    (held_other (get_supertype (options_of c.args.i)) (viewed c.args.dtype) (held_at c.args.mark c.args.out.now)
+    (sym c.if-same.false ∙ c.same.ensures ∙ ap (equal (viewed c.args.dtype)) c.held.ensures))
     (rw (h, c.split_off-held.ensures.kept) at c.join.ensures)
 
 -- ---- `old`
@@ -546,7 +546,7 @@ old-named-requires t c =
     let v = c.loop-field.invariant.2 in
     let e = c.in-Some.ensures.steps.fields in
     let k = c.in-Some-kept.ensures v.done (old_parts v e) in
-    let p = ap (λ n. sizes (named n (fields_of c.args.shortest.fields))) k.name in
+    let p = ap (λ n. sizes (named n (viewed_run c.args.shortest.fields))) k.name in
     (omega (arith, c.decreases, old_less v e k.new k.last, p), omega (arith, old_room v e k.new k.last, p))
 
 pub old-returns-in_err-named : goal.old-returns-in_err-named
@@ -588,16 +588,16 @@ under-returns t c = under_of c.args.n _ c.args.out.now _ c.join.result c.push.en
 pub union-returns-in_err-first : goal.union-returns-in_err-first
 union-returns-in_err-first t c =
     let i = options_of c.args.i in
-    let fs = fields_of c.args.longest.fields in
-    let gs = fields_of c.args.shortest.fields in
+    let fs = viewed_run c.args.longest.fields in
+    let gs = viewed_run c.args.shortest.fields in
     let n = ap length c.push.ensures ∙ length-append c.args.out.now (c.struct_node.result ∷ []) in
     rw c.from_residual.ensures (union_old i fs gs c.args.out.now c.struct_node.result c.push.ensures _ c.in_err-first.ensures)
 
 pub union-new-requires : goal.union-new-requires
 union-new-requires t c =
     let i = options_of c.args.i in
-    let fs = fields_of c.args.longest.fields in
-    let gs = fields_of c.args.shortest.fields in
+    let fs = viewed_run c.args.longest.fields in
+    let gs = viewed_run c.args.shortest.fields in
     let n = ap length c.push.ensures ∙ length-append c.args.out.now (c.struct_node.result ∷ []) in (
       omega (arith, c.decreases),
       union_room i fs gs c.args.out.now c.struct_node.result c.push.ensures c.in_ok-first.ensures (omega (arith, c.requires, n)),
@@ -606,8 +606,8 @@ union-new-requires t c =
 pub union-returns-in_err-more : goal.union-returns-in_err-more
 union-returns-in_err-more t c =
     let i = options_of c.args.i in
-    let fs = fields_of c.args.longest.fields in
-    let gs = fields_of c.args.shortest.fields in
+    let fs = viewed_run c.args.longest.fields in
+    let gs = viewed_run c.args.shortest.fields in
     let n = ap length c.push.ensures ∙ length-append c.args.out.now (c.struct_node.result ∷ []) in
     rw c.from_residual-in_err-more.ensures (union_new i fs gs c.args.out.now c.struct_node.result c.push.ensures
     c.in_ok-first.ensures (omega (arith, c.requires, n)) _ c.in_err-more.ensures)
@@ -615,8 +615,8 @@ union-returns-in_err-more t c =
 pub union-overflow_add-first : goal.union-overflow_add-first
 union-overflow_add-first t c =
     let i = options_of c.args.i in
-    let fs = fields_of c.args.longest.fields in
-    let gs = fields_of c.args.shortest.fields in
+    let fs = viewed_run c.args.longest.fields in
+    let gs = viewed_run c.args.shortest.fields in
     let n = ap length c.push.ensures ∙ length-append c.args.out.now (c.struct_node.result ∷ []) in
     omega (
       arith,
@@ -627,8 +627,8 @@ union-overflow_add-first t c =
 pub union-returns : goal.union-returns
 union-returns t c =
     let i = options_of c.args.i in
-    let fs = fields_of c.args.longest.fields in
-    let gs = fields_of c.args.shortest.fields in
+    let fs = viewed_run c.args.longest.fields in
+    let gs = viewed_run c.args.shortest.fields in
     let n = ap length c.push.ensures ∙ length-append c.args.out.now (c.struct_node.result ∷ []) in
     rw c.close.ensures (merged i fs gs c.args.out.now c.struct_node.result c.push.ensures c.in_ok-first.ensures
     (omega (arith, c.requires, n)) c.in_ok-more.ensures c.len-mark.ensures refl)
@@ -684,7 +684,7 @@ zip-returns-in_err-ok_or t c =
 pub zip-returns : goal.zip-returns
 zip-returns t c =
     let v = c.loop-a.invariant.2 in
-    let z = elim c.in-None.ensures.steps as (λ _. fields_of c.loop-a.a-iterator.a ≡ empty) [
+    let z = elim c.in-None.ensures.steps as (λ _. viewed_run c.loop-a.a-iterator.a ≡ empty) [
       | inl e ↦ e.1.none
       | inr e ↦ rest_over v e.1.none
     ] in

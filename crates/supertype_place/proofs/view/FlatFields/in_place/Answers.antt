@@ -4,7 +4,7 @@ use mathlib.Core.Logic.{inl, inr}
 use mathlib.Core.Path.{◌≡◌, refl, sym, ap, ap₂, ◌∙◌}
 use Rattle.flat.specs.Tree.{Fields}
 use Rattle.supertype_nested.specs.Step.{in_place}
-use Rattle.supertype_place.specs.Viewed.{fields_of}
+use Rattle.supertype_place.specs.Viewed.{viewed_run}
 use Rattle.supertype_place.proofs.Finds.{place_yes, place_no, place_end, place_over}
 use Rattle.supertype_place.proofs.view.FlatFields.in_place.Goals as goal
 
@@ -28,8 +28,8 @@ loop-l-preserved c =
 
 pub returns : goal.returns
 returns c =
-    let a = fields_of c.loop-l.l-iterator.a in
-    let b = fields_of c.loop-l.l-iterator.b in
+    let a = viewed_run c.loop-l.l-iterator.a in
+    let b = viewed_run c.loop-l.l-iterator.b in
     sym (c.loop-l.invariant.2 ∙ (elim c.in-None.ensures.steps as (λ _. in_place a b ≡ true) [
       | inl e ↦ ap (λ (fs : Fields). in_place fs b) e.1.none ∙ place_end b
       | inr e ↦ ap (in_place a) e.1.none ∙ place_over a
