@@ -16,8 +16,8 @@ use flat::Node;
 use flat::kind::Kind;
 use supertype::node::plain;
 use supertype_place::names::{Named, SLOTS};
-use supertype_place::written::Nodes;
 use supertype_place::view::{FlatField, FlatFields, FlatType};
+use supertype_place::written::Nodes;
 use supertype_step::{Options, Side, Step, decide};
 
 // Why the fields of two Structs have no join one by one: names that differ, or the source's None.
