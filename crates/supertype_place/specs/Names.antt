@@ -42,7 +42,8 @@ KeptOr done f behind (Some g) = Kept done f behind g
 -- so it is, whichever fields stand before it
 abbrev pub Keeps : Fields → FlatField → FlatFields → Option FlatField → Type 0
 Keeps fs f rest r =
-    (done : Fields) → fs ≡ append done (field f.name (tree_of f.dtype) (fields_of rest)) → KeptOr done f (fields_of rest) r
+    (done : Fields) → fs ≡ append done (field f.name (tree_of f.dtype) (fields_of rest)) → KeptOr done f (fields_of
+    rest) r
 
 -- The name of a field of the shortest is among the longest's or among those of the fields before it, whichever these
 -- are.

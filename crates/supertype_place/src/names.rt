@@ -76,8 +76,8 @@ impl<'a> Named<'a> {
         self.fields.first_of(name)
     }
 
-    // What the union keeps of a field of the longest, with `rest` behind it: its name with the name's last type, unless a
-    // field before it has the name.
+    // What the union keeps of a field of the longest, with `rest` behind it: its name with the name's last type, unless
+    // a field before it has the name.
     pub fn kept(self, field: FlatField<'a>, rest: FlatFields<'a>) -> Option<FlatField<'a>>
         requires { rest.left < self.fields.left }
         ensures { Keeps (fields_of self.entry.fields) field.entry rest.entry result }

@@ -2,7 +2,8 @@
 use Rattle.std.specs.Prelude.{◌≡◌, List, ◌++◌, ℕ, length, take, Option, None, Some, Result, Ok, Err}
 use Rattle.flat.specs.Tree.{DataType, Fields, struct, count}
 use Rattle.flat.specs.declared.Node.{Node}
-use Rattle.supertype_nested.specs.Nested.{SuperTypeOptions, TreeCall, supertype_tree, Zip, names_differ, no_join, joined}
+use Rattle.supertype_nested.specs.Nested.{SuperTypeOptions, TreeCall, supertype_tree}
+use Rattle.supertype_nested.specs.Nested.{Zip, names_differ, no_join, joined}
 use Rattle.supertype_place.specs.Written.{nodes_of, nodes_ofs}
 use Rattle.supertype_walk.specs.declared.walk.Unzipped.{Unzipped}
 

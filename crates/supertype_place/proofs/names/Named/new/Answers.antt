@@ -31,8 +31,12 @@ returns-then-has-clause-distinct c =
     enter_again c.loop-field.invariant.2 c.in-Some.ensures.steps c.up_to-before.ensures c.has.ensures c.if-has.true
 
 pub loop-field-preserved : goal.loop-field-preserved
-loop-field-preserved c =
-    (tt, tt, enter_taken c.loop-field.invariant.2 c.in-Some.ensures.steps c.up_to-before.ensures c.has.ensures (is_something _ c.if-is_none.ensures) c.if-has.false)
+loop-field-preserved c = (
+  tt,
+  tt,
+  enter_taken c.loop-field.invariant.2 c.in-Some.ensures.steps c.up_to-before.ensures c.has.ensures
+      (is_something _ c.if-is_none.ensures) c.if-has.false,
+)
 
 pub invariant_of-result-2 : goal.invariant_of-result-2
 invariant_of-result-2 c =
