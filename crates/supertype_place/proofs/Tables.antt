@@ -26,7 +26,8 @@ use Rattle.supertype_place.specs.Names.{slots, Table, TableOf, KeptField}
 use Rattle.supertype_place.specs.View.{from, type_stands}
 use Rattle.supertype_place.specs.Viewed.{viewed, viewed_run, front_of, Gives}
 use Rattle.supertype_place.proofs.Finds.{named_yes, named_no, has_no}
-use Rattle.supertype_place.proofs.Repeats.{append_named, append_repeats, not_seen, once_new, append_append, append_none, count_append}
+use Rattle.supertype_place.proofs.Repeats.{append_named, append_repeats, not_seen}
+use Rattle.supertype_place.proofs.Repeats.{once_new, append_append, append_none, count_append}
 use Rattle.supertype_place.proofs.Repeats.{front_done, last_none, once_last}
 use Rattle.supertype_place.proofs.Squash.{squash_fields}
 use Rattle.supertype_place.proofs.Views.{type_front, run_front, run_many}
@@ -49,7 +50,8 @@ some_none e h = let k = sym e ∙ h in impossible cc
 pub table_start : {ks xs : List ℕ} {table : List (Option ℕ)} → table ≡ replicate slots None → Table empty ks xs table
 unfolding repeats named
 table_start {ks} {xs} {table} q =
-    let z : (s : ℕ) → get_or table s None ≡ None = λ s. ap (λ (l : List (Option ℕ)). get_or l s None) q ∙ empties slots s in
+    let z : (s : ℕ) → get_or table s None ≡ None = λ s. ap (λ (l : List (Option ℕ)). get_or l s None) q ∙ empties
+    slots s in
     record {
       size = ap length q ∙ length-replicate {A = Option ℕ} slots None;
       distinct = refl;
@@ -114,7 +116,8 @@ module _ {fs : Fields} {ks xs : List ℕ} {table : List (Option ℕ)} (T : Table
       place_is : {p : ℕ} {o : Option ℕ} → o ≡ Some p → o ≡ Some here → here ≡ p
       place_is e h = let k = sym h ∙ e in cc
 
-      type_at_slot : (s p : ℕ) → get_or l s None ≡ Some p → Entry l s → type_stands (from (p + 1) ks) (from (p + 1) xs) ≡ true
+      type_at_slot : (s p : ℕ) → get_or l s None ≡ Some p → Entry l s → type_stands (from (p + 1) ks) (from (p + 1)
+          xs) ≡ true
       type_at_slot s p h (inl e) = T.type s p (sym e ∙ h)
       type_at_slot s p h (inr e) =
           subst (λ (p : ℕ). type_stands (from (p + 1) ks) (from (p + 1) xs) ≡ true) (place_is h e) v
@@ -256,7 +259,8 @@ module _ {whole rest : FlatFields} {table : List (Option ℕ)} (s : Entering who
     -- the field is entered
     entered_on : {l : List (Option ℕ)}
         → Table (append s.done (field (get_or whole.args.now s.at 0)
-        (type_at (from (s.at + 1) whole.kinds.now) (from (s.at + 1) whole.args.now)) empty)) whole.kinds.now whole.args.now l
+        (type_at (from (s.at + 1) whole.kinds.now) (from (s.at + 1) whole.args.now)) empty)) whole.kinds.now
+        whole.args.now l
         → Entering whole new l
     unfolding append
     entered_on T = record {

@@ -31,7 +31,8 @@ use Rattle.dtype_eq.specs.Nodes.{starts_with}
 use Rattle.dtype_eq.proofs.Scans.{starts_type}
 use Rattle.dtype_inner.specs.Inner.{inner_dtype}
 use Rattle.supertype_nested.specs.Laws.{Each, LeavesFit, FieldsFit}
-use Rattle.supertype_place.specs.View.{from, most_nodes, leaves_fit, fields_fit, read_fits, paired, type_stands, run_stands}
+use Rattle.supertype_place.specs.View.{from, most_nodes, leaves_fit, fields_fit}
+use Rattle.supertype_place.specs.View.{read_fits, paired, type_stands, run_stands}
 use Rattle.supertype_place.specs.Viewed.{front_of}
 
 -- ---- the tests

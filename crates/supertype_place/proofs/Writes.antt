@@ -104,7 +104,8 @@ mutual
   type_nodes (list t) = over kind.List 0 (kinds_of t) (args_of t) ∙ ap (λ l. node kind.List 0 ∷ l) (type_nodes t)
   type_nodes (array w t) = over kind.Array w (kinds_of t) (args_of t) ∙ ap (λ l. node kind.Array w ∷ l) (type_nodes t)
   type_nodes (struct fs) =
-      over kind.Struct (count fs) (kinds_ofs fs) (args_ofs fs) ∙ ap (λ l. node kind.Struct (count fs) ∷ l) (fields_nodes fs)
+      over kind.Struct (count fs) (kinds_ofs fs) (args_ofs fs) ∙ ap (λ l. node kind.Struct (count fs) ∷ l)
+      (fields_nodes fs)
 
   pub fields_nodes : (fs : Fields) → nodes_at (kinds_ofs fs) (args_ofs fs) ≡ nodes_ofs fs
   fields_nodes empty = nodes_none
@@ -211,5 +212,6 @@ module _ (K A : List ℕ) (mark : ℕ) (out : List Node) (e : nodes_at K A ≡ o
   pub held_front : TypeFront (from mark K) (from mark A)
   held_front =
       front_type (from mark K) (from mark A) (omega (arith, length_from mark K, most))
-      (valid_of (node_of (from mark K) (from mark A) _ (omega (arith, length_from mark K, length_from mark A, even)) read_there))
+      (valid_of (node_of (from mark K) (from mark A) _ (omega (arith, length_from mark K, length_from mark A, even))
+      read_there))
       (subst LeavesFit (sym held_same) h.fits)

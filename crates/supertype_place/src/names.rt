@@ -30,9 +30,10 @@ impl<'a> Named<'a> {
         let mut rest = fields;
         while let Some(field) = rest.next() {
             let slot = field.name as usize % SLOTS;
+            let before = fields.up_to(rest);
             if table[slot].is_none() {
                 table[slot] = Some((fields.kinds.len() - field.dtype.kinds.len() - 1) as u16);
-            } else if fields.up_to(rest).has(field.name) {
+            } else if before.has(field.name) {
                 return Named {
                     fields,
                     table: None,

@@ -59,7 +59,8 @@ held_stays {mark} {out} h = sym (take-append-drop mark out) ∙ ap (λ (l : List
 -- a held type's joins rest on the fields of its name alone
 module _ (c : TreeCall) (name : ℕ) where
   on_held : (fs gs : Fields) → ((v : DataType) → join_named c name v fs ≡ join_named c name v gs)
-      → (q : Option DataType) → option_and_then (λ st. join_named c name st fs) q ≡ option_and_then (λ st. join_named c name st gs) q
+      → (q : Option DataType) → option_and_then (λ st. join_named c name st fs) q ≡ option_and_then (λ st. join_named
+      c name st gs) q
   on_held fs gs h None = refl
   on_held fs gs h (Some v) = h v
 
@@ -140,7 +141,8 @@ module _ {i : SuperTypeOptions} {name : ℕ} {fs : Fields} {mark : ℕ} {begun :
         record {
           front = s.front;
           held = s.held;
-          same = s.same ∙ ap (join_named (get_supertype i) name (held_at mark out)) e ∙ skipped (get_supertype i) name (held_at mark out) t others d;
+          same = s.same ∙ ap (join_named (get_supertype i) name (held_at mark out)) e ∙ skipped (get_supertype i) name
+              (held_at mark out) t others d;
           less = omega (arith, s.less, ap sizes n);
           space = omega (arith, s.space, ap sizes n);
         }
@@ -170,10 +172,12 @@ module _ {i : SuperTypeOptions} {name : ℕ} {fs : Fields} {mark : ℕ} {begun :
           → join_named (get_supertype i) name (held_at mark begun) fs
           ≡ option_and_then (λ st. join_named (get_supertype i) name st others) q
       feed_after q h =
-          feed_split ∙ ap (λ (q : Option DataType). option_and_then (λ st. join_named (get_supertype i) name st others) q) h
+          feed_split ∙ ap (λ (q : Option DataType). option_and_then (λ st. join_named (get_supertype i) name st
+          others) q) h
 
       -- the join is None
-      pub feed_nothing : {new : List Node} → Fails (join_held (get_supertype i) t (held_at mark out)) (take mark out) new
+      pub feed_nothing : {new : List Node} → Fails (join_held (get_supertype i) t (held_at mark out)) (take mark out)
+          new
           → Fails (join_named (get_supertype i) name (held_at mark begun) fs) (take mark begun) new
       feed_nothing {new} w =
           record {
@@ -189,7 +193,9 @@ module _ {i : SuperTypeOptions} {name : ℕ} {fs : Fields} {mark : ℕ} {begun :
           let m : mark ≡ length (take mark out) = sym (length-take-le mark out s.held.within) in
           let g = held_fits i t (held_at mark out) f s.held.fits w.type w.is in
           let a = stands_is w.type g (take mark out) m w.wrote in
-          let y : size w.type < size t + size (held_at mark out) = if_told (Below (size t + size (held_at mark out))) (join_held (get_supertype i) t (held_at mark out)) w.type w.is (held_sizes (get_supertype i) (tree_smaller i i) t (held_at mark out)) in
+          let y : size w.type < size t + size (held_at mark out) = if_told (Below (size t + size (held_at mark out)))
+          (join_held (get_supertype i) t (held_at mark out)) w.type w.is (held_sizes (get_supertype i)
+          (tree_smaller i i) t (held_at mark out)) in
           record {
             front = stands_take w.type g (take mark out) m w.wrote ∙ s.front;
             held = stands_held w.type g (take mark out) m w.wrote;
@@ -258,7 +264,9 @@ module _ (i : SuperTypeOptions) (u : DataType) (gu : LeavesFit u) (name : ℕ) (
         → Joins nodes_of (join_named (get_supertype i) name u fs) base last r
     found_on last r j =
         let a = stands_is w.type fits base m w.wrote in
-        let q : join_named (get_supertype i) name (held_at mark new) others ≡ join_named (get_supertype i) name u fs = ap (λ (v : DataType). join_named (get_supertype i) name v others) a ∙ sym (found_after (Some w.type) w.is) in
+        let q : join_named (get_supertype i) name (held_at mark new) others ≡ join_named (get_supertype i) name u fs =
+        ap (λ (v : DataType). join_named (get_supertype i) name v others) a ∙ sym (found_after (Some w.type) w.is)
+        in
         subst (λ (l : List Node). Joins nodes_of (join_named (get_supertype i) name u fs) l last r)
         (stands_take w.type fits base m w.wrote)
         (subst (λ (p : Option DataType). Joins nodes_of p (take mark new) last r) q j)

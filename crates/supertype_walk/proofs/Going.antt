@@ -106,7 +106,8 @@ module _ {whole rest : Zip} {n : ℕ} {old new : List Node} (g : Going whole res
 
   -- so many nodes are written
   pub going_length : length new ≡ length old + sizes g.done
-  going_length = ap length g.wrote ∙ length-append old (nodes_ofs g.done) ∙ ap (λ (k : ℕ). length old + k) (sizes_nodes g.done)
+  going_length = ap length g.wrote ∙ length-append old (nodes_ofs g.done) ∙ ap (λ (k : ℕ). length old + k)
+      (sizes_nodes g.done)
 
   -- no more fields than nodes
   pub going_number : n ≤ length new

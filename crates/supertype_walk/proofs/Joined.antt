@@ -31,7 +31,8 @@ use Rattle.supertype_place.specs.Written.{nodes_of, held_at, HeldAt}
 use Rattle.supertype_place.specs.Viewed.{viewed, viewed_run}
 use Rattle.supertype_place.proofs.Repeats.{count_append}
 use Rattle.supertype_place.proofs.Views.{type_front, run_front, run_many}
-use Rattle.supertype_step.specs.Decided.{either_fields, above, first, each, run_step, at_side, step_answered, PartsOf, HasParts}
+use Rattle.supertype_step.specs.Decided.{either_fields, above, first, each}
+use Rattle.supertype_step.specs.Decided.{run_step, at_side, step_answered, PartsOf, HasParts}
 use Rattle.supertype_step.specs.Decided.{Decided, DecidedBy, NodeFits, IsOver, is_list, is_array, Wraps}
 use Rattle.supertype_step.specs.Decided.{list_wraps, array_wraps}
 use Rattle.supertype_step.specs.declared.Side.{Side}
@@ -63,7 +64,8 @@ unfolding head_kind
 wraps_kind list_wraps = (omega arith, omega arith)
 wraps_kind array_wraps = (omega arith, omega arith)
 
-pub list_kind : {t u : DataType} → u ≡ t → head_kind t ≡ kind.List → (kind.List ≤ head_kind u) × (head_kind u ≤ kind.Array)
+pub list_kind : {t u : DataType} → u ≡ t → head_kind t ≡ kind.List → (kind.List ≤ head_kind u) × (head_kind u ≤
+    kind.Array)
 list_kind e h = let k = ap head_kind e ∙ h in (omega (arith, k), omega (arith, k))
 
 pub inner_size : (t : DataType) {u : DataType} → inner_dtype t ≡ Some u → size t ≡ suc (size u)
@@ -166,7 +168,8 @@ module _ {o i : SuperTypeOptions} {l r : DataType} where
         joins_is nodes_of old new z
         (sym
         (a.answers
-        ∙ ap₂ (λ (p q : Option DataType). option_and_then (λ t. option_and_then (λ u. option_map (above n) ((get_supertype i) t u)) q) p) e h))
+        ∙ ap₂ (λ (p q : Option DataType). option_and_then (λ t. option_and_then (λ u. option_map (above n)
+        ((get_supertype i) t u)) q) p) e h))
         (over_joins a.parts.0 ((get_supertype i) t u) old new z w)
 
     pub arm_within : {s : Side} → Arm o i l r (Step.Within s) → {t : DataType} {one other : DataType}
@@ -178,7 +181,8 @@ module _ {o i : SuperTypeOptions} {l r : DataType} where
         joins_is nodes_of old new z
         (sym
         (a.answers
-        ∙ ap₂ (λ (a b : DataType). option_and_then (λ t. option_map list ((get_supertype i) t b)) (inner_dtype a)) (sym p) (sym q)
+        ∙ ap₂ (λ (a b : DataType). option_and_then (λ t. option_map list ((get_supertype i) t b)) (inner_dtype a))
+        (sym p) (sym q)
         ∙ ap (λ (p : Option DataType). option_and_then (λ t. option_map list ((get_supertype i) t other)) p) e))
         (list_joins k ((get_supertype i) t other) old new z w)
 
@@ -189,7 +193,8 @@ module _ {o i : SuperTypeOptions} {l r : DataType} where
     unfolding run_step
     arm_first {s} a {one} {other} p q {name} {t} {fs} e w =
         joins_is nodes_of old new z
-        (sym (a.answers ∙ ap₂ (first (get_supertype i)) (sym p) (sym q) ∙ ap (λ (l : DataType). first (get_supertype i) l other) e)) w
+        (sym (a.answers ∙ ap₂ (first (get_supertype i)) (sym p) (sym q) ∙ ap (λ (l : DataType). first (get_supertype
+        i) l other) e)) w
 
     -- each field
     pub arm_each : {s : Side} → Arm o i l r (Step.Each s) → {one other : DataType} → one ≡ at_side s l r
@@ -199,7 +204,8 @@ module _ {o i : SuperTypeOptions} {l r : DataType} where
     unfolding run_step
     arm_each {s} a {one} {other} p q {fs} e w =
         joins_is nodes_of old new z
-        (sym (a.answers ∙ ap₂ (each (get_supertype i)) (sym p) (sym q) ∙ ap (λ (l : DataType). each (get_supertype i) l other) e)) w
+        (sym (a.answers ∙ ap₂ (each (get_supertype i)) (sym p) (sym q) ∙ ap (λ (l : DataType). each (get_supertype i)
+        l other) e)) w
 
     -- the fields of both
     pub arm_fields : Arm o i l r Step.Fields → {fs gs : Fields} → l ≡ struct fs → r ≡ struct gs
@@ -211,7 +217,8 @@ module _ {o i : SuperTypeOptions} {l r : DataType} where
         (sym
         (a.answers
         ∙ ap₂
-        (λ (l r : DataType). if_struct None (λ fs. if_struct None (λ gs. option_map struct (either_fields (get_supertype i) fs gs)) r) l)
+        (λ (l r : DataType). if_struct None (λ fs. if_struct None (λ gs. option_map struct (either_fields
+        (get_supertype i) fs gs)) r) l)
         e h))
         w
 
@@ -222,7 +229,8 @@ module _ {o i : SuperTypeOptions} {l r : DataType} where
     unfolding run_step
     string_is =
         a.answers
-        ∙ ap (λ (p : Option DataType). option_or (option_and_then (λ u. option_map list ((get_supertype i) u l)) p) (Some (leaf kind.String 0))) e
+        ∙ ap (λ (p : Option DataType). option_or (option_and_then (λ u. option_map list ((get_supertype i) u l)) p)
+        (Some (leaf kind.String 0))) e
 
     pub arm_string_list : (old new : List Node) → Joined (λ v. m ∷ nodes_of v) (get_supertype i u l) old new
         → Joined nodes_of (supertype_tree o i l r) old new

@@ -11,7 +11,8 @@ use Rattle.flat.specs.Kind as kind
 use Rattle.flat.specs.Tree.{DataType, struct, Fields, empty, field, append, count, size, sizes}
 use Rattle.flat.specs.declared.Node.{Node}
 use Rattle.supertype_answer.specs.Join.{node}
-use Rattle.supertype_nested.specs.Nested.{SuperTypeOptions, TreeCall, Zip, names_differ, no_join, joined, zip_on, join_each}
+use Rattle.supertype_nested.specs.Nested.{SuperTypeOptions, TreeCall, Zip, names_differ}
+use Rattle.supertype_nested.specs.Nested.{no_join, joined, zip_on, join_each}
 use Rattle.supertype_nested.specs.Nested.{zip_fields}
 use Rattle.supertype_nested.specs.Union.{named, last_or, join_named, seen, with_names, old_names, new_names, outside}
 use Rattle.supertype_nested.proofs.Found.{if_told}
@@ -102,11 +103,13 @@ module _ {i : SuperTypeOptions} {fs : Fields} {r : DataType} {begun : List Node}
         → Eaching i fs r begun others new
     unfolding count
     each_next w =
-        let y : size w.type < size t + size r = if_told (Below (size t + size r)) (get_supertype i t r) w.type w.is (tree_smaller i i t r) in
+        let y : size w.type < size t + size r = if_told (Below (size t + size r)) (get_supertype i t r) w.type w.is
+        (tree_smaller i i t r) in
         record {
           n = s.n + 1;
           going = going_next s.going name w.type (zip_o (join_each (get_supertype i) others r))
-              (each_rest ∙ ap (λ (q : Option DataType). zip_on name q (zip_o (join_each (get_supertype i) others r))) w.is)
+              (each_rest ∙ ap (λ (q : Option DataType). zip_on name q (zip_o (join_each (get_supertype i) others r)))
+              w.is)
               w.wrote;
           many = omega (arith, s.many, ap count e);
           one = s.one;
@@ -119,12 +122,18 @@ module _ {i : SuperTypeOptions} {fs : Fields} {r : DataType} {begun : List Node}
       → Joined nodes_of (option_map struct (join_each (get_supertype i) fs r)) old out
   unfolding count
   each_end z old n e h =
-      let d = going_end s.going (ap (λ (fs : Fields). zip_o (join_each (get_supertype i) fs r)) z ∙ each_empty (get_supertype i) r) in
+      let d = going_end s.going (ap (λ (fs : Fields). zip_o (join_each (get_supertype i) fs r)) z ∙ each_empty
+      (get_supertype i) r) in
       record {
         type = struct s.going.done;
         is = ap (option_map struct) (zip_some _ s.going.done d);
         wrote = struct_wrote old n s.going.done e
-            (h ∙ ap (node kind.Struct) (let c : count fs ≡ count s.going.done = omega (arith, s.many, s.going.number, ap count z) in c))
+            (h ∙ ap (node kind.Struct) (let c : count fs ≡ count s.going.done = omega (
+              arith,
+              s.many,
+              s.going.number,
+              ap count z,
+            ) in c))
             s.going.wrote;
       }
 
@@ -154,7 +163,8 @@ pub record Zipping (i : SuperTypeOptions) (fs gs : Fields) (begun : List Node) (
   pub fewer : sizes rest + sizes left ≤ sizes fs + sizes gs
   pub space : length out + (sizes rest + sizes left) ≤ most_nodes
 
-pub zip_start : (i : SuperTypeOptions) (fs gs : Fields) (old : List Node) {begun : List Node} (n : Node) → begun ≡ old ++ n ∷ []
+pub zip_start : (i : SuperTypeOptions) (fs gs : Fields) (old : List Node) {begun : List Node} (n : Node) → begun ≡ old
+    ++ n ∷ []
     → count fs ≡ count gs → Fits (suc (sizes fs + sizes gs)) old → Zipping i fs gs begun fs gs begun
 zip_start i fs gs old {begun} n e c h =
     record {
@@ -209,11 +219,13 @@ module _ {i : SuperTypeOptions} {fs gs : Fields} {begun : List Node} {rest left 
           → Zipping i fs gs begun others others' new
       unfolding count
       zip_next w =
-          let y : size w.type < size t + size u = if_told (Below (size t + size u)) (get_supertype i t u) w.type w.is (tree_smaller i i t u) in
+          let y : size w.type < size t + size u = if_told (Below (size t + size u)) (get_supertype i t u) w.type w.is
+          (tree_smaller i i t u) in
           record {
             n = s.n + 1;
             going = going_next s.going name w.type (zip_fields (get_supertype i) others others')
-                (zip_rest ∙ ap (λ (q : Option DataType). zip_on name q (zip_fields (get_supertype i) others others')) w.is)
+                (zip_rest ∙ ap (λ (q : Option DataType). zip_on name q (zip_fields (get_supertype i) others others'))
+                w.is)
                 w.wrote;
             many = omega (arith, s.many, ap count e);
             even = omega (arith, s.even, ap count e, ap count h);
@@ -224,7 +236,8 @@ module _ {i : SuperTypeOptions} {fs gs : Fields} {begun : List Node} {rest left 
   -- none is to go
   zip_over : rest ≡ empty → zip_fields (get_supertype i) fs gs ≡ joined s.going.done
   zip_over z =
-      going_end s.going (ap (λ (fs : Fields). zip_fields (get_supertype i) fs left) z ∙ zip_empty (get_supertype i) left)
+      going_end s.going (ap (λ (fs : Fields). zip_fields (get_supertype i) fs left) z ∙ zip_empty (get_supertype i)
+      left)
 
   -- of either
   pub rest_over : left ≡ empty → rest ≡ empty
@@ -239,7 +252,12 @@ module _ {i : SuperTypeOptions} {fs gs : Fields} {begun : List Node} {rest left 
         fields = s.going.done;
         is = zip_over z;
         wrote = struct_wrote old n s.going.done e
-            (h ∙ ap (node kind.Struct) (let c : count fs ≡ count s.going.done = omega (arith, s.many, s.going.number, ap count z) in c))
+            (h ∙ ap (node kind.Struct) (let c : count fs ≡ count s.going.done = omega (
+              arith,
+              s.many,
+              s.going.number,
+              ap count z,
+            ) in c))
             s.going.wrote;
       }
 
@@ -280,7 +298,8 @@ module _ (c : TreeCall) (gs : Fields) where
       → zip_o (old_names c gs ns (field name t fs))
       ≡ zip_on name (join_named c name (last_or name t fs) gs) (zip_o (old_names c gs (name ∷ ns) fs))
   unfolding old_names
-  old_new ns name t fs e = rw e (zip_before name (join_named c name (last_or name t fs) gs) (old_names c gs (name ∷ ns) fs))
+  old_new ns name t fs e = rw e (zip_before name (join_named c name (last_or name t fs) gs) (old_names c gs (name ∷
+      ns) fs))
 
 -- Of the fields fs the loop has `rest` to go, and has written `names` fields.
 pub record Olding (i : SuperTypeOptions) (fs gs : Fields) (begun : List Node) (rest : Fields) (names : ℕ)
@@ -361,7 +380,8 @@ module _ {i : SuperTypeOptions} {fs gs : Fields} {begun : List Node} {rest : Fie
 
     -- it is new, and u is its last type
     module _ (k : seen (with_names s.done []) name ≡ false) {u : DataType} (l : u ≡ last_or name t others) where
-      old_space : size u + sizes (named name gs) + (sizes (outside (name ∷ ns) others) + sizes (outside (name ∷ ns) gs)) + 1
+      old_space : size u + sizes (named name gs) + (sizes (outside (name ∷ ns) others) + sizes (outside (name ∷ ns)
+          gs)) + 1
           ≤ sizes (outside ns rest) + sizes (outside ns gs)
       old_space =
           omega (
@@ -396,7 +416,8 @@ module _ {i : SuperTypeOptions} {fs gs : Fields} {begun : List Node} {rest : Fie
       old_rest =
           ap (λ (fs : Fields). zip_o (old_names c gs ns fs)) e
           ∙ old_new c gs ns name t others k
-          ∙ ap (λ (u : DataType). zip_on name (join_named c name u gs) (zip_o (old_names c gs (name ∷ ns) others))) (sym l)
+          ∙ ap (λ (u : DataType). zip_on name (join_named c name u gs) (zip_o (old_names c gs (name ∷ ns) others)))
+          (sym l)
 
       -- its join is None
       pub old_nothing : join_named (get_supertype i) name u gs ≡ None → old_names (get_supertype i) gs [] fs ≡ None
@@ -410,14 +431,18 @@ module _ {i : SuperTypeOptions} {fs gs : Fields} {begun : List Node} {rest : Fie
           → Olding i fs gs begun others (names + 1) new
       old_next w =
           let n = names_next s.done name t [] in
-          let y : size w.type ≤ size u + sizes (named name gs) = if_told (λ v. size v ≤ size u + sizes (named name gs)) (join_named c name u gs) w.type w.is (named_sizes i name u gs) in
-          let out : (fs : Fields) → sizes (outside (with_names (append s.done (field name t empty)) []) fs) ≡ sizes (outside (name ∷ ns) fs) = λ fs. ap (λ (l : List ℕ). sizes (outside l fs)) n in
+          let y : size w.type ≤ size u + sizes (named name gs) = if_told (λ v. size v ≤ size u + sizes (named name
+          gs)) (join_named c name u gs) w.type w.is (named_sizes i name u gs) in
+          let out : (fs : Fields) → sizes (outside (with_names (append s.done (field name t empty)) []) fs) ≡ sizes
+          (outside (name ∷ ns) fs) = λ fs. ap (λ (l : List ℕ). sizes (outside l fs)) n in
           record {
             done = append s.done (field name t empty);
             parts = parts_next s.done name t others s.parts e;
-            going = going_next s.going name w.type (zip_o (old_names c gs (with_names (append s.done (field name t empty)) []) others))
+            going = going_next s.going name w.type (zip_o (old_names c gs (with_names (append s.done (field name t
+                empty)) []) others))
                 (old_rest
-                ∙ ap₂ (λ (q : Option DataType) (l : List ℕ). zip_on name q (zip_o (old_names c gs l others))) w.is (sym n))
+                ∙ ap₂ (λ (q : Option DataType) (l : List ℕ). zip_on name q (zip_o (old_names c gs l others))) w.is
+                (sym n))
                 w.wrote;
             space = omega (arith, s.space, old_space, y, under_length w, out others, out gs);
           }
@@ -435,7 +460,8 @@ module _ (c : TreeCall) where
   new_seen ns name t gs e = rw e
 
   new_new : (ns : List ℕ) (name : ℕ) (t : DataType) (gs : Fields) → seen ns name ≡ false
-      → zip_o (new_names c ns (field name t gs)) ≡ zip_on name (join_named c name t gs) (zip_o (new_names c (name ∷ ns) gs))
+      → zip_o (new_names c ns (field name t gs)) ≡ zip_on name (join_named c name t gs) (zip_o (new_names c (name ∷
+      ns) gs))
   unfolding new_names
   new_new ns name t gs e = rw e (zip_before name (join_named c name t gs) (new_names c (name ∷ ns) gs))
 
@@ -448,7 +474,8 @@ pub record Newing (i : SuperTypeOptions) (fs gs : Fields) (begun : List Node) (r
       (zip_o (new_names (get_supertype i) (with_names done (with_names fs [])) rest)) names begun out
   pub space : length out + sizes (outside (with_names done (with_names fs [])) rest) ≤ most_nodes
 
-pub new_start : (i : SuperTypeOptions) (fs gs : Fields) (out : List Node) → Fits (sizes (outside (with_names fs []) gs)) out
+pub new_start : (i : SuperTypeOptions) (fs gs : Fields) (out : List Node) → Fits (sizes (outside (with_names fs [])
+    gs)) out
     → Newing i fs gs out gs 0 out
 unfolding append with_names
 new_start i fs gs out h =
@@ -505,13 +532,15 @@ module _ {i : SuperTypeOptions} {fs gs : Fields} {begun : List Node} {rest : Fie
           space = omega (
             arith,
             s.space,
-            ap sizes (ap (outside ns') e ∙ out_seen ns' name t others k ∙ ap (λ (l : List ℕ). outside l others) (sym n)),
+            ap sizes (ap (outside ns') e ∙ out_seen ns' name t others k ∙ ap (λ (l : List ℕ). outside l others) (sym
+                n)),
           );
         }
 
     -- it is new
     module _ (k : seen (with_names s.done (with_names fs [])) name ≡ false) where
-      new_space : size t + sizes (named name others) + sizes (outside (name ∷ ns') others) + 1 ≤ sizes (outside ns' rest)
+      new_space : size t + sizes (named name others) + sizes (outside (name ∷ ns') others) + 1 ≤ sizes (outside ns'
+          rest)
       new_space =
           omega (
             arith,
@@ -544,14 +573,17 @@ module _ {i : SuperTypeOptions} {fs gs : Fields} {begun : List Node} {rest : Fie
           → Newing i fs gs begun others (names + 1) new
       new_next w =
           let n = names_next s.done name t (with_names fs []) in
-          let y : size w.type ≤ size t + sizes (named name others) = if_told (λ v. size v ≤ size t + sizes (named name others)) (join_named c' name t others) w.type w.is (named_sizes i name t others) in
+          let y : size w.type ≤ size t + sizes (named name others) = if_told (λ v. size v ≤ size t + sizes (named name
+          others)) (join_named c' name t others) w.type w.is (named_sizes i name t others) in
           let out = ap (λ (l : List ℕ). sizes (outside l others)) n in
           record {
             done = append s.done (field name t empty);
             parts = parts_next s.done name t others s.parts e;
-            going = going_next s.going name w.type (zip_o (new_names c' (with_names (append s.done (field name t empty)) (with_names fs [])) others))
+            going = going_next s.going name w.type (zip_o (new_names c' (with_names (append s.done (field name t
+                empty)) (with_names fs [])) others))
                 (new_rest
-                ∙ ap₂ (λ (q : Option DataType) (l : List ℕ). zip_on name q (zip_o (new_names c' l others))) w.is (sym n))
+                ∙ ap₂ (λ (q : Option DataType) (l : List ℕ). zip_on name q (zip_o (new_names c' l others))) w.is (sym
+                n))
                 w.wrote;
             space = omega (arith, s.space, new_space, y, under_length w, out);
           }

@@ -52,7 +52,8 @@ module _ (i : SuperTypeOptions) (fs gs : Fields) where
         (m : Fits (sizes fs + sizes gs) begun) where
       bound : sizes w.fields + sizes (outside (with_names fs []) gs) ≤ sizes fs + sizes gs
       bound =
-          let y = if_told (λ hs. sizes hs + sizes (outside (with_names fs []) gs) ≤ sizes (outside [] fs) + sizes (outside [] gs)) olds w.fields w.is (old_sizes i gs [] fs) in
+          let y = if_told (λ hs. sizes hs + sizes (outside (with_names fs []) gs) ≤ sizes (outside [] fs) + sizes
+          (outside [] gs)) olds w.fields w.is (old_sizes i gs [] fs) in
           omega (arith, y, ap sizes (outside_none (get_supertype i) fs), ap sizes (outside_none (get_supertype i) gs))
 
       mid_length : length mid ≡ length begun + sizes w.fields
@@ -73,26 +74,34 @@ module _ (i : SuperTypeOptions) (fs gs : Fields) where
           }
 
       -- both are fields
-      module _ {out : List Node} {b : ℕ} (v : Filled (new_names (get_supertype i) (with_names fs []) gs) mid out b) where
-        -- the number of names
-        pub merged_names : a + b ≤ most_nodes
-        merged_names =
-            let y = if_told (λ (hs : Fields). sizes hs ≤ sizes (outside (with_names fs []) gs)) news v.fields v.is (new_sizes i (with_names fs []) gs) in
-            omega (arith, y, m, bound, w.number, v.number, count_le w.fields, count_le v.fields)
+      module _ {out : List Node} {b : ℕ} (v : Filled (new_names (get_supertype i) (with_names fs []) gs) mid out b)
+        where
+          -- the number of names
+          pub merged_names : a + b ≤ most_nodes
+          merged_names =
+              let y = if_told (λ (hs : Fields). sizes hs ≤ sizes (outside (with_names fs []) gs)) news v.fields v.is
+              (new_sizes i (with_names fs []) gs) in
+              omega (arith, y, m, bound, w.number, v.number, count_le w.fields, count_le v.fields)
 
-        all_wrote : out ≡ begun ++ nodes_ofs (append w.fields v.fields)
-        all_wrote =
-            v.wrote ∙ ap (λ (l : List Node). l ++ nodes_ofs v.fields) w.wrote
-            ∙ append_assoc begun (nodes_ofs w.fields) (nodes_ofs v.fields)
-            ∙ ap (λ (l : List Node). begun ++ l) (sym (nodes_ofs_append w.fields v.fields))
+          all_wrote : out ≡ begun ++ nodes_ofs (append w.fields v.fields)
+          all_wrote =
+              v.wrote ∙ ap (λ (l : List Node). l ++ nodes_ofs v.fields) w.wrote
+              ∙ append_assoc begun (nodes_ofs w.fields) (nodes_ofs v.fields)
+              ∙ ap (λ (l : List Node). begun ++ l) (sym (nodes_ofs_append w.fields v.fields))
 
-        pub merged : {mark names : ℕ} → mark ≡ length old → names ≡ a + b
-            → Joined nodes_of (option_map struct (union_fields (get_supertype i) fs gs)) old
-            (set out mark (node kind.Struct names))
-        merged {mark} {names} h c =
-            record {
-              type = struct (append w.fields v.fields);
-              is = ap (option_map struct) (both_are (Some w.fields) (Some v.fields) w.is v.is);
-              wrote = struct_closed old n (append w.fields v.fields) e all_wrote h
-                  (let x : names ≡ count (append w.fields v.fields) = omega (arith, c, w.number, v.number, count_append w.fields v.fields) in x);
-            }
+          pub merged : {mark names : ℕ} → mark ≡ length old → names ≡ a + b
+              → Joined nodes_of (option_map struct (union_fields (get_supertype i) fs gs)) old
+              (set out mark (node kind.Struct names))
+          merged {mark} {names} h c =
+              record {
+                type = struct (append w.fields v.fields);
+                is = ap (option_map struct) (both_are (Some w.fields) (Some v.fields) w.is v.is);
+                wrote = struct_closed old n (append w.fields v.fields) e all_wrote h
+                    (let x : names ≡ count (append w.fields v.fields) = omega (
+                      arith,
+                      c,
+                      w.number,
+                      v.number,
+                      count_append w.fields v.fields,
+                    ) in x);
+              }

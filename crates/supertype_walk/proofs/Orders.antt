@@ -45,7 +45,8 @@ module _ (c : TreeCall) (fs gs : Fields) where
     by_zip z h = sym (as_many e ∙ ap (zip_either (union_fields c fs gs) (union_fields c gs fs)) h)
 
     -- the loop's fields
-    pub zip_decides : {hs : Fields} → zip_fields c fs gs ≡ joined hs → zip_fields c fs gs ≡ zip_o (either_fields c fs gs)
+    pub zip_decides : {hs : Fields} → zip_fields c fs gs ≡ joined hs → zip_fields c fs gs ≡ zip_o (either_fields c fs
+        gs)
     zip_decides {hs} h = h ∙ ap zip_o (by_zip (joined hs) h)
 
     -- the loop's None

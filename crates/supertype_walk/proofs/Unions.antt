@@ -98,7 +98,8 @@ module _ (i : SuperTypeOptions) where
           (λ hs g. omega (arith, g, ap sizes (out_same name ns fs e), ap sizes (out_same name ns gs e))) later h
       go false e h =
           before_sizes name W (size (last_or name t fs) + sizes (named name gs)) room
-          (suc (size t + sizes (outside ns fs)) + sizes (outside ns gs)) (join_named c name (last_or name t fs) gs) later
+          (suc (size t + sizes (outside ns fs)) + sizes (outside ns gs)) (join_named c name (last_or name t fs) gs)
+          later
           (named_sizes i name (last_or name t fs) gs) h
           (omega (arith, last_sizes name t fs, parted name ns fs e, parted name ns gs e))
 

@@ -38,7 +38,8 @@ use Rattle.supertype_walk.proofs.Loops.{old_parts, old_room, old_skip, old_start
 use Rattle.supertype_walk.proofs.Loops.{zip_less, zip_next, zip_nothing, zip_room, zip_start}
 use Rattle.supertype_walk.proofs.Merged.{merged, merged_names, new_nothing as union_new, new_room as union_room}
 use Rattle.supertype_walk.proofs.Merged.{old_nothing as union_old}
-use Rattle.supertype_walk.proofs.Orders.{all_distinct, left_longer, one_order, right_longer, union_decides, union_turned}
+use Rattle.supertype_walk.proofs.Orders.{all_distinct, left_longer, one_order}
+use Rattle.supertype_walk.proofs.Orders.{right_longer, union_decides, union_turned}
 use Rattle.supertype_walk.proofs.Orders.{zip_decides, zip_ends, zip_in_place}
 use Rattle.supertype_walk.proofs.Told.{joins_is, kept_all, kept_on, under_of}
 use Rattle.supertype_walk.proofs.walk.+joins.Goals as goal
@@ -141,12 +142,14 @@ join-push-requires t c = omega (arith, c.requires, size_pos (viewed c.args.l))
 
 pub join-inner-requires : goal.join-inner-requires
 join-inner-requires t c =
-    let a = arm_of _ (options_of c.args.i) c.args.l c.args.r c.root.ensures c.root-2.ensures _ c.decide.ensures c.in_ok-n.was c.in-Under.is in
+    let a = arm_of _ (options_of c.args.i) c.args.l c.args.r c.root.ensures c.root-2.ensures _ c.decide.ensures
+    c.in_ok-n.was c.in-Under.is in
     wraps_kind a.parts.1
 
 pub join-inner-requires-in-Under : goal.join-inner-requires-in-Under
 join-inner-requires-in-Under t c =
-    let a = arm_of _ (options_of c.args.i) c.args.l c.args.r c.root.ensures c.root-2.ensures _ c.decide.ensures c.in_ok-n.was c.in-Under.is in
+    let a = arm_of _ (options_of c.args.i) c.args.l c.args.r c.root.ensures c.root-2.ensures _ c.decide.ensures
+    c.in_ok-n.was c.in-Under.is in
     wraps_kind a.parts.2
 
 pub join-under-requires : goal.join-under-requires
@@ -157,7 +160,8 @@ join-under-requires t c =
 
 pub join-inner-requires-in-Within : goal.join-inner-requires-in-Within
 join-inner-requires-in-Within t c =
-    let a = arm_of _ (options_of c.args.i) c.args.l c.args.r c.root.ensures c.root-2.ensures _ c.decide.ensures c.in_ok-n.was c.in-Within.is in
+    let a = arm_of _ (options_of c.args.i) c.args.l c.args.r c.root.ensures c.root-2.ensures _ c.decide.ensures
+    c.in_ok-n.was c.in-Within.is in
     list_kind c.sided-in-Within.ensures.one a.parts
 
 pub join-under-requires-in-Within : goal.join-under-requires-in-Within
@@ -168,7 +172,8 @@ join-under-requires-in-Within t c =
 
 pub join-inner-requires-in-StringWithin : goal.join-inner-requires-in-StringWithin
 join-inner-requires-in-StringWithin t c =
-    let a = arm_of _ (options_of c.args.i) c.args.l c.args.r c.root.ensures c.root-2.ensures _ c.decide.ensures c.in_ok-n.was c.in-StringWithin.is in
+    let a = arm_of _ (options_of c.args.i) c.args.l c.args.r c.root.ensures c.root-2.ensures _ c.decide.ensures
+    c.in_ok-n.was c.in-StringWithin.is in
     list_kind refl a.parts
 
 pub join-under-requires-in-StringWithin : goal.join-under-requires-in-StringWithin
@@ -179,18 +184,22 @@ join-under-requires-in-StringWithin t c =
 pub join-push-requires-then-is_none : goal.join-push-requires-then-is_none
 join-push-requires-then-is_none t c =
     let w = rw (is_nothing _ c.if-is_none.ensures) at c.under-in-StringWithin.ensures in
-    let k = ap length (c.truncate.ensures ∙ ap (λ n. take n c.under-in-StringWithin.new.out) c.len-mark.ensures ∙ w.kept) in
+    let k = ap length (c.truncate.ensures ∙ ap (λ n. take n c.under-in-StringWithin.new.out) c.len-mark.ensures ∙
+    w.kept) in
     omega (arith, c.requires, size_pos (viewed c.args.l), k)
 
 pub join-fields-fields-requires : goal.join-fields-fields-requires
 join-fields-fields-requires t c =
-    let a = arm_of _ (options_of c.args.i) c.args.l c.args.r c.root.ensures c.root-2.ensures _ c.decide.ensures c.in_ok-n.was c.in-First.is in
+    let a = arm_of _ (options_of c.args.i) c.args.l c.args.r c.root.ensures c.root-2.ensures _ c.decide.ensures
+    c.in_ok-n.was c.in-First.is in
     ap head_kind c.sided-in-First.ensures.one ∙ a.parts.0
 
 pub join-returns-in_err-first-in-First : goal.join-returns-in_err-first-in-First
 join-returns-in_err-first-in-First t c =
-    let a = arm_of _ (options_of c.args.i) c.args.l c.args.r c.root.ensures c.root-2.ensures _ c.decide.ensures c.in_ok-n.was c.in-First.is in
-    absurd (a.parts.1 (ap head_arg (sym c.sided-in-First.ensures.one) ∙ no_fields_arg _ c.fields-fields.ensures c.in_err-first-in-First.ensures.steps.none))
+    let a = arm_of _ (options_of c.args.i) c.args.l c.args.r c.root.ensures c.root-2.ensures _ c.decide.ensures
+    c.in_ok-n.was c.in-First.is in
+    absurd (a.parts.1 (ap head_arg (sym c.sided-in-First.ensures.one) ∙ no_fields_arg _ c.fields-fields.ensures
+    c.in_err-first-in-First.ensures.steps.none))
 
 pub join-join-requires : goal.join-join-requires
 join-join-requires t c =
@@ -200,12 +209,14 @@ join-join-requires t c =
 
 pub join-fields-requires : goal.join-fields-requires
 join-fields-requires t c =
-    let a = arm_of _ (options_of c.args.i) c.args.l c.args.r c.root.ensures c.root-2.ensures _ c.decide.ensures c.in_ok-n.was c.in-Each.is in
+    let a = arm_of _ (options_of c.args.i) c.args.l c.args.r c.root.ensures c.root-2.ensures _ c.decide.ensures
+    c.in_ok-n.was c.in-Each.is in
     ap head_kind c.sided-in-Each.ensures.one ∙ a.parts.0
 
 pub join-each-requires : goal.join-each-requires
 join-each-requires t c =
-    let a = arm_of _ (options_of c.args.i) c.args.l c.args.r c.root.ensures c.root-2.ensures _ c.decide.ensures c.in_ok-n.was c.in-Each.is in
+    let a = arm_of _ (options_of c.args.i) c.args.l c.args.r c.root.ensures c.root-2.ensures _ c.decide.ensures
+    c.in_ok-n.was c.in-Each.is in
     let s = side_sizes c.in-Each.side _ _ c.sided-in-Each.ensures.one c.sided-in-Each.ensures.other in
     let n = struct_size c.fields.ensures in (
       omega (arith, c.decreases, s, n),
@@ -214,12 +225,14 @@ join-each-requires t c =
 
 pub join-fields-requires-in-Fields : goal.join-fields-requires-in-Fields
 join-fields-requires-in-Fields t c =
-    let a = arm_of _ (options_of c.args.i) c.args.l c.args.r c.root.ensures c.root-2.ensures _ c.decide.ensures c.in_ok-n.was c.in-Fields.is in
+    let a = arm_of _ (options_of c.args.i) c.args.l c.args.r c.root.ensures c.root-2.ensures _ c.decide.ensures
+    c.in_ok-n.was c.in-Fields.is in
     a.parts.0
 
 pub join-fields-requires-in-Fields-2 : goal.join-fields-requires-in-Fields-2
 join-fields-requires-in-Fields-2 t c =
-    let a = arm_of _ (options_of c.args.i) c.args.l c.args.r c.root.ensures c.root-2.ensures _ c.decide.ensures c.in_ok-n.was c.in-Fields.is in
+    let a = arm_of _ (options_of c.args.i) c.args.l c.args.r c.root.ensures c.root-2.ensures _ c.decide.ensures
+    c.in_ok-n.was c.in-Fields.is in
     a.parts.1
 
 pub join-fields-requires-in-Fields-3 : goal.join-fields-requires-in-Fields-3
@@ -230,46 +243,57 @@ join-fields-requires-in-Fields-3 t c =
 
 pub join-returns-in-Node : goal.join-returns-in-Node
 join-returns-in-Node t c =
-    arm_node (arm_of _ (options_of c.args.i) c.args.l c.args.r c.root.ensures c.root-2.ensures _ c.decide.ensures c.in_ok-n.was c.in-Node.is) _ _ c.push.ensures
+    arm_node (arm_of _ (options_of c.args.i) c.args.l c.args.r c.root.ensures c.root-2.ensures _ c.decide.ensures
+    c.in_ok-n.was c.in-Node.is) _ _ c.push.ensures
 
 pub join-returns-in-Whole : goal.join-returns-in-Whole
 join-returns-in-Whole t c =
-    arm_whole (arm_of _ (options_of c.args.i) c.args.l c.args.r c.root.ensures c.root-2.ensures _ c.decide.ensures c.in_ok-n.was c.in-Whole.is) c.sided.ensures.one _ _ c.extend.ensures
+    arm_whole (arm_of _ (options_of c.args.i) c.args.l c.args.r c.root.ensures c.root-2.ensures _ c.decide.ensures
+    c.in_ok-n.was c.in-Whole.is) c.sided.ensures.one _ _ c.extend.ensures
 
 pub join-returns-in-Under : goal.join-returns-in-Under
 join-returns-in-Under t c =
-    arm_under _ _ _ (arm_of _ (options_of c.args.i) c.args.l c.args.r c.root.ensures c.root-2.ensures _ c.decide.ensures c.in_ok-n.was c.in-Under.is) c.inner.ensures c.inner-in-Under.ensures c.under.ensures
+    arm_under _ _ _ (arm_of _ (options_of c.args.i) c.args.l c.args.r c.root.ensures c.root-2.ensures _
+    c.decide.ensures c.in_ok-n.was c.in-Under.is) c.inner.ensures c.inner-in-Under.ensures c.under.ensures
 
 pub join-returns-in-Within : goal.join-returns-in-Within
 join-returns-in-Within t c =
-    arm_within _ _ _ (arm_of _ (options_of c.args.i) c.args.l c.args.r c.root.ensures c.root-2.ensures _ c.decide.ensures c.in_ok-n.was c.in-Within.is) c.sided-in-Within.ensures.one c.sided-in-Within.ensures.other
+    arm_within _ _ _ (arm_of _ (options_of c.args.i) c.args.l c.args.r c.root.ensures c.root-2.ensures _
+    c.decide.ensures c.in_ok-n.was c.in-Within.is) c.sided-in-Within.ensures.one c.sided-in-Within.ensures.other
     c.inner-in-Within.ensures c.plain.ensures c.under-in-Within.ensures
 
 pub join-returns-then-is_none : goal.join-returns-then-is_none
 join-returns-then-is_none t c =
     let w = rw (is_nothing _ c.if-is_none.ensures) at c.under-in-StringWithin.ensures in
-    arm_string (arm_of _ (options_of c.args.i) c.args.l c.args.r c.root.ensures c.root-2.ensures _ c.decide.ensures c.in_ok-n.was c.in-StringWithin.is) c.inner-in-StringWithin.ensures c.plain-in-StringWithin.ensures _ _ w
+    arm_string (arm_of _ (options_of c.args.i) c.args.l c.args.r c.root.ensures c.root-2.ensures _ c.decide.ensures
+    c.in_ok-n.was c.in-StringWithin.is) c.inner-in-StringWithin.ensures c.plain-in-StringWithin.ensures _ _ w
     c.len-mark.ensures c.truncate.ensures c.plain-then-is_none.ensures c.push-then-is_none.ensures
 
 pub join-returns-else-is_none : goal.join-returns-else-is_none
 join-returns-else-is_none t c =
     let x = there_is _ (sym c.if-is_none.ensures) in
-    arm_string_list (arm_of _ (options_of c.args.i) c.args.l c.args.r c.root.ensures c.root-2.ensures _ c.decide.ensures c.in_ok-n.was c.in-StringWithin.is) c.inner-in-StringWithin.ensures c.plain-in-StringWithin.ensures _ _
+    arm_string_list (arm_of _ (options_of c.args.i) c.args.l c.args.r c.root.ensures c.root-2.ensures _
+    c.decide.ensures c.in_ok-n.was c.in-StringWithin.is) c.inner-in-StringWithin.ensures
+    c.plain-in-StringWithin.ensures _ _
     (rw x.1 at c.under-in-StringWithin.ensures)
 
 pub join-returns-in_ok-first-in-First : goal.join-returns-in_ok-first-in-First
 join-returns-in_ok-first-in-First t c =
-    arm_first _ _ _ (arm_of _ (options_of c.args.i) c.args.l c.args.r c.root.ensures c.root-2.ensures _ c.decide.ensures c.in_ok-n.was c.in-First.is) c.sided-in-First.ensures.one c.sided-in-First.ensures.other
+    arm_first _ _ _ (arm_of _ (options_of c.args.i) c.args.l c.args.r c.root.ensures c.root-2.ensures _
+    c.decide.ensures c.in_ok-n.was c.in-First.is) c.sided-in-First.ensures.one c.sided-in-First.ensures.other
     (c.fields-fields.ensures ∙ ap struct c.in_ok-first-in-First.ensures.steps.fields) c.join.ensures
 
 pub join-returns-in-Each : goal.join-returns-in-Each
 join-returns-in-Each t c =
-    arm_each _ _ _ (arm_of _ (options_of c.args.i) c.args.l c.args.r c.root.ensures c.root-2.ensures _ c.decide.ensures c.in_ok-n.was c.in-Each.is) c.sided-in-Each.ensures.one c.sided-in-Each.ensures.other c.fields.ensures
+    arm_each _ _ _ (arm_of _ (options_of c.args.i) c.args.l c.args.r c.root.ensures c.root-2.ensures _
+    c.decide.ensures c.in_ok-n.was c.in-Each.is) c.sided-in-Each.ensures.one c.sided-in-Each.ensures.other
+    c.fields.ensures
     c.each.ensures
 
 pub join-returns-in-Fields : goal.join-returns-in-Fields
 join-returns-in-Fields t c =
-    arm_fields _ _ _ (arm_of _ (options_of c.args.i) c.args.l c.args.r c.root.ensures c.root-2.ensures _ c.decide.ensures c.in_ok-n.was c.in-Fields.is) c.fields-in-Fields.ensures c.fields-in-Fields-2.ensures
+    arm_fields _ _ _ (arm_of _ (options_of c.args.i) c.args.l c.args.r c.root.ensures c.root-2.ensures _
+    c.decide.ensures c.in_ok-n.was c.in-Fields.is) c.fields-in-Fields.ensures c.fields-in-Fields-2.ensures
     c.fields-in-Fields-3.ensures
 
 -- ---- `merge`
@@ -282,7 +306,12 @@ merge-returns-then-l-r t c =
     let gs = viewed_run c.args.r in
     let l = run_many (run_front c.args.l.stand) in
     let r = run_many (run_front c.args.r.stand) in
-    joins_is nodes_of _ _ c.union.result (ap (option_map struct) (right_longer c' fs gs (omega (arith, l, r, c.if-l-r.true))))
+    joins_is nodes_of _ _ c.union.result (ap (option_map struct) (right_longer c' fs gs (omega (
+      arith,
+      l,
+      r,
+      c.if-l-r.true,
+    ))))
     (rw (c.new-p.ensures.same, c.new-q.ensures.same) at c.union.ensures)
 
 pub merge-returns-then-r-l : goal.merge-returns-then-r-l
@@ -376,7 +405,8 @@ merge-returns t c =
     let many = l ∙ e ∙ sym r in
     let z = rw c.in-Err-Apart.field-0-is at c.in-Err-Apart.ensures in
     let b = c.truncate.ensures ∙ ap (λ m. take m c.zip.new.out) c.len-mark.ensures ∙ z.kept in
-    let w = rw (c.new-p.ensures.same, c.new-q.ensures.same, b, is_nothing _ (sym c.if-is_some-3.ensures)) at c.union-2.ensures in
+    let w = rw (c.new-p.ensures.same, c.new-q.ensures.same, b, is_nothing _ (sym c.if-is_some-3.ensures)) at
+    c.union-2.ensures in
     let d = c.truncate-2.ensures ∙ ap (λ m. take m c.union-2.new.out) c.len-mark.ensures ∙ w.kept in
     joins_is nodes_of _ _ c.union-3.result
     (ap (option_map struct) (union_turned c' fs gs many z.is (struct_none _ w.none)))
@@ -386,7 +416,8 @@ merge-returns t c =
 
 pub named-returns-in_default : goal.named-returns-in_default
 named-returns-in_default t c =
-    under_of _ _ c.args.out.now _ (Some tt) (c.push.ensures ∙ ap (λ n. c.args.out.now ++ n ∷ []) c.field_node.ensures) record {
+    under_of _ _ c.args.out.now _ (Some tt) (c.push.ensures ∙ ap (λ n. c.args.out.now ++ n ∷ []) c.field_node.ensures)
+    record {
       type = viewed c.args.field.dtype;
       is = sym (none_named (get_supertype (options_of c.args.i)) c.args.field.name (viewed c.args.field.dtype)
           (viewed_run c.args.fields.fields) c.in_default.ensures);
@@ -591,7 +622,8 @@ union-returns-in_err-first t c =
     let fs = viewed_run c.args.longest.fields in
     let gs = viewed_run c.args.shortest.fields in
     let n = ap length c.push.ensures ∙ length-append c.args.out.now (c.struct_node.result ∷ []) in
-    rw c.from_residual.ensures (union_old i fs gs c.args.out.now c.struct_node.result c.push.ensures _ c.in_err-first.ensures)
+    rw c.from_residual.ensures (union_old i fs gs c.args.out.now c.struct_node.result c.push.ensures _
+    c.in_err-first.ensures)
 
 pub union-new-requires : goal.union-new-requires
 union-new-requires t c =
@@ -600,7 +632,11 @@ union-new-requires t c =
     let gs = viewed_run c.args.shortest.fields in
     let n = ap length c.push.ensures ∙ length-append c.args.out.now (c.struct_node.result ∷ []) in (
       omega (arith, c.decreases),
-      union_room i fs gs c.args.out.now c.struct_node.result c.push.ensures c.in_ok-first.ensures (omega (arith, c.requires, n)),
+      union_room i fs gs c.args.out.now c.struct_node.result c.push.ensures c.in_ok-first.ensures (omega (
+        arith,
+        c.requires,
+        n,
+      )),
     )
 
 pub union-returns-in_err-more : goal.union-returns-in_err-more

@@ -1,4 +1,5 @@
--- The cycle of joins: what each member's calls lessen, and what its loop keeps. The measure is the number of nodes left,
+-- The cycle of joins: what each member's calls lessen, and what its loop keeps. The measure is the number of nodes
+-- left,
 -- and where a call hands on as many, the member's rank. Assumes nothing.
 use Prim.Native.Nat.{ℕ, ◌+◌, ◌*◌}
 use Rattle.flat.specs.Tree.{size, sizes}
@@ -56,24 +57,29 @@ decreases-zip l = weight (sizes (viewed_run l.l) + sizes (viewed_run l.r)) 0
 
 abbrev pub invariant-again-loop-field : goal.invariant-again-loop-field
 invariant-again-loop-field l =
-    (goal.iterator-again-loop-field).can_next l.field-iterator × (goal.iterator-again-loop-field).is_finite l.field-iterator
+    (goal.iterator-again-loop-field).can_next l.field-iterator × (goal.iterator-again-loop-field).is_finite
+    l.field-iterator
     × Feeding (options_of l.i) l.name (viewed_run l.fn.fields) l.mark l.initial.out (viewed_run l.field-iterator) l.out
 
 abbrev pub invariant-each-loop-field : goal.invariant-each-loop-field
 invariant-each-loop-field l =
-    (goal.iterator-each-loop-field).can_next l.field-iterator × (goal.iterator-each-loop-field).is_finite l.field-iterator
-    × Eaching (options_of l.i) (viewed_run l.fn.fields) (viewed l.other) l.initial.out (viewed_run l.field-iterator) l.out
+    (goal.iterator-each-loop-field).can_next l.field-iterator × (goal.iterator-each-loop-field).is_finite
+    l.field-iterator
+    × Eaching (options_of l.i) (viewed_run l.fn.fields) (viewed l.other) l.initial.out (viewed_run l.field-iterator)
+    l.out
 
 abbrev pub invariant-new-loop-field : goal.invariant-new-loop-field
 invariant-new-loop-field l =
     (goal.iterator-new-loop-field).can_next l.rest × (goal.iterator-new-loop-field).is_finite l.rest
-    × Newing (options_of l.i) (viewed_run l.longest.fields) (viewed_run l.shortest.fields) l.initial.out (viewed_run l.rest)
+    × Newing (options_of l.i) (viewed_run l.longest.fields) (viewed_run l.shortest.fields) l.initial.out (viewed_run
+    l.rest)
     l.names l.out
 
 abbrev pub invariant-old-loop-field : goal.invariant-old-loop-field
 invariant-old-loop-field l =
     (goal.iterator-old-loop-field).can_next l.rest × (goal.iterator-old-loop-field).is_finite l.rest
-    × Olding (options_of l.i) (viewed_run l.longest.fields) (viewed_run l.shortest.fields) l.initial.out (viewed_run l.rest)
+    × Olding (options_of l.i) (viewed_run l.longest.fields) (viewed_run l.shortest.fields) l.initial.out (viewed_run
+    l.rest)
     l.names l.out
 
 abbrev pub invariant-zip-loop-a : goal.invariant-zip-loop-a

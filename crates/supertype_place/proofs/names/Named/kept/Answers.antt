@@ -7,7 +7,8 @@ use Rattle.supertype_place.proofs.names.Named.kept.Goals as goal
 pub returns-then-is_some : goal.returns-then-is_some
 returns-then-is_some c =
     let x = there_is _ c.if-is_some.ensures in
-    kept_once c.args.field c.args.rest (told_distinct c.args.self.fields c.args.self.tells (ap (option_map (λ t. t.now)) x.1))
+    kept_once c.args.field c.args.rest (told_distinct c.args.self.fields c.args.self.tells (ap (option_map (λ t.
+    t.now)) x.1))
 
 pub returns-then-has : goal.returns-then-has
 returns-then-has c =

@@ -14,7 +14,8 @@ returns-then-is_some c =
 
 pub returns-then-is_none : goal.returns-then-is_none
 returns-then-is_none c =
-    λ done e. not_before _ _ _ (seen_before c.args.shortest.fields c.args.field c.args.rest done e c.up_to.ensures c.has.ensures)
+    λ done e. not_before _ _ _ (seen_before c.args.shortest.fields c.args.field c.args.rest done e c.up_to.ensures
+    c.has.ensures)
     (c.if-is_some.ensures ∙ found_seen _ _ _ c.find.ensures)
 
 pub returns-else-is_none : goal.returns-else-is_none

@@ -23,16 +23,20 @@ pub loop-field-preserved-then-is_none : goal.loop-field-preserved-then-is_none
 loop-field-preserved-then-is_none c =
     (tt, tt, enter_free c.loop-field.invariant.2 c.in-Some.ensures.steps (is_nothing _ c.if-is_none.ensures) refl)
 
-pub up_to-requires : goal.up_to-requires
-up_to-requires c = enter_left c.loop-field.invariant.2 c.in-Some.ensures.steps
+pub up_to-before-requires : goal.up_to-before-requires
+up_to-before-requires c = enter_left c.loop-field.invariant.2 c.in-Some.ensures.steps
 
 pub returns-then-has-clause-distinct : goal.returns-then-has-clause-distinct
 returns-then-has-clause-distinct c =
-    enter_again c.loop-field.invariant.2 c.in-Some.ensures.steps c.up_to.ensures c.has.ensures c.if-has.true
+    enter_again c.loop-field.invariant.2 c.in-Some.ensures.steps c.up_to-before.ensures c.has.ensures c.if-has.true
 
 pub loop-field-preserved : goal.loop-field-preserved
-loop-field-preserved c =
-    (tt, tt, enter_taken c.loop-field.invariant.2 c.in-Some.ensures.steps c.up_to.ensures c.has.ensures (is_something _ c.if-is_none.ensures) c.if-has.false)
+loop-field-preserved c = (
+  tt,
+  tt,
+  enter_taken c.loop-field.invariant.2 c.in-Some.ensures.steps c.up_to-before.ensures c.has.ensures
+      (is_something _ c.if-is_none.ensures) c.if-has.false,
+)
 
 pub invariant_of-result-2 : goal.invariant_of-result-2
 invariant_of-result-2 c =

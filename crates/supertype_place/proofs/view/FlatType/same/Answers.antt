@@ -8,12 +8,30 @@ use Rattle.supertype_place.proofs.view.FlatType.same.Goals as goal
 pub slice_bounds-starts_with-end : goal.slice_bounds-starts_with-end
 slice_bounds-starts_with-end c =
     let v = type_front c.args.other.stands in
-    omega (arith, c.nodes-n.ensures, v.kinds, length-take-le c.nodes-n.result c.args.other.kinds.now (omega (arith, c.nodes-n.ensures, v.kinds)))
+    omega (
+      arith,
+      c.nodes-n.ensures,
+      v.kinds,
+      length-take-le c.nodes-n.result c.args.other.kinds.now (omega (
+        arith,
+        c.nodes-n.ensures,
+        v.kinds,
+      )),
+    )
 
 pub slice_bounds-starts_with-end-2 : goal.slice_bounds-starts_with-end-2
 slice_bounds-starts_with-end-2 c =
     let v = type_front c.args.other.stands in
-    omega (arith, c.nodes-n.ensures, v.args, length-take-le c.nodes-n.result c.args.other.args.now (omega (arith, c.nodes-n.ensures, v.args)))
+    omega (
+      arith,
+      c.nodes-n.ensures,
+      v.args,
+      length-take-le c.nodes-n.result c.args.other.args.now (omega (
+        arith,
+        c.nodes-n.ensures,
+        v.args,
+      )),
+    )
 
 pub starts_with-requires : goal.starts_with-requires
 starts_with-requires c =

@@ -43,6 +43,8 @@ bounds-as_mut_slice-mark-2 c =
 
 pub returns : goal.returns
 returns c =
-    ap₂ nodes_at (refilled _ _ _ (length-set _ _ _ ∙ ap length c.as_mut_slice.ensures.value) refl ∙ ap (λ l. set l c.args.mark kind.Struct) c.as_mut_slice.ensures.value)
-    (refilled _ _ _ (length-set _ _ _ ∙ ap length c.as_mut_slice-2.ensures.value) refl ∙ ap (λ l. set l c.args.mark c.args.names) c.as_mut_slice-2.ensures.value)
+    ap₂ nodes_at (refilled _ _ _ (length-set _ _ _ ∙ ap length c.as_mut_slice.ensures.value) refl ∙ ap (λ l. set l
+    c.args.mark kind.Struct) c.as_mut_slice.ensures.value)
+    (refilled _ _ _ (length-set _ _ _ ∙ ap length c.as_mut_slice-2.ensures.value) refl ∙ ap (λ l. set l c.args.mark
+    c.args.names) c.as_mut_slice-2.ensures.value)
     ∙ nodes_set _ _ _ _ _ ∙ ap (λ l. set l c.args.mark (node kind.Struct c.args.names)) c.self.view_is

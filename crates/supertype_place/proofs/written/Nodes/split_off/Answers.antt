@@ -11,29 +11,77 @@ use Rattle.flat.proofs.Walks.{length_from}
 use Rattle.supertype_place.proofs.written.Nodes.split_off.Goals as goal
 
 pub slice_bounds-try_extend_from_slice-count : goal.slice_bounds-try_extend_from_slice-count
-slice_bounds-try_extend_from_slice-count c = omega (arith, nodes_length _ _ c.self.invariant, ap length c.self.view_is, c.requires, ap length c.as_slice.ensures.value)
+slice_bounds-try_extend_from_slice-count c = omega (
+  arith,
+  nodes_length _ _ c.self.invariant,
+  ap length
+      c.self.view_is,
+  c.requires,
+  ap length c.as_slice.ensures.value,
+)
 
 pub slice_bounds-try_extend_from_slice-start : goal.slice_bounds-try_extend_from_slice-start
-slice_bounds-try_extend_from_slice-start c = omega (arith, nodes_length _ _ c.self.invariant, ap length c.self.view_is, c.requires, ap length c.as_slice.ensures.value)
+slice_bounds-try_extend_from_slice-start c = omega (
+  arith,
+  nodes_length _ _ c.self.invariant,
+  ap length
+      c.self.view_is,
+  c.requires,
+  ap length c.as_slice.ensures.value,
+)
 
 pub offset_bounds-as_slice-mark : goal.offset_bounds-as_slice-mark
-offset_bounds-as_slice-mark c = omega (arith, nodes_length _ _ c.self.invariant, ap length c.self.view_is, c.requires, c.as_slice-2.ensures.fits, ap length c.as_slice-2.ensures.value, c.self.invariant)
+offset_bounds-as_slice-mark c = omega (
+  arith,
+  nodes_length _ _ c.self.invariant,
+  ap length c.self.view_is,
+  c.requires,
+  c.as_slice-2.ensures.fits,
+  ap length c.as_slice-2.ensures.value,
+  c.self.invariant,
+)
 
 pub slice_bounds-try_extend_from_slice-count-2 : goal.slice_bounds-try_extend_from_slice-count-2
-slice_bounds-try_extend_from_slice-count-2 c = omega (arith, nodes_length _ _ c.self.invariant, ap length c.self.view_is, c.requires, ap length c.as_slice-2.ensures.value, c.self.invariant)
+slice_bounds-try_extend_from_slice-count-2 c = omega (
+  arith,
+  nodes_length _ _ c.self.invariant,
+  ap length
+      c.self.view_is,
+  c.requires,
+  ap length c.as_slice-2.ensures.value,
+  c.self.invariant,
+)
 
 pub slice_bounds-try_extend_from_slice-start-2 : goal.slice_bounds-try_extend_from_slice-start-2
-slice_bounds-try_extend_from_slice-start-2 c = omega (arith, nodes_length _ _ c.self.invariant, ap length c.self.view_is, c.requires, ap length c.as_slice-2.ensures.value, c.self.invariant)
+slice_bounds-try_extend_from_slice-start-2 c = omega (
+  arith,
+  nodes_length _ _ c.self.invariant,
+  ap length
+      c.self.view_is,
+  c.requires,
+  ap length c.as_slice-2.ensures.value,
+  c.self.invariant,
+)
 
 pub unwrap-requires : goal.unwrap-requires
 unwrap-requires c =
     c.try_extend_from_slice.ensures.variant.1
-    (omega (arith, ap length c.new-kinds.ensures, length_from c.args.mark c.as_slice.result.now, c.as_slice.ensures.fits))
+    (omega (
+      arith,
+      ap length c.new-kinds.ensures,
+      length_from c.args.mark c.as_slice.result.now,
+      c.as_slice.ensures.fits,
+    ))
 
 pub unwrap-requires-2 : goal.unwrap-requires-2
 unwrap-requires-2 c =
     c.try_extend_from_slice-2.ensures.variant.1
-    (omega (arith, ap length c.new-args.ensures, length_from c.args.mark c.as_slice-2.result.now, c.as_slice-2.ensures.fits))
+    (omega (
+      arith,
+      ap length c.new-args.ensures,
+      length_from c.args.mark c.as_slice-2.result.now,
+      c.as_slice-2.ensures.fits,
+    ))
 
 pub returns-clause-rest : goal.returns-clause-rest
 returns-clause-rest c =
