@@ -4,7 +4,7 @@ ghost use Rattle.replay.specs.Answer.{record_of};
 
 use flat::reply::Reply;
 
-// Whether the numbers are these kinds.
+// Whether the numbers are these kinds. By `zip` and `all`: of what `eq` of two iterators says no proof knows enough.
 fn same_kinds(numbers: &[u64], kinds: &[u8]) -> bool
     ensures { Decides result (numbers.now ≡ kinds.now) }
 {

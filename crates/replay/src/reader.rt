@@ -102,6 +102,7 @@ impl<'a> Line<'a> {
         ensures { IfOk result (λ t. self.old.rest.now ≡ type_record t.kinds.items t.args.now ++ self.new.rest.now) }
     {
         let mut kinds = Vec::new(self.alloc);
+        // by `push`: of what `try_collect` gathers the contract says no more than how much
         for &kind in self.counted()? {
             kinds.push(byte(kind)?)?;
         }
