@@ -12,7 +12,7 @@ mod calls;
 mod output;
 mod reader;
 
-ghost use Rattle.std.specs.Prelude.{◌≡◌, ◌≤◌, take, vec_len, IfOk, IfSome};
+ghost use Rattle.std.specs.Prelude.{◌≡◌, ◌≤◌, take, IfOk, IfSome};
 
 use reader::{Fault, Line, read_numbers};
 use std::alloc::{AllocError, Global};
@@ -22,11 +22,11 @@ use std::io::Read;
 // The most bytes of input. More are not read, and then the last line is missing.
 const BYTES: usize = 524288;
 
-// How many answers stand before the last line, None where it is missing, and the numbers of the lines that differ.
-#[derive(Drop)]
+// How many answers stand before the last line, None where it is missing, and how many lines differ.
+#[derive(Clone, Copy)]
 struct Replay {
     answers: Option<usize>,
-    differ: Vec<usize>,
+    differ: usize,
 }
 
 // Whether a call is answered here as its line has it; None at the last line.
@@ -38,11 +38,12 @@ fn replay_line(alloc: Global, line: &[u8]) -> Result<Option<bool>, Fault> {
     }
 }
 
-// Replays the lines of a text up to the last one.
-fn replay_text(alloc: Global, text: &[u8]) -> Result<Replay, AllocError>
-    ensures { IfOk result (λ found. IfSome found.answers (λ answers. vec_len found.differ ≤ answers)) }
+// Replays the lines of a text up to the last one, and says at once which of them differ: to keep their numbers would
+// take more memory than the text.
+fn replay_text(rt: &HostRuntime, alloc: Global, text: &[u8]) -> io::Result<Replay>
+    ensures { IfOk result (λ found. IfSome found.answers (λ answers. found.differ ≤ answers)) }
 {
-    let mut differ = Vec::new(alloc);
+    let mut differ = 0;
     let lines = text.split_inclusive(|&byte| byte == b'\n');
     for (before, line) in lines.enumerate() {
         match replay_line(alloc, line.strip_suffix(b"\n").unwrap_or(line)) {
@@ -51,8 +52,12 @@ fn replay_text(alloc: Global, text: &[u8]) -> Result<Replay, AllocError>
                 return Ok(Replay { answers, differ });
             }
             Ok(Some(true)) => {}
-            Ok(Some(false)) | Err(Fault::Unreadable) => differ.push(before + 1)?,
-            Err(Fault::OutOfMemory) => return Err(AllocError),
+            Ok(Some(false)) | Err(Fault::Unreadable) => {
+                differ += 1;
+                let line = before + 1;
+                println!(rt; "line {line} differs")?;
+            }
+            Err(Fault::OutOfMemory) => return Err(AllocError.into()),
         }
     }
     let answers = None;
@@ -70,11 +75,8 @@ fn read_text<R: Read + Drop>(alloc: Global, input: R) -> io::Result<Vec<u8>>
 
 fn main(rt: HostRuntime) -> io::Result<()> {
     let text = read_text(rt.alloc(), rt.stdin())?;
-    let replay = replay_text(rt.alloc(), &text)?;
-    for line in &replay.differ {
-        println!(rt; "line {line} differs")?;
-    }
-    let differ = replay.differ.len();
+    let replay = replay_text(&rt, rt.alloc(), &text)?;
+    let differ = replay.differ;
     match replay.answers {
         Some(answers) => println!(rt; "{answers} answers replayed, {differ} differ"),
         None => println!(rt; "the last line is missing"),

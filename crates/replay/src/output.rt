@@ -1,12 +1,8 @@
 // The calls that write a type to lent arrays: what they write, and that they leave the rest as it was.
 use crate::answer::is_answer;
-use crate::reader::{Fault, Line};
-use flat::Flat;
+use crate::reader::{Fault, Line, NODES};
 use flat::error::Error;
 use flat::reply::{Reply, Value};
-
-// The most places that a call is given: one more than a type has nodes.
-const MOST: usize = Flat::MAX_NODES + 1;
 
 // What stands in the arrays before a call: no kind, and an argument that no recorded type has.
 const KIND: u8 = 255;
@@ -28,7 +24,8 @@ fn is_output(given: Reply, kinds: &[u8], args: &[u64], recorded: &[u64]) -> bool
         && is_answer(recorded, given, kinds, args)
 }
 
-// Whether a call writes a type as recorded. How many places of the arrays it is given is recorded first.
+// Whether a call writes a type as recorded. How many places of the arrays it is given, no more
+// than NODES, is recorded first.
 pub fn is_written<T: Value, F: FnOnce(&mut [u8], &mut [u64]) -> Result<T, Error>>(
     mut line: Line<'_>,
     call: F,
@@ -36,7 +33,7 @@ pub fn is_written<T: Value, F: FnOnce(&mut [u8], &mut [u64]) -> Result<T, Error>
     requires { F.IsAlwaysCallable call }
 {
     let room = line.number()? as usize;
-    if room > MOST {
+    if room > NODES {
         return Err(Fault::Unreadable);
     }
     let mut kinds = vec![in line.alloc; KIND; room]?;

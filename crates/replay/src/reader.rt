@@ -1,9 +1,16 @@
 // Reads the numbers of a line, and the types and flags among them.
-ghost use Rattle.std.specs.Prelude.{◌≡◌, ◌∷◌, ◌++◌, length, IfOk};
+ghost use Rattle.std.specs.Prelude.{◌≡◌, ◌≤◌, ◌∷◌, ◌++◌, length, vec_len, IfOk};
 ghost use Rattle.flat.specs.Reply.{truth};
 ghost use Rattle.replay.specs.Answer.{type_record};
 
+use flat::Flat;
 use std::alloc::{AllocError, AllocFailed, Global};
+
+// The most numbers of a line.
+pub const NUMBERS: usize = 2048;
+
+// The most nodes of what is recorded as a type: one more than a type has.
+pub const NODES: usize = Flat::MAX_NODES + 1;
 
 // Why a line has no answer: what is read doesn't stand there, or memory ran out.
 #[derive(Clone, Copy, Debug, PartialEq, Eq)]
@@ -24,12 +31,20 @@ impl<T: Drop> From<AllocFailed<T>> for Fault {
     }
 }
 
-// A number in decimal, without the sign that `parse` would take too.
+// A number in decimal. By its digits: a long line of numbers took nearly twice as long by `from_utf8` and `parse`.
 fn number(word: &[u8]) -> Option<u64> {
-    if word.starts_with(b"+") {
+    if word.is_empty() {
         return None;
     }
-    str::from_utf8(word).ok()?.parse().ok()
+    let mut value: u64 = 0;
+    for &byte in word {
+        let digit = byte.checked_sub(b'0')?;
+        if digit > 9 {
+            return None;
+        }
+        value = value.checked_mul(10)?.checked_add(u64::from(digit))?;
+    }
+    Some(value)
 }
 
 // A number that is a byte.
@@ -39,11 +54,19 @@ fn byte(number: u64) -> Result<u8, Fault>
     u8::try_from(number).map_err(|_| Fault::Unreadable)
 }
 
-// The numbers of a line, which have one space between them.
-pub fn read_numbers(alloc: Global, line: &[u8]) -> Result<Vec<u64>, Fault> {
-    line.split(|&byte| byte == b' ')
+// The numbers of a line, which have one space between them. Of a line with too many no more are read than tell it.
+pub fn read_numbers(alloc: Global, line: &[u8]) -> Result<Vec<u64>, Fault>
+    ensures { IfOk result (λ numbers. vec_len numbers ≤ NUMBERS) }
+{
+    let numbers: Vec<u64> = line
+        .split(|&byte| byte == b' ')
+        .take(NUMBERS + 1)
         .map(|word| number(word).ok_or(Fault::Unreadable))
-        .try_collect(alloc)
+        .try_collect(alloc)?;
+    if numbers.len() > NUMBERS {
+        return Err(Fault::Unreadable);
+    }
+    Ok(numbers)
 }
 
 // A type that stands in a line.
@@ -99,11 +122,16 @@ impl<'a> Line<'a> {
     // The number of a type's kinds, the kinds, the number of its arguments, the arguments.
     #[tactic(auto, unfolding(crate::specs::Answer::type_record))]
     pub fn read_type(&mut self) -> Result<TypeRead<'a>, Fault>
-        ensures { IfOk result (λ t. self.old.rest.now ≡ type_record t.kinds.items t.args.now ++ self.new.rest.now) }
+        ensures stands { IfOk result (λ t. self.old.rest.now ≡ type_record t.kinds.items t.args.now ++ self.new.rest.now) }
+        ensures few { IfOk result (λ t. vec_len t.kinds ≤ NODES) }
     {
+        let numbers = self.counted()?;
+        if numbers.len() > NODES {
+            return Err(Fault::Unreadable);
+        }
         let mut kinds = Vec::new(self.alloc);
         // by `push`: of what `try_collect` gathers the contract says no more than how much
-        for &kind in self.counted()? {
+        for &kind in numbers {
             kinds.push(byte(kind)?)?;
         }
         let args = self.counted()?;

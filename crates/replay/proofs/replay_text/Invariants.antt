@@ -1,5 +1,5 @@
 -- `replay::replay_text` meets its contract: no more lines differ than were read. Assumes nothing.
-use Rattle.std.proofs.Common.{◌≤◌, vec_len}
+use Rattle.std.proofs.Common.{◌≤◌}
 use Rattle.std.specs.Iterator.Adapters.{enumerate_count}
 use Rattle.replay.proofs.replay_text.Given as goal
 
@@ -7,4 +7,4 @@ abbrev pub invariant-loop-before : goal.invariant-loop-before
 invariant-loop-before l =
     (goal.iterator-loop-before).can_next l.before-iterator
     × (goal.iterator-loop-before).is_finite l.before-iterator
-    × (vec_len l.differ ≤ enumerate_count l.before-iterator)
+    × (l.differ ≤ enumerate_count l.before-iterator)

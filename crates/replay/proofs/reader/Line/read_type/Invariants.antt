@@ -4,5 +4,5 @@ use Rattle.replay.proofs.reader.Line.read_type.Given as goal
 
 abbrev pub invariant-loop-kind : goal.invariant-loop-kind
 invariant-loop-kind l =
-    (l.kinds.items ≡ take l.kind-index l.kind-items)
-    × (l.fn.self.rest.now ≡ length l.kind-items ∷ (l.kind-items ++ l.self.rest.now))
+    (l.kinds.items ≡ take l.kind-index l.numbers)
+    × (l.fn.self.rest.now ≡ length l.numbers ∷ (l.numbers ++ l.self.rest.now))
