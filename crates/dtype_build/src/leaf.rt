@@ -18,6 +18,7 @@ pub trait Form {
 }
 
 // The form that `to_physical` builds.
+#[derive(Clone, Copy)]
 pub struct Physical {}
 
 impl Form for Physical {
@@ -29,6 +30,7 @@ impl Form for Physical {
 }
 
 // The form that `materialize_unknown` builds.
+#[derive(Clone, Copy)]
 pub struct Materialized {}
 
 impl Form for Materialized {

@@ -45,7 +45,8 @@ fn build<F: Form>(
         leaf::put_leaf::<F>(old, out_kinds, out_args);
         return Ok(1);
     }
-    Ok(walk::node_form::<F>(kinds, args, out_kinds, out_args))
+    let n = walk::node_form::<F>(kinds, args, out_kinds, out_args);
+    Ok(n)
 }
 
 // Whether the unknown type any stands in a type and is not allowed.

@@ -108,12 +108,16 @@ fn field_cast(
     for _ in 0..count {
         let from = i + 1;
         let to = j + 1;
-        let (n, m) = node_cast(
+        let answer = node_cast(
             &from_kinds[from..],
             &from_args[from..],
             &to_kinds[to..],
             &to_args[to..],
-        )?;
+        );
+        let (n, m) = match answer {
+            Ok(sizes) => sizes,
+            Err(no) => return Err(no),
+        };
         i = from + n;
         j = to + m;
     }

@@ -1,6 +1,6 @@
 -- Laws of encoded types, at any width w of an argument: a list that is written from the front, numbers as bytes, runs
 -- of arguments, and the whole. Assumes nothing.
-use mathlib.Core.Path.{◌≡◌, refl, sym, ap, ◌∙◌}
+use mathlib.Core.Path.{◌≡◌, refl, sym, ap, ◌∙◌, subst}
 use mathlib.Core.List.{List, [], ◌∷◌, ◌++◌, append_assoc, append-nil}
 use Prim.Native.Nat.{ℕ, zero, suc, ◌+◌, ◌-◌, ◌*◌, ◌/◌, ◌%◌, ◌^◌, ◌≤◌, ◌<◌}
 use native.Mathlib.Nat.{zero-mul, suc-mul, add_comm, add-suc, pow-suc, mul_comm, add-mul, one-mul}
@@ -21,6 +21,25 @@ use Rattle.flat.specs.Output.{over}
 use Rattle.std.specs.Simd.{first_chunks}
 use Rattle.std.specs.Int.{from_le_bytes, bytes_low_first}
 use mir.Syntax.{w16, w64}
+
+-- ---- a list that is written from the front
+
+-- one element more of s stands in d
+pub copied_next :
+    (d s : List ℕ) (i : ℕ) → i < length d → i < length s → ((k : ℕ) → k < i → get_or d k 0 ≡ get_or s k 0)
+    → (k : ℕ) → k < i + 1 → get_or (set d i (get_or s i 0)) k 0 ≡ get_or s k 0
+copied_next d s i h n f k m = go (dec_lt k i)
+  where
+    go : Dec (k < i) → get_or (set d i (get_or s i 0)) k 0 ≡ get_or s k 0
+    go (yes l) = get_or-set_other d i k (get_or s i 0) 0 (omega arith) ∙ f k l
+    go (no l) =
+        let e : i ≡ k = omega arith in
+        subst (λ (j : ℕ). get_or (set d i (get_or s i 0)) j 0 ≡ get_or s j 0) e
+        (get_or-set_same d i (get_or s i 0) 0 h)
+
+-- all of them
+pub copied_all : (d s : List ℕ) → length d ≡ length s → ((k : ℕ) → k < length s → get_or d k 0 ≡ get_or s k 0) → d ≡ s
+copied_all d s e f = ext_get_or 0 d s e (λ k h. f k (omega (arith, e)))
 
 -- ---- numbers as bytes
 

@@ -177,7 +177,7 @@ decode_tells (type t) {ks} {xs} {ks'} {xs'} {n} d = let f = go (leb (size t) (le
     go true a k x = let m : size t ≡ n = cc in (rw k (take_at _ _ n (length_kinds t ∙ m)), rw x (take_at _ _ n (length_args t ∙ m)))
     go false a k x = impossible cc
 
-reads_back_at : {w nodes deep : ℕ} → nodes < 256 ^ 2 → 2 ^ 64 ≤ 256 ^ w → ReadsBack w nodes deep
+pub reads_back_at : {w nodes deep : ℕ} → nodes < 256 ^ 2 → 2 ^ 64 ≤ 256 ^ w → ReadsBack w nodes deep
 reads_back_at {w} {nodes} {deep} small wide = record {
   written = λ t v fit. type_back w nodes deep t small v (below_more (args_of t) wide fit);
   read = type_bytes w nodes deep;

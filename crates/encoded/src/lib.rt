@@ -109,7 +109,7 @@ pub fn check(encoded: &[u8]) -> Result<(), Error>
     if is_plain(encoded) {
         return Ok(());
     }
-    check_nodes(encoded)
+    check_nodes(&encoded[0..])
 }
 
 // Decodes a type to the front of kinds and args: refusals 1 to 5, then 8.
@@ -125,7 +125,7 @@ pub fn decode(encoded: &[u8], kinds: &mut [u8], args: &mut [u64]) -> Result<usiz
         return Err(Error::OutputTooShort);
     }
     let m = 2 + n;
-    kinds[..n].copy_from_slice(&encoded[2..m]);
+    bytes::copy(&encoded[2..m], &mut kinds[..n]);
     bytes::read_args(&encoded[m..], &mut args[..n]);
     Ok(n)
 }
@@ -152,7 +152,7 @@ pub fn check_root(encoded: &[u8]) -> Result<Node, Error>
             arg: 0,
         });
     }
-    root_of(encoded)
+    root_of(&encoded[0..])
 }
 
 // Encodes two arrays, which it doesn't check, to the front of out, unless that is too short: refusal 8.
@@ -170,7 +170,7 @@ pub fn put(kinds: &[u8], args: &[u64], out: &mut [u8]) -> Result<usize, Error>
     }
     let m = 2 + n;
     out[..2].copy_from_slice(&(n as u16).to_le_bytes());
-    out[2..m].copy_from_slice(kinds);
+    bytes::copy(kinds, &mut out[2..m]);
     bytes::write_args(args, &mut out[m..size]);
     Ok(size)
 }

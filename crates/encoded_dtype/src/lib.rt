@@ -42,7 +42,7 @@ pub fn ask(p: Predicate, encoded: &[u8]) -> Result<bool, Error>
     if encoded::is_plain(encoded) {
         return Ok(told_by(p, &encoded[2..3]));
     }
-    ask_nodes(p, encoded)
+    ask_nodes(p, &encoded[0..])
 }
 
 // Encodes a part of a type, with an array of its own for at most N arguments.
@@ -169,7 +169,7 @@ pub fn materialize_unknown(
         }
         return put_plain::<Materialized>(encoded[2], out);
     }
-    form_of::<Materialized>(allow_unknown, encoded, out)
+    form_of::<Materialized>(allow_unknown, &encoded[0..], out)
 }
 
 // Its physical form: refusals 1 to 5, then 8. An `Unknown(Any)` is no reason to refuse it.
@@ -179,5 +179,5 @@ pub fn to_physical(encoded: &[u8], out: &mut [u8]) -> Result<usize, Error>
     if encoded::is_plain(encoded) {
         return put_plain::<Physical>(encoded[2], out);
     }
-    form_of::<Physical>(true, encoded, out)
+    form_of::<Physical>(true, &encoded[0..], out)
 }

@@ -14,6 +14,7 @@ pub trait Part {
 }
 
 // The type under a List or an Array.
+#[derive(Clone, Copy)]
 pub struct Inner {}
 
 impl Part for Inner {
@@ -25,6 +26,7 @@ impl Part for Inner {
 }
 
 // The type under all Lists and Arrays.
+#[derive(Clone, Copy)]
 pub struct Leaf {}
 
 impl Part for Leaf {
@@ -36,6 +38,7 @@ impl Part for Leaf {
 }
 
 // The type under an Array's consecutive Arrays.
+#[derive(Clone, Copy)]
 pub struct ArrayLeaf {}
 
 impl Part for ArrayLeaf {

@@ -112,8 +112,10 @@ pub fn equal(left: &[u8], right: &[u8]) -> Result<bool, Error>
 {
     // equal bytes are one type, and one check tells of both
     if left == right {
-        encoded::check(left)?;
-        return Ok(true);
+        return match encoded::check(left) {
+            Ok(()) => Ok(true),
+            Err(e) => Err(e),
+        };
     }
     ask::<Equals>(left, right)
 }

@@ -2,7 +2,9 @@
 use Rattle.std.specs.Prelude.{ℕ, Bool, true, false, Option, None, Some, Result, Ok, Err}
 use Rattle.flat.specs.Refusal.{answer_number}
 use Rattle.flat.specs.declared.error.Error.{Error}
+use Rattle.flat.specs.declared.Node.{Node}
 use Rattle.flat.specs.declared.reply.Reply.{Reply}
+use Rattle.flat.specs.declared.root_reply.RootReply.{RootReply}
 
 -- the value beside the number, and 0 beside a refusal's
 abbrev pub value_in : {A : Type 0} → (A → ℕ) → Result A Error → ℕ
@@ -26,3 +28,11 @@ truth true = 1
 abbrev pub decision : Option Bool → ℕ
 decision (Some b) = truth b
 decision None = 2
+
+-- what the answer of `check_root` is told by: its number, and the root, kind 0 and argument 0 beside a refusal's
+abbrev pub root_reply : Result Node Error → RootReply
+root_reply answer = record {
+  number = answer_number answer;
+  kind = value_in (λ root. root.kind) answer;
+  argument = value_in (λ root. root.arg) answer;
+}

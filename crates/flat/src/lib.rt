@@ -5,6 +5,7 @@ pub mod argument;
 pub mod error;
 pub mod kind;
 pub mod reply;
+pub mod root_reply;
 mod scan;
 pub mod span;
 
@@ -132,7 +133,7 @@ pub fn check(kinds: &[u8], args: &[u64]) -> Result<(), Error>
     if is_plain(kinds, args) {
         return Ok(());
     }
-    check_nodes(kinds, args)
+    check_nodes(&kinds[0..], &args[0..])
 }
 
 // The root of arrays that are not one plain leaf.
@@ -158,5 +159,5 @@ pub fn check_root(kinds: &[u8], args: &[u64]) -> Result<Node, Error>
             arg: 0,
         });
     }
-    root_of(kinds, args)
+    root_of(&kinds[0..], &args[0..])
 }

@@ -35,4 +35,4 @@ returns-then-kinds-lt-LIST g c =
     built_writes p (leaf_built p c.if-kinds-lt-LIST.true c.put_leaf.ensures)
 
 pub returns : goal.returns
-returns g c = built_writes (task g.F.Form.kind_in _ _ _ _ c.requires.0 (omega arith) (omega arith)) c.node_form.ensures
+returns g c = built_writes (task g.F.Form.kind_in _ _ _ _ c.requires.0 (omega arith) (omega arith)) c.node_form-n.ensures

@@ -37,11 +37,11 @@ pub returns : goal.returns
 returns c =
     let read = rw (length-take-le c.unwrap-n.result c.args.args.now c.if-args-n.false) at c.read_args.ensures in
     decodes_type (form (goal.at.returns c).After-unwrap-n).proof c.if-kinds-n.false c.if-args-n.false
-    (rw c.copy_from_slice.ensures.after) (rw read)
+    (rw c.copy.ensures) (rw read)
 
-pub slice_bounds-copy_from_slice-end-3 : goal.slice_bounds-copy_from_slice-end-3
-slice_bounds-copy_from_slice-end-3 c =
-    omega (arith, (form (goal.at.slice_bounds-copy_from_slice-end-3 c).After-unwrap-n).proof.sized.size)
+pub slice_bounds-copy-end : goal.slice_bounds-copy-end
+slice_bounds-copy-end c =
+    omega (arith, (form (goal.at.slice_bounds-copy-end c).After-unwrap-n).proof.sized.size)
 
 pub slice_bounds-read_args-count : goal.slice_bounds-read_args-count
 slice_bounds-read_args-count c =

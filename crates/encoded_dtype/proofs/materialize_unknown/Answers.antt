@@ -1,6 +1,7 @@
 -- `encoded_dtype::materialize_unknown` meets its contract: one plain leaf, then any bytes. Assumes nothing.
 use native.Mathlib.Omega.{arith}
 use mathlib.Core.Path.{sym}
+use borrow.Author.Rules.{part_to_end}
 use Rattle.flat.proofs.Truths.{Fact, fact}
 use Rattle.encoded.proofs.Plain.{plain_bytes}
 use Rattle.encoded_dtype.proofs.Forms.{form_materialized, plain_reads, form_none, plain_type, refused_bytes}
@@ -21,7 +22,7 @@ returns-then-is_plain c =
     rw (← form_materialized, plain_type _ _ (plain_reads _ p) c.if-any_refused.ensures) c.put_plain.ensures
 
 pub returns : goal.returns
-returns c = rw (← form_materialized) c.form_of.ensures
+returns c = rw (← form_materialized) (rw part_to_end at c.form_of.ensures)
 
 pub slice_bounds-any_refused-end : goal.slice_bounds-any_refused-end
 slice_bounds-any_refused-end c =

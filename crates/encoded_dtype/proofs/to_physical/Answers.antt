@@ -1,6 +1,7 @@
 -- `encoded_dtype::to_physical` meets its contract: one plain leaf, then any bytes. Assumes nothing.
 use native.Mathlib.Omega.{arith}
 use mathlib.Core.Path.{sym}
+use borrow.Author.Rules.{part_to_end}
 use Rattle.flat.proofs.Truths.{Fact, fact}
 use Rattle.encoded.proofs.Plain.{plain_bytes}
 use Rattle.encoded_dtype.proofs.Forms.{form_physical, plain_reads, plain_physical}
@@ -16,7 +17,7 @@ returns-then-is_plain c =
     rw (plain_physical (plain_reads _ p)) c.put_plain.ensures
 
 pub returns : goal.returns
-returns c = rw (← form_physical) c.form_of.ensures
+returns c = rw (← form_physical) (rw part_to_end at c.form_of.ensures)
 
 pub bounds-encoded-2 : goal.bounds-encoded-2
 bounds-encoded-2 c = omega (arith, (plain (goal.at.bounds-encoded-2 c).Then-is_plain).proof.long)

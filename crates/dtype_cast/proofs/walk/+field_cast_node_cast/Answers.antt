@@ -53,32 +53,32 @@ pub field_cast-loop-init : goal.field_cast-loop-init
 field_cast-loop-init t c =
     none_done (FieldsAlong _ _ _ _ _ _ _) _ (start c.requires.valid_run c.requires.valid_run_2)
 
-pub field_cast-node_cast-requires : goal.field_cast-node_cast-requires
-field_cast-node_cast-requires t c =
+pub field_cast-node_cast-answer-requires : goal.field_cast-node_cast-answer-requires
+field_cast-node_cast-answer-requires t c =
     let ahead = looping c.loop.invariant c.decreases (omega arith) (omega arith) (omega arith) in
     next_call ahead
 
-pub field_cast-returns-in_err-n : goal.field_cast-returns-in_err-n
-field_cast-returns-in_err-n t c =
+pub field_cast-returns-in-Err : goal.field_cast-returns-in-Err
+field_cast-returns-in-Err t c =
     let ahead = looping c.loop.invariant c.decreases (omega arith) (omega arith) (omega arith) in
-    handed_on (err_from_is_err_and c.from_residual.result c.from_residual.ensures.1) ∙ field_no ahead (sym c.in_err-n.was ∙ c.node_cast.ensures)
+    field_no ahead (sym c.in-Err.is ∙ c.node_cast-answer.ensures)
 
 pub field_cast-overflow_add-i : goal.field_cast-overflow_add-i
 field_cast-overflow_add-i t c =
     let ahead = looping c.loop.invariant c.decreases (omega arith) (omega arith) (omega arith) in
-    let yes : FieldYes t _ _ _ _ _ _ _ _ _ _ = record { ahead = ahead; yes = sym c.in_ok-n.was ∙ c.node_cast.ensures } in
+    let yes : FieldYes t _ _ _ _ _ _ _ _ _ _ = record { ahead = ahead; yes = sym c.in-Ok.is ∙ c.node_cast-answer.ensures } in
     omega (arith, (field_ends yes).0)
 
 pub field_cast-overflow_add-j : goal.field_cast-overflow_add-j
 field_cast-overflow_add-j t c =
     let ahead = looping c.loop.invariant c.decreases (omega arith) (omega arith) (omega arith) in
-    let yes : FieldYes t _ _ _ _ _ _ _ _ _ _ = record { ahead = ahead; yes = sym c.in_ok-n.was ∙ c.node_cast.ensures } in
+    let yes : FieldYes t _ _ _ _ _ _ _ _ _ _ = record { ahead = ahead; yes = sym c.in-Ok.is ∙ c.node_cast-answer.ensures } in
     omega (arith, (field_ends yes).1)
 
 pub field_cast-loop-preserved : goal.field_cast-loop-preserved
 field_cast-loop-preserved t c =
     let ahead = looping c.loop.invariant c.decreases (omega arith) (omega arith) (omega arith) in
-    let yes : FieldYes t _ _ _ _ _ _ _ _ _ _ = record { ahead = ahead; yes = sym c.in_ok-n.was ∙ c.node_cast.ensures } in
+    let yes : FieldYes t _ _ _ _ _ _ _ _ _ _ = record { ahead = ahead; yes = sym c.in-Ok.is ∙ c.node_cast-answer.ensures } in
     one_done (FieldsAlong _ _ _ _ _ _ _) _ _ (field_done yes)
 
 pub field_cast-returns : goal.field_cast-returns
