@@ -43,12 +43,21 @@ fn merge_kind(held: u8, kind: u8) -> Result<u8, Error>
     if !is_channel_code(held) {
         return Err(Error::ChannelCode);
     }
-    match kind {
-        Kind::NULL => Ok(held),
-        _ if !is_listed(kind) => Err(Error::NotInteger),
-        _ if held == 0 => Ok(kind),
-        _ if held == kind => Ok(held),
-        _ => upcast_kinds(held, kind).ok_or(Error::NoUpcast),
+    if !is_listed(kind) {
+        return match kind {
+            Kind::NULL => Ok(held),
+            _ => Err(Error::NotInteger),
+        };
+    }
+    if held == 0 {
+        return Ok(kind);
+    }
+    if held == kind {
+        return Ok(held);
+    }
+    match upcast_kinds(held, kind) {
+        Some(code) => Ok(code),
+        None => Err(Error::NoUpcast),
     }
 }
 

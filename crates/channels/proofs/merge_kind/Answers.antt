@@ -32,15 +32,19 @@ taken c =
       integer = sym c.is_listed.ensures ∙ c.if-not-is_listed.false;
     }
 
-pub returns-in_default-2 : goal.returns-in_default-2
-returns-in_default-2 c = first (taken (goal.at.returns-in_default-2 c).Else-not-is_listed) c.if-held-eq0.true
+pub returns-then-held-eq0 : goal.returns-then-held-eq0
+returns-then-held-eq0 c = first (taken (goal.at.returns-then-held-eq0 c).Else-not-is_listed) c.if-held-eq0.true
 
-pub returns-in_default-3 : goal.returns-in_default-3
-returns-in_default-3 c =
-    equal (taken (goal.at.returns-in_default-3 c).Else-not-is_listed) (omega arith) c.if-held-kind.true
+pub returns-then-held-kind : goal.returns-then-held-kind
+returns-then-held-kind c =
+    equal (taken (goal.at.returns-then-held-kind c).Else-not-is_listed) (omega arith) c.if-held-kind.true
 
-pub returns-in_default-4 : goal.returns-in_default-4
-returns-in_default-4 c =
-    c.ok_or.ensures.value
-    ∙ ap upcast_held c.upcast_kinds.ensures
-    ∙ upcast (taken (goal.at.returns-in_default-4 c).Else-not-is_listed) (omega arith) (omega arith)
+pub returns-in-Some : goal.returns-in-Some
+returns-in-Some c =
+    ap upcast_held (sym c.in-Some.is ∙ c.upcast_kinds.ensures)
+    ∙ upcast (taken (goal.at.returns-in-Some c).Else-not-is_listed) (omega arith) (omega arith)
+
+pub returns-in-None : goal.returns-in-None
+returns-in-None c =
+    ap upcast_held (sym c.in-None.is ∙ c.upcast_kinds.ensures)
+    ∙ upcast (taken (goal.at.returns-in-None c).Else-not-is_listed) (omega arith) (omega arith)
