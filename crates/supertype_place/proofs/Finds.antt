@@ -3,15 +3,35 @@ use mathlib.Core.Path.{◌≡◌, refl, sym, ap, ◌∙◌, subst}
 use mathlib.Core.Bool.{Bool, true, false, cond, ◌||◌}
 use mathlib.Core.List.{List, [], ◌∷◌}
 use Rattle.std.specs.Prelude.{Option, None, Some, is_some}
-use Prim.Native.Nat.{ℕ}
+use Prim.Native.Nat.{ℕ, ◌-◌}
 use lib.Dec.{eqb}
 use borrow.Author.Tests.{eq-eqb, ne_eqb}
-use Rattle.flat.specs.Tree.{DataType, Fields, empty, field}
+use Rattle.flat.specs.Tree.{DataType, Fields, empty, field, size}
+use Rattle.flat.specs.Walk.{run_at}
 use Rattle.supertype_nested.specs.Step.{in_place}
 use Rattle.supertype_nested.specs.Union.{named, last_or, seen, with_names}
 use Rattle.supertype_nested.proofs.Union.{turned_true, turned_false}
+use Rattle.supertype_place.specs.declared.view.FlatField.{FlatField}
+use Rattle.supertype_place.specs.declared.view.FlatFields.{FlatFields}
 use Rattle.supertype_place.specs.declared.view.Found.{Found}
-use Rattle.supertype_place.specs.Viewed.{FoundIn}
+use Rattle.supertype_place.specs.View.{from, run_stands}
+use Rattle.supertype_place.specs.Viewed.{viewed, viewed_run, FirstAt, Leads, FoundIn, FoundFrom, from_named}
+use Rattle.supertype_place.proofs.Views.{run_front, run_stood, first_field, behind_front}
+
+-- ---- the first field
+
+module _ {fs : FlatFields} {f : FlatField} (h : FirstAt fs f) where
+  -- the fields behind it, by a number that equals its type's size
+  pub behind_stands : {n : ℕ} → n ≡ size (viewed f.dtype)
+      → run_stands (fs.left - 1) (from n f.dtype.kinds.now) (from n f.dtype.args.now) ≡ true
+  behind_stands e = rw (e, h.kinds, h.args) (run_stood (behind_front (run_front fs.stand) h.left))
+
+  pub fields_behind : {n : ℕ} → n ≡ size (viewed f.dtype)
+      → viewed_run fs
+      ≡ field f.name (viewed f.dtype) (run_at (fs.left - 1) (from n f.dtype.kinds.now) (from n f.dtype.args.now))
+  fields_behind e = rw (e, h.name, h.kinds, h.args) (first_field (run_front fs.stand) h.left)
+
+-- ---- the fields of a name
 
 -- a field of the name, and one of another
 pub named_yes : (name other : ℕ) (t : DataType) (fs : Fields) → other ≡ name
@@ -74,6 +94,69 @@ pub found_seen : (name : ℕ) (fs : Fields) (r : Option Found) → FoundIn name 
 unfolding seen
 found_seen name fs None h = sym (has_no name fs [] h)
 found_seen name fs (Some f) h = sym (has_yes name fs [] (subst Any (sym h) tt))
+
+-- ---- the fields from the first of a name on
+
+-- from a field of the name, and of another
+pub from_yes : (name other : ℕ) (t : DataType) (fs : Fields) → other ≡ name
+    → from_named name (field other t fs) ≡ field other t fs
+unfolding from_named
+from_yes name other t fs e = rw (eq-eqb name other (sym e))
+
+pub from_no : (name other : ℕ) (t : DataType) (fs : Fields) → (other ≡ name → ⊥)
+    → from_named name (field other t fs) ≡ from_named name fs
+unfolding from_named
+from_no name other t fs e = rw (ne_eqb name other (λ d. e (sym d)))
+
+-- they have all of that name
+pub named_from : (name : ℕ) (fs : Fields) → named name (from_named name fs) ≡ named name fs
+unfolding named from_named
+named_from name empty = refl
+named_from name (field other t fs) = go (eqb name other) refl (named_from name fs)
+  where
+    go : (b : Bool) → eqb name other ≡ b → named name (from_named name fs) ≡ named name fs
+        → named name (cond b (field other t fs) (from_named name fs))
+        ≡ cond b (field other t (named name fs)) (named name fs)
+    go true p h = ap (λ (b : Bool). cond b (field other t (named name fs)) (named name fs)) p
+    go false p h = h
+
+-- where none is left, none has the name
+pub from_none : (name : ℕ) (fs rest : Fields) → from_named name fs ≡ from_named name rest → rest ≡ empty
+    → named name fs ≡ empty
+unfolding named from_named
+from_none name fs rest e z = sym (named_from name fs) ∙ ap (named name) (e ∙ ap (from_named name) z)
+
+-- a step of the search for them comes to the first
+module _ (name other : ℕ) (t : DataType) (fs rest behind : Fields) (e : from_named name fs ≡ from_named name rest)
+    (d : rest ≡ field other t behind) where
+  pub from_found : other ≡ name → (rest ≡ from_named name fs) × Leads name rest
+  from_found h = (
+    d ∙ sym (e ∙ ap (from_named name) d ∙ from_yes name other t behind h),
+    subst (Leads name) (sym d) h,
+  )
+
+  -- or goes past one of another name
+  pub from_past : (other ≡ name → ⊥) → from_named name fs ≡ from_named name behind
+  from_past h = e ∙ ap (from_named name) d ∙ from_no name other t behind h
+
+-- the first of them, and the fields behind it
+pub from_first : (name other : ℕ) (t : DataType) (fs rest behind : Fields) → rest ≡ from_named name fs
+    → Leads name rest → rest ≡ field other t behind → named name fs ≡ field name t (named name behind)
+from_first name other t fs rest behind w l d =
+    sym (named_from name fs) ∙ ap (named name) (sym w ∙ d) ∙ named_yes name other t behind (subst (Leads name) d l)
+
+-- what the search says of the names
+led_any : (name : ℕ) (fs : Fields) → Leads name fs → Any (named name fs)
+unfolding named
+led_any name empty e = e
+led_any name (field other t fs) e = subst Any (sym (named_yes name other t fs e)) tt
+
+pub from_seen : (name : ℕ) (fs : Fields) (r : Option FlatFields) → FoundFrom name fs r
+    → is_some r ≡ seen (with_names fs []) name
+unfolding seen
+from_seen name fs None h = sym (has_no name fs [] h)
+from_seen name fs (Some gs) h =
+    sym (has_yes name fs [] (subst Any (ap (named name) h.0 ∙ named_from name fs) (led_any name (viewed_run gs) h.1)))
 
 -- ---- the last type of a name
 

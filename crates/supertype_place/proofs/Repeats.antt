@@ -106,6 +106,11 @@ not_before name fs ns h e =
     ∙ sym (seen_with name fs ns ∙ ap (λ (b : Bool). seen (with_names fs []) name || b) (sym e)
     ∙ or-false (seen (with_names fs []) name))
 
+-- where none of them has the name
+pub not_among : (name : ℕ) (fs : Fields) (ns : List ℕ) → seen (with_names fs []) name ≡ false
+    → seen (with_names fs ns) name ≡ seen ns name
+not_among name fs ns e = seen_with name fs ns ∙ ap (λ (b : Bool). b || seen ns name) e
+
 -- the last type of a name that no field has
 pub last_none : (name : ℕ) (t : DataType) (fs : Fields) → named name fs ≡ empty → last_or name t fs ≡ t
 unfolding named last_or

@@ -1,5 +1,5 @@
 -- The type and the fields that a view has, and what its methods tell of them. Assumes nothing: these are definitions.
-use Rattle.std.specs.Prelude.{◌≡◌, Option, None, Some, ℕ, zero, suc, get_or}
+use Rattle.std.specs.Prelude.{◌≡◌, Option, None, Some, cond, ℕ, zero, suc, eqb, get_or}
 use Rattle.flat.specs.Tree.{DataType, Fields, empty, field, size}
 use Rattle.flat.specs.Walk.{type_at, run_at}
 use Rattle.supertype_nested.specs.Union.{named}
@@ -36,6 +36,35 @@ pub record Ends (old new : FlatFields) : Type 0 where
 abbrev pub GivesField : FlatFields → Option FlatField → FlatFields → Type 0
 GivesField old None new = Ends old new
 GivesField old (Some f) new = Gives old f new
+
+-- The first field, and where it stands.
+pub record FirstAt (fs : FlatFields) (f : FlatField) : Type 0 where
+  pub behind : Fields
+  pub fields : viewed_run fs ≡ field f.name (viewed f.dtype) behind
+  pub left : fs.left ≡ 0 → ⊥
+  pub name : f.name ≡ get_or fs.args.now 0 0
+  pub kinds : f.dtype.kinds.now ≡ from 1 fs.kinds.now
+  pub args : f.dtype.args.now ≡ from 1 fs.args.now
+
+-- the first field, if there is one
+abbrev pub FirstIn : FlatFields → Option FlatField → Type 0
+FirstIn fs None = (viewed_run fs ≡ empty) × (fs.left ≡ 0)
+FirstIn fs (Some f) = FirstAt fs f
+
+-- the fields from the first of a name on
+unfoldable pub from_named : ℕ → Fields → Fields
+from_named name empty = empty
+from_named name (field other t fs) = cond (eqb name other) (field other t fs) (from_named name fs)
+
+-- the first of the fields has the name
+abbrev pub Leads : ℕ → Fields → Type 0
+Leads name empty = ⊥
+Leads name (field other t fs) = other ≡ name
+
+-- these, and that the first of them has the name, or that none has it
+abbrev pub FoundFrom : ℕ → Fields → Option FlatFields → Type 0
+FoundFrom name fs None = named name fs ≡ empty
+FoundFrom name fs (Some gs) = (viewed_run gs ≡ from_named name fs) × Leads name (viewed_run gs)
 
 -- the first field of a name, and the fields behind it, if there is one
 abbrev pub FoundIn : ℕ → Fields → Option Found → Type 0

@@ -26,9 +26,13 @@ unfoldable mutual
   nodes_ofs empty = []
   nodes_ofs (field name t fs) = node kind.Field name ∷ (nodes_of t ++ nodes_ofs fs)
 
--- n nodes more fit
+-- n nodes more fit, where there is room for `most`
+abbrev pub FitsIn : (most n : ℕ) → List Node → Type 0
+FitsIn most n out = length out + n ≤ most
+
+-- n nodes more fit into what a step on the way has
 abbrev pub Fits : ℕ → List Node → Type 0
-Fits n out = length out + n ≤ most_nodes
+Fits = FitsIn most_nodes
 
 -- the type whose nodes stand from the mark on
 unfoldable pub held_at : ℕ → List Node → DataType

@@ -111,18 +111,9 @@ impl<'a> Iterator for FlatFields<'a> {
     ghost remaining = { λ fs. at_most fs.left };
 
     fn next(&mut self) -> Option<FlatField<'a>> {
-        let left = self.left.checked_sub(1)?;
-        let name = self.args[0];
-        let kinds = &self.kinds[1..];
-        let args = &self.args[1..];
-        let dtype = FlatType { kinds, args };
-        let n = dtype.nodes();
-        *self = FlatFields {
-            kinds: &dtype.kinds[n..],
-            args: &dtype.args[n..],
-            left,
-        };
-        Some(FlatField { name, dtype })
+        let field = self.first()?;
+        *self = self.behind(field);
+        Some(field)
     }
 }
 
@@ -130,7 +121,37 @@ impl<'a> FlatFields<'a> {
     ghost use Rattle.std.specs.Prelude.{◌-◌, ◌<◌, ◌≤◌, []};
     ghost use Rattle.supertype_nested.specs.Step.{in_place};
     ghost use Rattle.supertype_nested.specs.Union.{last_or, seen, with_names};
-    ghost use Rattle.supertype_place.specs.Viewed.{viewed, viewed_run, FoundIn, front_of};
+    ghost use Rattle.supertype_place.specs.Viewed.{viewed, viewed_run, FirstAt, FirstIn, Gives};
+    ghost use Rattle.supertype_place.specs.Viewed.{FoundFrom, FoundIn, front_of};
+
+    // The first field. The end of its type is not looked for.
+    pub fn first(self) -> Option<FlatField<'a>>
+        ensures { FirstIn self.entry result }
+    {
+        if self.left == 0 {
+            return None;
+        }
+        Some(FlatField {
+            name: self.args[0],
+            dtype: FlatType {
+                kinds: &self.kinds[1..],
+                args: &self.args[1..],
+            },
+        })
+    }
+
+    // The fields behind the first one.
+    pub fn behind(self, first: FlatField<'a>) -> FlatFields<'a>
+        requires { FirstAt self first }
+        ensures { Gives self.entry first.entry result }
+    {
+        let n = first.dtype.nodes();
+        FlatFields {
+            kinds: &first.dtype.kinds[n..],
+            args: &first.dtype.args[n..],
+            left: self.left - 1,
+        }
+    }
 
     // The first n fields.
     pub fn front(self, n: u64) -> FlatFields<'a>
@@ -152,27 +173,34 @@ impl<'a> FlatFields<'a> {
         self.front(self.left - rest.left - 1)
     }
 
+    // The fields from the first of the name on. The end of that field's type is not looked for.
+    pub fn from_first(self, name: u64) -> Option<FlatFields<'a>>
+        ensures { FoundFrom name (viewed_run self.entry) result }
+    {
+        let mut rest = self;
+        while let Some(field) = rest.first() {
+            if field.name == name {
+                return Some(rest);
+            }
+            rest = rest.behind(field);
+        }
+        None
+    }
+
     // The first field of the name.
     pub fn first_of(self, name: u64) -> Option<Found<'a>>
         ensures { FoundIn name (viewed_run self.entry) result }
     {
-        let mut rest = self;
-        while let Some(field) = rest.next() {
-            if field.name == name {
-                return Some(Found {
-                    dtype: field.dtype,
-                    rest,
-                });
-            }
-        }
-        None
+        let mut rest = self.from_first(name)?;
+        let dtype = rest.next()?.dtype;
+        Some(Found { dtype, rest })
     }
 
     // Whether a field has the name.
     pub fn has(self, name: u64) -> bool
         ensures { result ≡ seen (with_names (viewed_run self.entry) []) name }
     {
-        self.first_of(name).is_some()
+        self.from_first(name).is_some()
     }
 
     // The last type of the name: that of a field, else the held one.
@@ -192,10 +220,18 @@ impl<'a> FlatFields<'a> {
     pub fn in_place(self, other: FlatFields) -> bool
         ensures { result ≡ in_place (viewed_run self.entry) (viewed_run other.entry) }
     {
-        for (l, r) in self.zip(other) {
-            if l.name != r.name {
+        let mut l = self;
+        let mut r = other;
+        // by `first`: where two names differ, the ends of their types are not looked for
+        while let Some(a) = l.first() {
+            let Some(b) = r.first() else {
+                return true;
+            };
+            if a.name != b.name {
                 return false;
             }
+            l = l.behind(a);
+            r = r.behind(b);
         }
         true
     }

@@ -3,7 +3,7 @@ ghost use Rattle.std.specs.Prelude.{◌≡◌, [], ◌∷◌, ◌++◌, ◌<◌,
 ghost use Rattle.flat.specs.Kind.{Struct};
 ghost use Rattle.flat.specs.Tree.{size};
 ghost use Rattle.supertype_answer.specs.Join.{node};
-ghost use Rattle.supertype_place.specs.Written.{nodes_of, Fits, held_at, HeldAt};
+ghost use Rattle.supertype_place.specs.Written.{nodes_at, nodes_of, FitsIn, held_at, HeldAt};
 ghost use Rattle.supertype_place.specs.Viewed.{viewed};
 
 use crate::view::FlatType;
@@ -17,12 +17,15 @@ pub const ROOM: usize = 1024;
 
 // The kinds and the arguments of nodes.
 #[derive(Drop)]
-pub struct Nodes {
-    kinds: ArrayVec<u8, ROOM>,
-    args: ArrayVec<u64, ROOM>,
+pub struct NodesIn<const N: usize> {
+    kinds: ArrayVec<u8, N>,
+    args: ArrayVec<u64, N>,
 }
 
-impl Model for Nodes {
+// Nodes of a step on the way.
+pub type Nodes = NodesIn<ROOM>;
+
+impl<const N: usize> Model for NodesIn<N> {
     ghost use Rattle.std.specs.Prelude.{◌≡◌, List, length};
     ghost use Rattle.flat.specs.declared.Node.{Node};
 
@@ -35,11 +38,11 @@ impl Model for Nodes {
     ghost invariant = { λ n. length n.kinds.items ≡ length n.args.items };
 }
 
-impl Nodes {
-    pub fn new() -> Nodes
+impl<const N: usize> NodesIn<N> {
+    pub fn new() -> NodesIn<N>
         ensures { result ≡ [] }
     {
-        Nodes {
+        NodesIn {
             kinds: ArrayVec::new(),
             args: ArrayVec::new(),
         }
@@ -54,21 +57,30 @@ impl Nodes {
 
     // One node more.
     pub fn push(&mut self, node: Node)
-        requires { Fits 1 self.old }
+        requires { FitsIn N 1 self.old }
         ensures { self.new ≡ self.old ++ node ∷ [] }
     {
         self.kinds.push(node.kind);
         self.args.push(node.arg);
     }
 
+    // The nodes that two arrays of one length have, whether they are a type or not.
+    pub fn extend_from_slices(&mut self, kinds: &[u8], args: &[u64])
+        requires even { length kinds.now ≡ length args.now }
+        requires room { FitsIn N (length kinds.now) self.old }
+        ensures { self.new ≡ self.old ++ nodes_at kinds.now args.now }
+    {
+        self.kinds.try_extend_from_slice(kinds).unwrap();
+        self.args.try_extend_from_slice(args).unwrap();
+    }
+
     // The nodes of a type.
     pub fn extend(&mut self, dtype: FlatType)
-        requires { Fits (size (viewed dtype)) self.old }
+        requires { FitsIn N (size (viewed dtype)) self.old }
         ensures { self.new ≡ self.old ++ nodes_of (viewed dtype.entry) }
     {
         let n = dtype.nodes();
-        self.kinds.try_extend_from_slice(&dtype.kinds[..n]).unwrap();
-        self.args.try_extend_from_slice(&dtype.args[..n]).unwrap();
+        self.extend_from_slices(&dtype.kinds[..n], &dtype.args[..n]);
     }
 
     // The first n nodes alone.
@@ -79,19 +91,8 @@ impl Nodes {
         self.args.truncate(n);
     }
 
-    // The type that stands from the mark on.
-    pub fn held(&self, mark: usize) -> FlatType<'_>
-        requires { HeldAt mark self.now }
-        ensures { viewed result ≡ held_at mark self.now }
-    {
-        FlatType {
-            kinds: &self.kinds.as_slice()[mark..],
-            args: &self.args.as_slice()[mark..],
-        }
-    }
-
     // The nodes from the mark on, taken away.
-    pub fn split_off(&mut self, mark: usize) -> Nodes
+    pub fn split_off(&mut self, mark: usize) -> NodesIn<N>
         requires { mark ≤ length self.old }
         ensures rest { result ≡ drop mark self.old }
         ensures kept { self.new ≡ take mark self.old }
@@ -104,7 +105,7 @@ impl Nodes {
         args.try_extend_from_slice(&self.args.as_slice()[mark..])
             .unwrap();
         self.truncate(mark);
-        Nodes { kinds, args }
+        NodesIn { kinds, args }
     }
 
     // The number of fields of the Struct whose node stands at the mark.
@@ -114,5 +115,18 @@ impl Nodes {
     {
         self.kinds.as_mut_slice()[mark] = Kind::STRUCT;
         self.args.as_mut_slice()[mark] = names;
+    }
+}
+
+impl NodesIn<ROOM> {
+    // The type that stands from the mark on.
+    pub fn held(&self, mark: usize) -> FlatType<'_>
+        requires { HeldAt mark self.now }
+        ensures { viewed result ≡ held_at mark self.now }
+    {
+        FlatType {
+            kinds: &self.kinds.as_slice()[mark..],
+            args: &self.args.as_slice()[mark..],
+        }
     }
 }

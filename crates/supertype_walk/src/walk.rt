@@ -69,8 +69,7 @@ pub fn join(o: Options, i: Options, l: FlatType, r: FlatType, out: &mut Nodes) -
         }
         Step::First(side) => {
             let (one, other) = sided(side, l, r);
-            let mut fields = one.fields();
-            let first = fields.next()?;
+            let first = one.fields().first()?;
             join(i, i, first.dtype, other, out)
         }
         Step::Each(side) => {
@@ -121,8 +120,11 @@ fn each(i: Options, fields: FlatFields, other: FlatType, out: &mut Nodes) -> Opt
         Joins nodes_of (option_map struct answer) out.old out.new result }
 {
     out.push(struct_node(fields.left));
-    for field in fields {
+    let mut rest = fields;
+    // by `first`: where a join is None, the end of the field's type is not looked for
+    while let Some(field) = rest.first() {
         under(field_node(field.name), i, field.dtype, other, out)?;
+        rest = rest.behind(field);
     }
     Some(())
 }

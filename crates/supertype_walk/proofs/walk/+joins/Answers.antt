@@ -80,37 +80,33 @@ again-returns t c = feed_end c.loop-field.invariant.2 c.in-None.ensures.steps.no
 
 pub each-loop-field-init : goal.each-loop-field-init
 each-loop-field-init t c =
-    rw c.into_iter-field-iterator.ensures.into_iter_gives (
-      tt,
-      tt,
-      each_start _ _ _ c.args.out.now c.struct_node.result c.push.ensures c.requires.leaf c.requires.room,
-    )
+    each_start _ _ _ c.args.out.now c.struct_node.result c.push.ensures c.requires.leaf c.requires.room
 
 pub each-under-requires : goal.each-under-requires
 each-under-requires t c =
-    let v = c.loop-field.invariant.2 in
-    let g = c.in-Some.ensures.steps.fields in
+    let v = c.loop-field.invariant in
+    let g = c.in-Some.ensures.fields in
     (omega (arith, c.decreases, each_less v g), each_room v g)
 
 pub each-loop-field-preserved : goal.each-loop-field-preserved
-each-loop-field-preserved t c = (
-  tt,
-  tt,
-  each_next c.loop-field.invariant.2 c.in-Some.ensures.steps.fields
-      (rw c.field_node.ensures at c.in_ok-under.ensures),
-)
+each-loop-field-preserved t c =
+    each_next c.loop-field.invariant c.behind-rest.ensures.fields
+    (rw c.field_node.ensures at c.in_ok-under.ensures)
+
+pub each-loop-field-smaller : goal.each-loop-field-smaller
+each-loop-field-smaller t c = omega (arith, c.behind-rest.ensures.left)
 
 pub each-returns-in_err-under : goal.each-returns-in_err-under
 each-returns-in_err-under t c =
-    let v = c.loop-field.invariant.2 in
+    let v = c.loop-field.invariant in
     rw c.from_residual.ensures record {
-      none = ap (option_map struct) (each_nothing v c.in-Some.ensures.steps.fields c.in_err-under.ensures.none);
+      none = ap (option_map struct) (each_nothing v c.in-Some.ensures.fields c.in_err-under.ensures.none);
       kept = kept_on _ (c.struct_node.result ∷ []) _ c.push.ensures (going_kept v.going _ c.in_err-under.ensures.kept);
     }
 
 pub each-returns : goal.each-returns
 each-returns t c =
-    each_end c.loop-field.invariant.2 c.in-None.ensures.steps.none c.args.out.now c.struct_node.result c.push.ensures
+    each_end c.loop-field.invariant c.in_default.ensures.0 c.args.out.now c.struct_node.result c.push.ensures
     (c.struct_node.ensures ∙ ap (node kind.Struct) (sym (run_many (run_front c.args.fields.stand))))
 
 -- ---- `fields`
@@ -188,8 +184,8 @@ join-push-requires-then-is_none t c =
     w.kept) in
     omega (arith, c.requires, size_pos (viewed c.args.l), k)
 
-pub join-fields-fields-requires : goal.join-fields-fields-requires
-join-fields-fields-requires t c =
+pub join-fields-requires : goal.join-fields-requires
+join-fields-requires t c =
     let a = arm_of _ (options_of c.args.i) c.args.l c.args.r c.root.ensures c.root-2.ensures _ c.decide.ensures
     c.in_ok-n.was c.in-First.is in
     ap head_kind c.sided-in-First.ensures.one ∙ a.parts.0
@@ -198,17 +194,17 @@ pub join-returns-in_err-first-in-First : goal.join-returns-in_err-first-in-First
 join-returns-in_err-first-in-First t c =
     let a = arm_of _ (options_of c.args.i) c.args.l c.args.r c.root.ensures c.root-2.ensures _ c.decide.ensures
     c.in_ok-n.was c.in-First.is in
-    absurd (a.parts.1 (ap head_arg (sym c.sided-in-First.ensures.one) ∙ no_fields_arg _ c.fields-fields.ensures
-    c.in_err-first-in-First.ensures.steps.none))
+    absurd (a.parts.1 (ap head_arg (sym c.sided-in-First.ensures.one) ∙ no_fields_arg _ c.fields.ensures
+    c.in_err-first-in-First.ensures.0))
 
 pub join-join-requires : goal.join-join-requires
 join-join-requires t c =
     let s = side_sizes c.in-First.side _ _ c.sided-in-First.ensures.one c.sided-in-First.ensures.other in
-    let n = first_size c.fields-fields.ensures c.in_ok-first-in-First.ensures.steps.fields in
+    let n = first_size c.fields.ensures c.in_ok-first-in-First.ensures.fields in
     (omega (arith, c.decreases, s, n), omega (arith, c.requires, s, n))
 
-pub join-fields-requires : goal.join-fields-requires
-join-fields-requires t c =
+pub join-fields-requires-in-Each : goal.join-fields-requires-in-Each
+join-fields-requires-in-Each t c =
     let a = arm_of _ (options_of c.args.i) c.args.l c.args.r c.root.ensures c.root-2.ensures _ c.decide.ensures
     c.in_ok-n.was c.in-Each.is in
     ap head_kind c.sided-in-Each.ensures.one ∙ a.parts.0
@@ -218,7 +214,7 @@ join-each-requires t c =
     let a = arm_of _ (options_of c.args.i) c.args.l c.args.r c.root.ensures c.root-2.ensures _ c.decide.ensures
     c.in_ok-n.was c.in-Each.is in
     let s = side_sizes c.in-Each.side _ _ c.sided-in-Each.ensures.one c.sided-in-Each.ensures.other in
-    let n = struct_size c.fields.ensures in (
+    let n = struct_size c.fields-in-Each.ensures in (
       omega (arith, c.decreases, s, n),
       (ap size c.sided-in-Each.ensures.other ∙ a.parts.1, omega (arith, c.requires, s, n)),
     )
@@ -281,13 +277,13 @@ pub join-returns-in_ok-first-in-First : goal.join-returns-in_ok-first-in-First
 join-returns-in_ok-first-in-First t c =
     arm_first _ _ _ (arm_of _ (options_of c.args.i) c.args.l c.args.r c.root.ensures c.root-2.ensures _
     c.decide.ensures c.in_ok-n.was c.in-First.is) c.sided-in-First.ensures.one c.sided-in-First.ensures.other
-    (c.fields-fields.ensures ∙ ap struct c.in_ok-first-in-First.ensures.steps.fields) c.join.ensures
+    (c.fields.ensures ∙ ap struct c.in_ok-first-in-First.ensures.fields) c.join.ensures
 
 pub join-returns-in-Each : goal.join-returns-in-Each
 join-returns-in-Each t c =
     arm_each _ _ _ (arm_of _ (options_of c.args.i) c.args.l c.args.r c.root.ensures c.root-2.ensures _
     c.decide.ensures c.in_ok-n.was c.in-Each.is) c.sided-in-Each.ensures.one c.sided-in-Each.ensures.other
-    c.fields.ensures
+    c.fields-in-Each.ensures
     c.each.ensures
 
 pub join-returns-in-Fields : goal.join-returns-in-Fields

@@ -63,10 +63,10 @@ invariant-again-loop-field l =
 
 abbrev pub invariant-each-loop-field : goal.invariant-each-loop-field
 invariant-each-loop-field l =
-    (goal.iterator-each-loop-field).can_next l.field-iterator × (goal.iterator-each-loop-field).is_finite
-    l.field-iterator
-    × Eaching (options_of l.i) (viewed_run l.fn.fields) (viewed l.other) l.initial.out (viewed_run l.field-iterator)
-    l.out
+    Eaching (options_of l.i) (viewed_run l.fn.fields) (viewed l.other) l.initial.out (viewed_run l.rest) l.out
+
+abbrev pub decreases-each-loop-field : goal.decreases-each-loop-field
+decreases-each-loop-field l = l.rest.left
 
 abbrev pub invariant-new-loop-field : goal.invariant-new-loop-field
 invariant-new-loop-field l =

@@ -1,22 +1,16 @@
 -- `supertype_place::view::FlatFields::first_of` meets its contract. Assumes nothing.
-use mathlib.Core.Path.{ap, ◌∙◌}
-use Rattle.supertype_nested.specs.Union.{named}
-use Rattle.supertype_place.proofs.Finds.{named_yes, named_no}
+use mathlib.Core.Path.{subst}
+use Rattle.supertype_place.specs.Viewed.{Leads}
+use Rattle.supertype_place.proofs.Finds.{from_first}
 use Rattle.supertype_place.proofs.view.FlatFields.first_of.Goals as goal
 
-pub returns-then-field-name : goal.returns-then-field-name
-returns-then-field-name c =
-    c.loop-field.invariant.2 ∙ ap (named c.args.name) c.in-Some.ensures.steps.fields
-    ∙ named_yes _ _ _ _ c.if-field-name.true
+pub returns-in_err-rest : goal.returns-in_err-rest
+returns-in_err-rest c = rw c.from_residual.ensures c.in_err-rest.ensures
 
-pub loop-field-preserved : goal.loop-field-preserved
-loop-field-preserved c = (
-  tt,
-  tt,
-  c.loop-field.invariant.2 ∙ ap (named c.args.name) c.in-Some.ensures.steps.fields
-      ∙ named_no _ _ _ _ c.if-field-name.false,
-)
+pub returns-in_err-dtype : goal.returns-in_err-dtype
+returns-in_err-dtype c =
+    absurd (subst (Leads c.args.name) c.in_err-dtype.ensures.steps.none c.in_ok-rest.ensures.1)
 
 pub returns : goal.returns
-unfolding named
-returns c = c.loop-field.invariant.2 ∙ ap (named c.args.name) c.in_default.ensures.steps.none
+returns c =
+    from_first _ _ _ _ _ _ c.in_ok-rest.ensures.0 c.in_ok-rest.ensures.1 c.in_ok-dtype.ensures.steps.fields

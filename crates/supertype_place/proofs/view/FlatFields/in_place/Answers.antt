@@ -1,36 +1,31 @@
 -- `supertype_place::view::FlatFields::in_place` meets its contract. Assumes nothing.
-use mathlib.Core.Bool.{true}
-use mathlib.Core.Logic.{inl, inr}
-use mathlib.Core.Path.{◌≡◌, refl, sym, ap, ap₂, ◌∙◌}
+use mathlib.Core.Path.{sym, ap, ap₂, ◌∙◌}
+use native.Mathlib.Omega.{arith}
 use Rattle.flat.specs.Tree.{Fields}
 use Rattle.supertype_nested.specs.Step.{in_place}
 use Rattle.supertype_place.specs.Viewed.{viewed_run}
 use Rattle.supertype_place.proofs.Finds.{place_yes, place_no, place_end, place_over}
 use Rattle.supertype_place.proofs.view.FlatFields.in_place.Goals as goal
 
-pub loop-l-init : goal.loop-l-init
-loop-l-init c =
-    let z = c.zip-l-items.ensures in
-    ((tt, tt), tt, rw (c.into_iter-l-iterator.ensures.into_iter_gives, z.first, z.second) refl)
+pub returns-in_default-first : goal.returns-in_default-first
+returns-in_default-first c =
+    let l = viewed_run c.loop-a.l in
+    sym (c.loop-a.invariant ∙ ap (in_place l) c.in_default-first.ensures.0 ∙ place_over l)
 
-pub returns-then-l-r : goal.returns-then-l-r
-returns-then-l-r c =
-    let s = c.in-Some.ensures.steps in
-    sym (c.loop-l.invariant.2 ∙ ap₂ in_place s.0.fields s.1.fields ∙ place_no _ _ _ _ _ _ c.if-l-r.true)
+pub returns-then-a-b : goal.returns-then-a-b
+returns-then-a-b c =
+    sym (c.loop-a.invariant ∙ ap₂ in_place c.in-Some.ensures.fields c.in-Some-first.ensures.fields
+    ∙ place_no _ _ _ _ _ _ c.if-a-b.true)
 
-pub loop-l-preserved : goal.loop-l-preserved
-loop-l-preserved c =
-    let s = c.in-Some.ensures.steps in (
-      (tt, tt),
-      tt,
-      c.loop-l.invariant.2 ∙ ap₂ in_place s.0.fields s.1.fields ∙ place_yes _ _ _ _ _ _ c.if-l-r.false,
-    )
+pub loop-a-preserved : goal.loop-a-preserved
+loop-a-preserved c =
+    c.loop-a.invariant ∙ ap₂ in_place c.behind-l.ensures.fields c.behind-r.ensures.fields
+    ∙ place_yes _ _ _ _ _ _ c.if-a-b.false
+
+pub loop-a-smaller : goal.loop-a-smaller
+loop-a-smaller c = omega (arith, c.behind-l.ensures.left)
 
 pub returns : goal.returns
 returns c =
-    let a = viewed_run c.loop-l.l-iterator.a in
-    let b = viewed_run c.loop-l.l-iterator.b in
-    sym (c.loop-l.invariant.2 ∙ (elim c.in-None.ensures.steps as (λ _. in_place a b ≡ true) [
-      | inl e ↦ ap (λ (fs : Fields). in_place fs b) e.1.none ∙ place_end b
-      | inr e ↦ ap (in_place a) e.1.none ∙ place_over a
-    ]))
+    let r = viewed_run c.loop-a.r in
+    sym (c.loop-a.invariant ∙ ap (λ (fs : Fields). in_place fs r) c.in_default.ensures.0 ∙ place_end r)

@@ -1,4 +1,4 @@
--- `supertype_place::written::Nodes::close` meets its contract. Assumes nothing.
+-- `supertype_place::written::NodesIn::close` meets its contract. Assumes nothing.
 use mathlib.Core.Path.{refl, ap, ap₂, ◌∙◌}
 use native.Mathlib.Omega.{arith}
 use lib.ListN.{length, set, length-set}
@@ -6,10 +6,10 @@ use Rattle.flat.specs.Kind as kind
 use Rattle.supertype_answer.specs.Join.{node}
 use Rattle.supertype_place.specs.Written.{nodes_at}
 use Rattle.supertype_place.proofs.Writes.{nodes_length, nodes_set, refilled}
-use Rattle.supertype_place.proofs.written.Nodes.close.Goals as goal
+use Rattle.supertype_place.proofs.written.NodesIn.close.Goals as goal
 
 pub bounds-as_mut_slice-mark : goal.bounds-as_mut_slice-mark
-bounds-as_mut_slice-mark c =
+bounds-as_mut_slice-mark g c =
     omega (
       arith,
       nodes_length _ _ c.self.invariant,
@@ -19,7 +19,7 @@ bounds-as_mut_slice-mark c =
     )
 
 pub offset_bounds-as_mut_slice-mark : goal.offset_bounds-as_mut_slice-mark
-offset_bounds-as_mut_slice-mark c =
+offset_bounds-as_mut_slice-mark g c =
     omega (
       arith,
       nodes_length _ _ c.self.invariant,
@@ -31,7 +31,7 @@ offset_bounds-as_mut_slice-mark c =
     )
 
 pub bounds-as_mut_slice-mark-2 : goal.bounds-as_mut_slice-mark-2
-bounds-as_mut_slice-mark-2 c =
+bounds-as_mut_slice-mark-2 g c =
     omega (
       arith,
       nodes_length _ _ c.self.invariant,
@@ -42,7 +42,7 @@ bounds-as_mut_slice-mark-2 c =
     )
 
 pub returns : goal.returns
-returns c =
+returns g c =
     ap₂ nodes_at (refilled _ _ _ (length-set _ _ _ ∙ ap length c.as_mut_slice.ensures.value) refl ∙ ap (λ l. set l
     c.args.mark kind.Struct) c.as_mut_slice.ensures.value)
     (refilled _ _ _ (length-set _ _ _ ∙ ap length c.as_mut_slice-2.ensures.value) refl ∙ ap (λ l. set l c.args.mark

@@ -1,4 +1,4 @@
--- `supertype_place::written::Nodes::held` meets its contract. Assumes nothing.
+-- `supertype_place::written::NodesIn::held` meets its contract. Assumes nothing.
 use mathlib.Core.Path.{ap, ap₂, ◌∙◌}
 use native.Mathlib.Omega.{arith}
 use lib.ListN.{length}
@@ -6,7 +6,7 @@ use Rattle.flat.specs.Walk.{type_at}
 use Rattle.supertype_place.specs.View.{from}
 use Rattle.supertype_place.proofs.Views.{type_stood}
 use Rattle.supertype_place.proofs.Writes.{nodes_length, held_front, held_same}
-use Rattle.supertype_place.proofs.written.Nodes.held.Goals as goal
+use Rattle.supertype_place.proofs.written.NodesIn+ROOM.held.Goals as goal
 
 pub slice_bounds-result-count : goal.slice_bounds-result-count
 slice_bounds-result-count c = omega (

@@ -1,4 +1,4 @@
--- `supertype_place::written::Nodes::split_off` meets its contract. Assumes nothing.
+-- `supertype_place::written::NodesIn::split_off` meets its contract. Assumes nothing.
 use mathlib.Core.List.{◌++◌}
 use mathlib.Core.Path.{ap, ap₂, ◌∙◌}
 use native.Mathlib.Omega.{arith}
@@ -8,10 +8,10 @@ use Rattle.supertype_place.proofs.Writes.{nodes_drop, nodes_length}
 use Rattle.supertype_place.specs.View.{from}
 use Rattle.flat.proofs.Positions.{rest}
 use Rattle.flat.proofs.Walks.{length_from}
-use Rattle.supertype_place.proofs.written.Nodes.split_off.Goals as goal
+use Rattle.supertype_place.proofs.written.NodesIn.split_off.Goals as goal
 
 pub slice_bounds-try_extend_from_slice-count : goal.slice_bounds-try_extend_from_slice-count
-slice_bounds-try_extend_from_slice-count c = omega (
+slice_bounds-try_extend_from_slice-count g c = omega (
   arith,
   nodes_length _ _ c.self.invariant,
   ap length
@@ -21,7 +21,7 @@ slice_bounds-try_extend_from_slice-count c = omega (
 )
 
 pub slice_bounds-try_extend_from_slice-start : goal.slice_bounds-try_extend_from_slice-start
-slice_bounds-try_extend_from_slice-start c = omega (
+slice_bounds-try_extend_from_slice-start g c = omega (
   arith,
   nodes_length _ _ c.self.invariant,
   ap length
@@ -31,7 +31,7 @@ slice_bounds-try_extend_from_slice-start c = omega (
 )
 
 pub offset_bounds-as_slice-mark : goal.offset_bounds-as_slice-mark
-offset_bounds-as_slice-mark c = omega (
+offset_bounds-as_slice-mark g c = omega (
   arith,
   nodes_length _ _ c.self.invariant,
   ap length c.self.view_is,
@@ -42,7 +42,7 @@ offset_bounds-as_slice-mark c = omega (
 )
 
 pub slice_bounds-try_extend_from_slice-count-2 : goal.slice_bounds-try_extend_from_slice-count-2
-slice_bounds-try_extend_from_slice-count-2 c = omega (
+slice_bounds-try_extend_from_slice-count-2 g c = omega (
   arith,
   nodes_length _ _ c.self.invariant,
   ap length
@@ -53,7 +53,7 @@ slice_bounds-try_extend_from_slice-count-2 c = omega (
 )
 
 pub slice_bounds-try_extend_from_slice-start-2 : goal.slice_bounds-try_extend_from_slice-start-2
-slice_bounds-try_extend_from_slice-start-2 c = omega (
+slice_bounds-try_extend_from_slice-start-2 g c = omega (
   arith,
   nodes_length _ _ c.self.invariant,
   ap length
@@ -64,7 +64,7 @@ slice_bounds-try_extend_from_slice-start-2 c = omega (
 )
 
 pub unwrap-requires : goal.unwrap-requires
-unwrap-requires c =
+unwrap-requires g c =
     c.try_extend_from_slice.ensures.variant.1
     (omega (
       arith,
@@ -74,7 +74,7 @@ unwrap-requires c =
     ))
 
 pub unwrap-requires-2 : goal.unwrap-requires-2
-unwrap-requires-2 c =
+unwrap-requires-2 g c =
     c.try_extend_from_slice-2.ensures.variant.1
     (omega (
       arith,
@@ -84,7 +84,7 @@ unwrap-requires-2 c =
     ))
 
 pub returns-clause-rest : goal.returns-clause-rest
-returns-clause-rest c =
+returns-clause-rest g c =
     let k = rw c.unwrap.ensures at c.try_extend_from_slice.ensures.ok in
     let a = rw c.unwrap-2.ensures at c.try_extend_from_slice-2.ensures.ok in
     ap₂ nodes_at
