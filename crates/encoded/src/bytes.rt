@@ -20,8 +20,8 @@ pub fn word(s: &[u8], at: usize) -> u64
     u64::from_le_bytes(*s[at..].first_chunk().unwrap())
 }
 
-// Copies bytes over as many others. By the index: `copy_from_slice` of so many as only the run tells would need `memmove`
-// of a C caller, and this loop needs no more than `memcpy`.
+// Copies bytes over as many others. By the index: `copy_from_slice` of so many as only the run tells would need
+// `memmove` of a C caller, and this loop needs no more than `memcpy`.
 pub fn copy(src: &[u8], dst: &mut [u8])
     requires { length src.now ≡ length dst.old }
     ensures { dst.new ≡ src.now }

@@ -122,7 +122,8 @@ impl<'a> Line<'a> {
     // The number of a type's kinds, the kinds, the number of its arguments, the arguments.
     #[tactic(auto, unfolding(crate::specs::Answer::type_record))]
     pub fn read_type(&mut self) -> Result<TypeRead<'a>, Fault>
-        ensures stands { IfOk result (λ t. self.old.rest.now ≡ type_record t.kinds.items t.args.now ++ self.new.rest.now) }
+        ensures stands { let rest = self.new.rest.now in
+            IfOk result (λ t. self.old.rest.now ≡ type_record t.kinds.items t.args.now ++ rest) }
         ensures few { IfOk result (λ t. vec_len t.kinds ≤ NODES) }
     {
         let numbers = self.counted()?;
