@@ -1,5 +1,5 @@
 // The nodes that a join writes, one after the other.
-ghost use Rattle.std.specs.Prelude.{◌≡◌, [], ◌∷◌, ◌++◌, ◌<◌, ◌≤◌, length, take, drop, slice_set};
+ghost use Rattle.std.specs.Prelude.{◌≡◌, [], ◌∷◌, ◌++◌, ◌<◌, ◌≤◌, length, map, take, drop, slice_set};
 ghost use Rattle.flat.specs.Kind.{Struct};
 ghost use Rattle.flat.specs.Tree.{size};
 ghost use Rattle.supertype_answer.specs.Join.{node};
@@ -53,6 +53,20 @@ impl<const N: usize> NodesIn<N> {
         ensures { result ≡ length self.now }
     {
         self.kinds.len()
+    }
+
+    // Their kinds.
+    pub fn kinds(&self) -> &[u8]
+        ensures { result.now ≡ map (λ n. n.kind) self.now }
+    {
+        self.kinds.as_slice()
+    }
+
+    // Their arguments.
+    pub fn args(&self) -> &[u64]
+        ensures { result.now ≡ map (λ n. n.arg) self.now }
+    {
+        self.args.as_slice()
     }
 
     // One node more.
